@@ -1,0 +1,6 @@
+//! Packets as fourteen numbers: the fields of a packet, their widths, and which fields a packet has.
+#![tactic(auto)]
+
+mod field;
+
+pub use field::Field;
