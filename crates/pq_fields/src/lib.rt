@@ -2,5 +2,7 @@
 #![tactic(auto)]
 
 mod field;
+mod packet;
 
 pub use field::Field;
+pub use packet::Packet;

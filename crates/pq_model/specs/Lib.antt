@@ -1,0 +1,10 @@
+pub mod Buckets
+pub mod Events
+pub mod MatchFields
+pub mod Meaning
+pub mod Mods
+pub mod Sorting
+pub mod SwitchMachine
+pub mod Tagged
+pub mod Topology
+pub mod Word

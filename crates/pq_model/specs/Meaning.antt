@@ -1,0 +1,109 @@
+-- The meaning machine: where packets go and what queries see, said of a document's meaning alone, without tables or tags.
+use Rattle.std.specs.Prelude.{ℕ, Bool, List, [], ◌∷◌, ◌++◌, map, slice_get, is_none, ◌&&◌, if◌then◌else◌}
+use Rattle.std.specs.declared.option.Option.{Option}
+use Rattle.std.specs.declared.option.Option.TheVariants.{None, Some}
+use Rattle.std.specs.List.{filter, flat_map, filter_map, remove}
+use Rattle.pq_fields.specs.Packet.{Numbers, numbers}
+use Rattle.pq_model.specs.Tagged.{TaggedPacket}
+use Rattle.pq_model.specs.declared.event.Event.{Event}
+use Rattle.pq_model.specs.declared.event.Event.TheVariants.{Inject, Hop, Lose}
+use Rattle.pq_model.specs.Topology.{Topology, peer, is_edge}
+use Rattle.pq_model.specs.Word.{Observation, In, Out, Word}
+use Rattle.pq_model.specs.Sorting.{sort_by}
+use Rattle.pq_model.specs.Buckets.{Instance, BucketEntry}
+
+-- what a document means: its topology, the departures of each packet, its instances in order, and which words each instance accepts
+pub record Meaning : Type 0 where
+  pub topology : Topology
+  pub departs : Numbers → List Numbers
+  pub instances : List Instance
+  pub accepts : Instance → Word → Bool
+
+-- a packet in flight with the word of its path so far; or a stranger, which was injected with a VLAN header
+pub data Item : Type 0 where
+  Traced : (word : Word) → (packet : Numbers) → Item
+  Stranger : (packet : Numbers) → Item
+
+pub record MeaningState : Type 0 where
+  pub flight : List Item
+  pub delivered : List Numbers
+  pub buckets : List BucketEntry
+
+-- no packet anywhere
+abbrev pub at_rest : MeaningState
+at_rest = record { flight = []; delivered = []; buckets = [] }
+
+abbrev pub item_packet : Item → Numbers
+item_packet (Traced w x) = x
+item_packet (Stranger x) = x
+
+-- a packet that stands at another end
+abbrev pub moved_to : Numbers → ℕ × ℕ → Numbers
+moved_to y e = record y { switch = e.0; port = e.1 }
+
+-- a departure with its word, at the other end of the link at its port; none where the port has no link
+abbrev pub arrival : Word → Numbers → Option (ℕ × ℕ) → List Item
+arrival word y None = []
+arrival word y (Some e) = Traced word (moved_to y e) ∷ []
+
+-- the departures at linked ports, in order
+abbrev pub arrivals : Topology → Word → List Numbers → List Item
+arrivals t entered ys = flat_map (λ y. arrival (entered ++ Out y ∷ []) y (peer t y.switch y.port)) ys
+
+-- the departures at all other ports, in order
+abbrev pub deliveries : Topology → List Numbers → List Numbers
+deliveries t ys = filter (λ y. is_none (peer t y.switch y.port)) ys
+
+-- the word up to an observation, and the packet that a bucket entry for it names
+pub record Sighting : Type 0 where
+  pub word : Word
+  pub packet : Numbers
+
+-- the observations of departures, or the one of a drop: an Out at port 0
+abbrev pub leavings : Word → Numbers → List Numbers → List Sighting
+leavings entered x [] = record { word = entered ++ Out (record x { port = 0 }) ∷ []; packet = x } ∷ []
+leavings entered x (y ∷ ys) = map (λ z. record { word = entered ++ Out z ∷ []; packet = record z { port = x.port } }) (y ∷ ys)
+
+-- all observations of one hop of the packet x whose word with this arrival is `entered`
+abbrev pub sightings : Word → Numbers → List Numbers → List Sighting
+sightings entered x ys = record { word = entered; packet = x } ∷ leavings entered x ys
+
+-- the packets of the observations whose word is accepted
+abbrev pub accepted_packets : (Word → Bool) → List Sighting → List Numbers
+accepted_packets accepts [] = []
+accepted_packets accepts (s ∷ ss) = if accepts s.word then s.packet ∷ accepted_packets accepts ss else accepted_packets accepts ss
+
+-- an instance's entries of one hop, by packet
+abbrev pub entries_of : Meaning → List Sighting → Instance → List BucketEntry
+entries_of m seen i = map (λ x. record { pair = i; packet = x }) (sort_by numbers (accepted_packets (m.accepts i) seen))
+
+-- what one hop of a traced packet adds to the flight, to the deliveries and to the buckets
+abbrev pub captures : Meaning → Word → Numbers → List BucketEntry
+captures m entered x = flat_map (entries_of m (sightings entered x (m.departs x))) m.instances
+
+abbrev pub hops : Meaning → MeaningState → ℕ → Option Item → MeaningState
+hops m s k None = s
+hops m s k (Some (Stranger x)) = record s { flight = remove s.flight k }
+hops m s k (Some (Traced w x)) = let entered = w ++ In x ∷ [] in record {
+    flight = remove s.flight k ++ arrivals m.topology entered (m.departs x);
+    delivered = s.delivered ++ deliveries m.topology (m.departs x);
+    buckets = s.buckets ++ captures m entered x
+  }
+
+abbrev pub entered_as : TaggedPacket → Option ℕ → Item
+entered_as x None = Traced [] x.packet
+entered_as x (Some t) = Stranger x.packet
+
+abbrev pub injects : Meaning → MeaningState → TaggedPacket → MeaningState
+injects m s x = if is_edge m.topology x.packet.switch x.packet.port then record s { flight = s.flight ++ entered_as x x.vlan ∷ [] } else s
+
+-- one event; one that names no edge port or no place changes nothing
+abbrev pub happens : Meaning → MeaningState → Event → MeaningState
+happens m s (Inject x) = injects m s x
+happens m s (Hop k) = hops m s k (slice_get s.flight k)
+happens m s (Lose k) = record s { flight = remove s.flight k }
+
+-- the state after a schedule
+abbrev pub run : Meaning → MeaningState → List Event → MeaningState
+run m s [] = s
+run m s (e ∷ es) = run m (happens m s e) es

@@ -1,0 +1,20 @@
+//! What everything above speaks of: OpenFlow messages and how they are spelled, how a switch and a network of
+//! switches act on them, and what a document means. The definitions stand in `specs/`; the laws over them are
+//! the contracts of the functions here.
+#![tactic(auto)]
+
+mod action;
+mod event;
+mod flow_mod;
+mod group_mod;
+mod matching;
+mod message;
+mod tagged;
+
+pub use action::Action;
+pub use event::Event;
+pub use flow_mod::{FlowCommand, FlowMod};
+pub use group_mod::{GroupCommand, GroupMod};
+pub use matching::Match;
+pub use message::Message;
+pub use tagged::{Sent, Tagged};
