@@ -1,0 +1,48 @@
+-- The token that comes next in a text.
+use Rattle.std.specs.Prelude.{◌≡◌, ℕ, ◌+◌, ◌-◌, ◌<◌, ◌≤◌, Bool, true, false, not, cond, ◌&&◌, List, [], ◌∷◌, length, take, drop, ◌==◌, Option, Some, None, take_while}
+use Rattle.pq_term.specs.declared.token.Kind.{Kind}
+use Rattle.pq_term.specs.declared.token.Kind.TheVariants.{Symbol}
+use Rattle.pq_term.specs.declared.token.Token.{Token}
+use Rattle.pq_term.specs.declared.token.Next.{Next}
+use Rattle.pq_term.specs.declared.token.Next.TheVariants.{Token as Found, End, NoToken}
+use Rattle.pq_term.specs.Bytes.{is_blank, is_run_byte, is_symbol}
+use Rattle.pq_term.specs.Forms.{form_of}
+
+-- what follows white space and comments; the flag tells that the text begins inside a comment
+abbrev pub after_blanks : Bool → List ℕ → List ℕ
+after_blanks inside [] = []
+after_blanks false (b ∷ bs) = cond (is_blank b) (after_blanks false bs) (cond (b == 35) (after_blanks true bs) (b ∷ bs))
+after_blanks true (b ∷ bs) = after_blanks (not (b == 10)) bs
+
+-- a token of this kind at the place, or none that begins there
+abbrev pub token_or_none : ℕ → ℕ → Option Kind → Next
+token_or_none place len None = NoToken place
+token_or_none place len (Some kind) = Found (record { kind = kind; at = place; len = len })
+
+-- a run that begins at the place
+abbrev pub run_token : ℕ → List ℕ → Next
+run_token place run = token_or_none place (length run) (form_of run)
+
+-- the text begins with this byte
+abbrev pub begins_with : ℕ → List ℕ → Bool
+begins_with b [] = false
+begins_with b (c ∷ cs) = c == b
+
+-- the token that a text begins with, which stands at the place: a run as long as can be, a symbol of one byte, or `>>`
+abbrev pub first_token : ℕ → List ℕ → Next
+first_token place [] = End
+first_token place (b ∷ bs) = cond (is_run_byte b) (run_token place (take_while is_run_byte (b ∷ bs))) (cond (is_symbol b) (token_or_none place 1 (Some Symbol)) (cond (b == 62 && begins_with 62 bs) (token_or_none place 2 (Some Symbol)) (NoToken place)))
+
+-- what comes next in the text from the place on
+abbrev pub next_of : List ℕ → ℕ → Next
+next_of bytes at = let rest = after_blanks false (drop at bytes) in first_token (length bytes - length rest) rest
+
+-- a token begins at or after the place, has a byte, and ends within the text; what is no token begins at a byte of the text
+abbrev pub IsWithin : List ℕ → ℕ → Next → Type 0
+IsWithin bytes at (Found t) = (at ≤ t.at) × (1 ≤ t.len) × (t.at + t.len ≤ length bytes)
+IsWithin bytes at End = Unit {0}
+IsWithin bytes at (NoToken place) = (at ≤ place) × (place < length bytes)
+
+-- the bytes of a token
+abbrev pub text_of : List ℕ → Token → List ℕ
+text_of bytes t = take t.len (drop t.at bytes)

@@ -1,0 +1,48 @@
+//! A text as its tokens.
+ghost use Rattle.std.specs.Prelude.{◌≡◌, ℕ, List, MatchResult};
+ghost use Rattle.pq_term.specs.Division.{IsDivision, IsDividedUpTo, IsLast, IsTokenFault};
+
+use crate::scan::token_at;
+use crate::token::{Next, Token};
+use std::alloc::Global;
+use thiserror::Error;
+
+/// Why a text is refused.
+#[derive(Debug, Drop, Error)]
+pub enum TermFault {
+    /// At this byte something begins that is no token.
+    #[error("no token begins at byte {at}")]
+    Lex { at: usize },
+    /// The tokens are no sentence.
+    #[error("the tokens are no sentence at byte {at}")]
+    Syntax { at: usize },
+    /// There is not enough memory.
+    #[error("out of memory")]
+    Memory,
+}
+
+/// The tokens of the whole text, in order. `Lex` comes exactly where the division into tokens meets something that
+/// is no token, with its first byte; `Syntax` never.
+pub fn token_list(alloc: Global, bytes: &[u8]) -> Result<Vec<Token>, TermFault>
+    ensures { MatchResult result (λ tokens. IsDivision bytes.now tokens.items) (IsTokenFault bytes.now) }
+{
+    let mut tokens = Vec::new(alloc);
+    let mut at = 0;
+    while let Next::Token(token) = token_at(bytes, at) {
+        match tokens.push(token) {
+            Ok(()) => {}
+            Err(_) => return Err(TermFault::Memory),
+        }
+        at = token.at + token.len;
+    }
+    match token_at(bytes, at) {
+        Next::NoToken(place) => Err(TermFault::Lex { at: place }),
+        _ => Ok(tokens),
+    }
+}
+
+/// A text has one division: from any place on, two lists of tokens that each stand one after another up to where
+/// nothing more can be divided off are the same list, with the same end.
+pub fn has_one_division()
+    ensures { (bytes : List ℕ) (at : ℕ) (xs ys : List Token) (x y : Next) → IsLast x → IsLast y → IsDividedUpTo bytes at xs x → IsDividedUpTo bytes at ys y → (xs ≡ ys) × (x ≡ y) }
+{}
