@@ -1,10 +1,16 @@
 pub mod Buckets
 pub mod Events
+pub mod Headline
+pub mod Install
+pub mod Lawful
 pub mod MatchFields
 pub mod Meaning
 pub mod Mods
+pub mod Orders
 pub mod Sorting
+pub mod Spelling
 pub mod SwitchMachine
+pub mod TablesMachine
 pub mod Tagged
 pub mod Topology
 pub mod Word
