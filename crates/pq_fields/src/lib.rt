@@ -2,5 +2,11 @@
 #![tactic(auto)]
 
 mod field;
+mod packet;
+mod presence;
+mod widths;
 
 pub use field::Field;
+pub use packet::Packet;
+pub use presence::has;
+pub use widths::width;
