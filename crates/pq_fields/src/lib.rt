@@ -9,6 +9,9 @@ mod widths;
 
 pub use field::Field;
 pub use order::packets_are_ordered_by_numbers;
-pub use packet::{Packet, fits, precedes};
+pub use packet::{Packet, fits};
 pub use presence::has;
 pub use widths::width;
+
+#[cfg(test)]
+mod tests;

@@ -1,14 +1,12 @@
 ghost use Rattle.std.specs.Prelude.{◌≡◌, ◌<◌, ◌^◌, false, true};
 ghost use Rattle.pq_fields.specs.Packet.{
-    Fit,
-    bit_in,
-    is_before,
-    is_wide,
-    number_in,
-    numbers,
-    width_of,
-    with_number,
-    zero_packet,
+  Fit,
+  bit_in,
+  is_wide,
+  number_in,
+  width_of,
+  with_number,
+  zero_packet,
 };
 
 use crate::field::Field;
@@ -41,62 +39,13 @@ impl Model for Packet {
 
     ghost Value = { Numbers };
 
-    ghost view = {
-        λ p. record {
-            switch = p.switch;
-            port = p.port;
-            eth_type = p.eth_type;
-            ip_proto = p.ip_proto;
-            eth_src = p.eth_src;
-            eth_dst = p.eth_dst;
-            ipv4_src = p.ipv4_src;
-            ipv4_dst = p.ipv4_dst;
-            tcp_src = p.tcp_src;
-            tcp_dst = p.tcp_dst;
-            udp_src = p.udp_src;
-            udp_dst = p.udp_dst;
-            ipv6_src = p.ipv6_src;
-            ipv6_dst = p.ipv6_dst
-        }
-    };
+    ghost use Rattle.pq_fields.specs.Stored.{stored, stored_numbers};
 
-    ghost invariant = {
-        λ p. Fit record {
-            switch = p.switch;
-            port = p.port;
-            eth_type = p.eth_type;
-            ip_proto = p.ip_proto;
-            eth_src = p.eth_src;
-            eth_dst = p.eth_dst;
-            ipv4_src = p.ipv4_src;
-            ipv4_dst = p.ipv4_dst;
-            tcp_src = p.tcp_src;
-            tcp_dst = p.tcp_dst;
-            udp_src = p.udp_src;
-            udp_dst = p.udp_dst;
-            ipv6_src = p.ipv6_src;
-            ipv6_dst = p.ipv6_dst
-        }
-    };
+    ghost view = { stored_numbers };
 
-    ghost inverse = {
-        λ x. record {
-            switch = x.switch;
-            port = x.port;
-            eth_type = x.eth_type;
-            ip_proto = x.ip_proto;
-            eth_src = x.eth_src;
-            eth_dst = x.eth_dst;
-            ipv4_src = x.ipv4_src;
-            ipv4_dst = x.ipv4_dst;
-            tcp_src = x.tcp_src;
-            tcp_dst = x.tcp_dst;
-            udp_src = x.udp_src;
-            udp_dst = x.udp_dst;
-            ipv6_src = x.ipv6_src;
-            ipv6_dst = x.ipv6_dst
-        }
-    };
+    ghost invariant = { λ p. Fit (stored_numbers p) };
+
+    ghost inverse = { stored };
 }
 
 impl Packet {
@@ -201,17 +150,8 @@ impl Packet {
     }
 }
 
-/// A packet's numbers fit the widths of their fields: what a caller of this knows of a packet
-/// behind a reference too.
+/// Each number of a packet fits the width of its field. It does nothing when it runs: a caller that
+/// holds a packet behind a reference calls `fits(*x)` to know this of it.
 pub fn fits(x: Packet)
     ensures { Fit x }
-{
-    let _number = x.switch;
-}
-
-/// Whether a packet stands before another: the first number in field order that differs decides.
-pub fn precedes(x: &Packet, y: &Packet) -> bool
-    ensures { result ≡ is_before (numbers x.now) (numbers y.now) }
-{
-    x < y
-}
+{}
