@@ -2,7 +2,16 @@
 #![tactic(auto)]
 
 mod field;
+mod order;
 mod packet;
+mod presence;
+mod widths;
 
 pub use field::Field;
-pub use packet::Packet;
+pub use order::packets_are_ordered_by_numbers;
+pub use packet::{Packet, fits};
+pub use presence::has;
+pub use widths::width;
+
+#[cfg(test)]
+mod tests;
