@@ -12,6 +12,8 @@ mod sink;
 mod source;
 mod stream_sink;
 mod stream_source;
+#[cfg(test)]
+mod tests;
 
 pub use faults::Failed;
 pub use memory_sink::MemorySink;
