@@ -2,8 +2,8 @@
 use Rattle.std.specs.Prelude.{ℕ, ◌-◌, ◌<◌, ◌⊎◌, min, List, ◌++◌, length, take, Contains}
 use Rattle.pq_io.specs.Faults.{next_count}
 
--- the bytes that were put, how many fit in all, how many a failing write adds, the numbers of the calls that fail,
--- and how many calls and faults there were
+-- the bytes that were put, how many fit in all, how many a failing write adds at most,
+-- the numbers of the calls that fail, and the counts of calls and faults
 pub record SinkState : Type 0 where
   pub put : List ℕ
   pub room : ℕ
@@ -24,6 +24,10 @@ MustFail s piece = Contains s.failing (next_count s.calls) ⊎ (room_left s < le
 abbrev pub after_write : SinkState → List ℕ → SinkState
 after_write s piece = record s { put = s.put ++ piece; calls = next_count s.calls }
 
--- the sink after a write that failed: the first `kept` bytes of the piece were put, as far as it has them and they fit
+-- the sink after a write that failed, and put what it keeps of the piece as far as that fits
 abbrev pub after_failed_write : SinkState → List ℕ → SinkState
-after_failed_write s piece = record s { put = s.put ++ take (min s.kept (room_left s)) piece; calls = next_count s.calls; faults = next_count s.faults }
+after_failed_write s piece = record s {
+  put = s.put ++ take (min s.kept (room_left s)) piece;
+  calls = next_count s.calls;
+  faults = next_count s.faults;
+}

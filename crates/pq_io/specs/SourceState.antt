@@ -2,7 +2,7 @@
 use Rattle.std.specs.Prelude.{ℕ, List, drop}
 use Rattle.pq_io.specs.Faults.{next_count}
 
--- the bytes that are left, the numbers of the calls that fail, and how many calls and faults there were
+-- the bytes that are left, the numbers of the calls that fail, and the counts of calls and faults
 pub record SourceState : Type 0 where
   pub left : List ℕ
   pub failing : List ℕ

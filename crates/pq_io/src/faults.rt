@@ -2,7 +2,8 @@
 ghost use Rattle.std.specs.Prelude.{◌≡◌};
 ghost use Rattle.pq_io.specs.Faults.{next_count};
 
-/// A read or a write that did not succeed. The source's or the sink's count of faults tells of it.
+/// Why a read or a write was refused: the source or the sink had a fault. It raised its count of
+/// faults, or left it at the largest `u64`.
 #[derive(Clone, Copy, Debug, PartialEq, Eq)]
 pub struct Failed;
 

@@ -1,8 +1,9 @@
-//! Where the bytes of a program come from and where they go.
+//! Where a program's bytes come from and where they go.
 //!
-//! A `Source` gives bytes and a `Sink` takes them. Either may fail at any call, and then raises its count of faults.
-//! `MemorySource` and `MemorySink` tell their bytes to contracts, and fail at the calls that their maker chose.
-//! `StreamSource` and `StreamSink` stand over a reader and a writer of std.
+//! A `Source` gives bytes and a `Sink` takes them. Either may fail at any call, and then raises its
+//! count of faults. `MemorySource` and `MemorySink` tell contracts their bytes, and fail at the
+//! calls that their maker chose. `StreamSource` and `StreamSink` stand over a reader and a writer of
+//! std.
 #![tactic(auto)]
 
 mod faults;

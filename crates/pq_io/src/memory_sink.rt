@@ -11,8 +11,8 @@ use std::marker::Model;
 
 /// A sink of bytes in memory, with a fixed room, which fails at the calls that its maker chose.
 ///
-/// Contracts see its bytes, its room, what a failing write adds, the numbers of the calls that fail, and how many calls
-/// and faults there were, each count up to the largest `u64`.
+/// Contracts see the bytes that were put, the room, what a failing write keeps, the numbers of the
+/// calls that fail, and how many calls and faults there were, each count up to the largest `u64`.
 #[derive(Debug, Drop)]
 pub struct MemorySink {
     bytes: Vec<u8>,
@@ -39,10 +39,12 @@ impl Model for MemorySink {
 }
 
 impl MemorySink {
-    /// An empty sink for `room` bytes. They are allocated here, and no write allocates.
+    /// An empty sink for `room` bytes. They are allocated here, and no write allocates: where there
+    /// is no memory for them, the answer is `AllocError`.
     ///
-    /// The writes whose numbers, counted from 1, stand in `failing` fail, as does one whose piece is longer than what is
-    /// left of the room. A failing write adds the first `kept` bytes of its piece, as far as it has them and they fit.
+    /// The writes whose numbers, counted from 1, stand in `failing` fail, as does one whose piece is
+    /// longer than what is left of the room. A failing write adds the first `kept` bytes of its
+    /// piece, or as many as the piece has or the room holds where that is fewer.
     pub fn new(
         alloc: Global,
         failing: Vec<u64>,
@@ -92,9 +94,11 @@ impl Sink for MemorySink {
 
     fn write(&mut self, piece: &[u8]) -> Result<(), Failed>
         ensures whole { OnOk result (Appends (Some self.old.put) (Some self.new.put) piece.now) }
-        ensures part { OnErr result (AppendsPart (Some self.old.put) (Some self.new.put) piece.now) }
+        ensures part { OnErr result
+            (AppendsPart (Some self.old.put) (Some self.new.put) piece.now) }
         ensures cause { HasCause self.old.faults self.new.faults result }
 
+        // Exactly which writes fail, and what each leaves.
         ensures fails { IsErr result ↔ MustFail self.old piece.now }
         ensures ok { OnOk result (self.new ≡ after_write self.old piece.now) }
         ensures err { OnErr result (self.new ≡ after_failed_write self.old piece.now) }

@@ -10,8 +10,8 @@ use std::marker::Model;
 
 /// A source of bytes in memory, which fails at the calls that its maker chose.
 ///
-/// Contracts see its bytes, the numbers of the calls that fail, and how many calls and faults there were, each count
-/// up to the largest `u64`.
+/// Contracts see the bytes that are left, the numbers of the calls that fail, and how many calls and
+/// faults there were, each count up to the largest `u64`.
 #[derive(Debug, Drop)]
 pub struct MemorySource {
     bytes: Vec<u8>,
@@ -35,9 +35,15 @@ impl Model for MemorySource {
 }
 
 impl MemorySource {
-    /// A source that gives these bytes. The calls whose numbers, counted from 1, stand in `failing` fail, and no other.
+    /// A source that gives these bytes. The calls whose numbers, counted from 1, stand in `failing`
+    /// fail, and no other.
     pub fn new(bytes: Vec<u8>, failing: Vec<u64>) -> MemorySource
-        ensures { result ≡ record { left = bytes.items; failing = failing.items; calls = 0; faults = 0 } }
+        ensures { result ≡ record {
+          left = bytes.items;
+          failing = failing.items;
+          calls = 0;
+          faults = 0;
+        } }
     {
         MemorySource {
             bytes,
@@ -60,6 +66,7 @@ impl Source for MemorySource {
         ensures bytes { ReadConsumes (Some self.old.left) (Some self.new.left) result into.new }
         ensures cause { HasCause self.old.faults self.new.faults result }
 
+        // Exactly which reads fail, and what each leaves.
         ensures fails { IsErr result ↔ Contains self.old.failing (next_count self.old.calls) }
         ensures count { IfOk result (λ n. n ≡ min (length self.old.left) (length into.old)) }
         ensures copied { IfOk result (λ n. into.new ≡ take n self.old.left ++ drop n into.old) }

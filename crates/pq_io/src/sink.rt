@@ -13,7 +13,10 @@ pub trait Sink {
     // How many writes failed. The count stays at the largest `u64` once it is there.
     ghost faults: { Self → ℕ };
 
-    /// Adds the whole piece. `Failed` comes only with a fault, and then a prefix of the piece was added.
+    /// Adds the whole piece.
+    ///
+    /// `Failed` comes only with a fault, and then a prefix of the piece was added.
+
     fn write(&mut self, piece: &[u8]) -> Result<(), Failed>
         ensures whole { OnOk result (Appends (put self.old) (put self.new) piece.now) }
         ensures part { OnErr result (AppendsPart (put self.old) (put self.new) piece.now) }

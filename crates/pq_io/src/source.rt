@@ -13,8 +13,11 @@ pub trait Source {
     // How many reads failed. The count stays at the largest `u64` once it is there.
     ghost faults: { Self → ℕ };
 
-    /// Reads the next bytes into the front of `into`, and returns how many. At 0, for a slice that is not empty, the
-    /// input has ended. `Failed` comes only with a fault, and takes no byte.
+    /// Reads the next bytes into the front of `into`, and returns how many. At 0, for a slice that
+    /// is not empty, the input has ended.
+    ///
+    /// `Failed` comes only with a fault, and takes no byte.
+
     fn read(&mut self, into: &mut [u8]) -> Result<usize, Failed>
         ensures bound { ReadsAtMost result into.new }
         ensures bytes { ReadConsumes (left self.old) (left self.new) result into.new }

@@ -9,8 +9,8 @@ use crate::sink::Sink;
 use std::io::Write;
 use std::marker::Model;
 
-/// A sink over a writer of std, which is flushed after each piece. Each error of the writer is a fault, an interrupted
-/// write too, and so is a write that takes no byte of what is left of a piece.
+/// A sink over a writer of std, which is flushed after each piece. Each error of the writer is a
+/// fault, an interrupted write too, and so is a write that takes no byte of what is left of a piece.
 #[derive(Debug, Drop)]
 pub struct StreamSink<W> {
     inner: W,
@@ -42,8 +42,11 @@ impl<W: Write> Sink for StreamSink<W> {
         ensures part { OnErr result (AppendsPart None None piece.now) }
         ensures cause { HasCause self.old.faults self.new.faults result }
 
-        ensures inner_whole { OnOk result (Appends (W.contents self.old.inner) (W.contents self.new.inner) piece.now) }
-        ensures inner_part { OnErr result (AppendsPart (W.contents self.old.inner) (W.contents self.new.inner) piece.now) }
+        // The writer's own bytes, where it tells them.
+        ensures inner_whole { OnOk result
+            (Appends (W.contents self.old.inner) (W.contents self.new.inner) piece.now) }
+        ensures inner_part { OnErr result
+            (AppendsPart (W.contents self.old.inner) (W.contents self.new.inner) piece.now) }
         ensures counted { OnErr result (self.new.faults ≡ next_count self.old.faults) }
     {
         let put = put_whole(&mut self.inner, piece);
@@ -57,7 +60,8 @@ impl<W: Write> Sink for StreamSink<W> {
 // Writes the whole piece, and flushes.
 fn put_whole<W: Write>(inner: &mut W, piece: &[u8]) -> Result<(), Failed>
     ensures ok { OnOk result (Appends (W.contents inner.old) (W.contents inner.new) piece.now) }
-    ensures err { OnErr result (AppendsPart (W.contents inner.old) (W.contents inner.new) piece.now) }
+    ensures err { OnErr result
+        (AppendsPart (W.contents inner.old) (W.contents inner.new) piece.now) }
 {
     let mut done = 0;
     while done < piece.len() {

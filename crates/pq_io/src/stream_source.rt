@@ -41,7 +41,9 @@ impl<R: Read> Source for StreamSource<R> {
         ensures bytes { ReadConsumes None None result into.new }
         ensures cause { HasCause self.old.faults self.new.faults result }
 
-        ensures inner { ReadConsumes (R.remaining self.old.inner) (R.remaining self.new.inner) result into.new }
+        // The reader's own bytes, where it tells them.
+        ensures inner { ReadConsumes
+            (R.remaining self.old.inner) (R.remaining self.new.inner) result into.new }
         ensures counted { OnErr result (self.new.faults ≡ next_count self.old.faults) }
     {
         match self.inner.read(into) {

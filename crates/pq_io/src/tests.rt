@@ -21,7 +21,7 @@ impl Read for Stuttering<'_> {
     }
 }
 
-// A writer that takes two bytes a call, has room for a few, and is flushed some times before it breaks.
+// A writer that takes two bytes a call, up to its room, and can be flushed a few times.
 #[derive(Drop)]
 struct Narrow {
     taken: Vec<u8>,
