@@ -1,5 +1,5 @@
 -- A text has one division, and a list of tokens can be extended at its end.
-use Rattle.std.proofs.Common.{◌≡◌, ℕ, ◌+◌, List, [], ◌∷◌, ◌++◌, refl, sym, ◌∙◌, ap, subst}
+use Rattle.std.proofs.Common.{◌≡◌, ℕ, ◌+◌, List, [], ◌∷◌, ◌++◌, refl, sym, ◌∙◌, ap, subst, append-nil}
 use Rattle.pq_term.specs.declared.token.Token.{Token}
 use Rattle.pq_term.specs.declared.token.Next.{Next}
 use Rattle.pq_term.specs.declared.token.Next.TheVariants.{Token as Found, End, NoToken}
@@ -19,3 +19,7 @@ one_division bytes at (t ∷ ts) (u ∷ us) x y last other first second =
     let same : t ≡ u = token_is (sym first.0 ∙ second.0) in
     let rest = one_division bytes (t.at + t.len) ts us x y last other first.1 (subst (λ (v : Token). IsDividedUpTo bytes (v.at + v.len) us y) (sym same) second.1) in
     ((λ i. same i ∷ rest.0 i), rest.1)
+
+-- where this comes next, the tokens so far are all
+pub ends_here : (bytes : List ℕ) (at : ℕ) (tokens : List Token) (next : Next) → ((rest : List Token) (last : Next) → IsDividedUpTo bytes at rest last → IsDividedUpTo bytes 0 (tokens ++ rest) last) → next_of bytes at ≡ next → IsDividedUpTo bytes 0 tokens next
+ends_here bytes at tokens next divided is = subst (λ ts. IsDividedUpTo bytes 0 ts next) (append-nil tokens) (divided [] next is)

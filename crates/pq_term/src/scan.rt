@@ -84,7 +84,7 @@ fn run_token(place: usize, run: &[u8]) -> Next
 pub fn token_at(bytes: &[u8], at: usize) -> Next
     requires { at ≤ length bytes.now }
     ensures value { result ≡ next_of bytes.now at }
-    ensures within { IsWithin bytes.now at result }
+    ensures within { IsWithin at (length bytes.now) result }
 {
     let place = skip_blanks(bytes, at);
     first_token(place, &bytes[place..])

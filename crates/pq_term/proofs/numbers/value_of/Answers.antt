@@ -1,4 +1,4 @@
-use Rattle.std.proofs.Common.{sym, ap, ◌∙◌, arith}
+use Rattle.std.proofs.Common.{arith}
 use Rattle.pq_term.proofs.Digits.{value_at_end, too_big}
 use Rattle.pq_term.proofs.numbers.value_of.Goals as goal
 
