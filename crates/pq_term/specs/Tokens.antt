@@ -1,5 +1,5 @@
 -- The token that comes next in a text.
-use Rattle.std.specs.Prelude.{◌≡◌, ℕ, ◌+◌, ◌-◌, ◌<◌, ◌≤◌, Bool, true, false, not, cond, ◌&&◌, List, [], ◌∷◌, length, take, drop, ◌==◌, Option, Some, None, take_while}
+use Rattle.std.specs.Prelude.{ℕ, ◌+◌, ◌-◌, ◌<◌, ◌≤◌, Bool, true, false, not, cond, ◌&&◌, List, [], ◌∷◌, length, take, drop, ◌==◌, Option, Some, None, take_while}
 use Rattle.pq_term.specs.declared.token.Kind.{Kind}
 use Rattle.pq_term.specs.declared.token.Kind.TheVariants.{Symbol}
 use Rattle.pq_term.specs.declared.token.Token.{Token}
@@ -37,11 +37,11 @@ first_token place (b ∷ bs) = cond (is_run_byte b) (run_token place (take_while
 abbrev pub next_of : List ℕ → ℕ → Next
 next_of bytes at = let rest = after_blanks false (drop at bytes) in first_token (length bytes - length rest) rest
 
--- a token begins at or after the place, has a byte, and ends within the text; what is no token begins at a byte of the text
-abbrev pub IsWithin : List ℕ → ℕ → Next → Type 0
-IsWithin bytes at (Found t) = (at ≤ t.at) × (1 ≤ t.len) × (t.at + t.len ≤ length bytes)
-IsWithin bytes at End = Unit {0}
-IsWithin bytes at (NoToken place) = (at ≤ place) × (place < length bytes)
+-- a token begins at or after the first place, has a byte, and ends by the second; what is no token has its first byte between them
+abbrev pub IsWithin : ℕ → ℕ → Next → Type 0
+IsWithin at end (Found t) = (at ≤ t.at) × (1 ≤ t.len) × (t.at + t.len ≤ end)
+IsWithin at end End = Unit {0}
+IsWithin at end (NoToken place) = (at ≤ place) × (place < end)
 
 -- the bytes of a token
 abbrev pub text_of : List ℕ → Token → List ℕ

@@ -28,16 +28,15 @@ pub fn token_list(alloc: Global, bytes: &[u8]) -> Result<Vec<Token>, TermFault>
 {
     let mut tokens = Vec::new(alloc);
     let mut at = 0;
-    while let Next::Token(token) = token_at(bytes, at) {
-        match tokens.push(token) {
-            Ok(()) => {}
-            Err(_) => return Err(TermFault::Memory),
+    loop {
+        match token_at(bytes, at) {
+            Next::Token(token) => {
+                tokens.push(token).map_err(|_| TermFault::Memory)?;
+                at = token.at + token.len;
+            }
+            Next::End => return Ok(tokens),
+            Next::NoToken(place) => return Err(TermFault::Lex { at: place }),
         }
-        at = token.at + token.len;
-    }
-    match token_at(bytes, at) {
-        Next::NoToken(place) => Err(TermFault::Lex { at: place }),
-        _ => Ok(tokens),
     }
 }
 

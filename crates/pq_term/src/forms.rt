@@ -1,5 +1,5 @@
 //! The forms that a run may have.
-ghost use Rattle.std.specs.Prelude.{◌≡◌, ◌<◌, length, MatchOption, true, false};
+ghost use Rattle.std.specs.Prelude.{◌≡◌, ◌<◌, length, MatchOption, true, false, position};
 ghost use Rattle.std.specs.List.{list_all, before_first, after_first};
 ghost use Rattle.pq_term.specs.Bytes.{is_word_byte};
 ghost use Rattle.pq_term.specs.Forms.{is_word, is_mac, is_ipv4, is_ipv6_address, is_slash, has_slash, is_prefix, is_ipv4_prefix, is_ipv6, form_of};
@@ -49,12 +49,21 @@ fn is_ipv6_address(text: &[u8]) -> bool
     are_groups(b':', 8, Group::Hex(1, 4), text)
 }
 
+/// The place of the first slash.
+fn slash_place(text: &[u8]) -> Option<usize>
+    ensures { result ≡ position is_slash text.now }
+{
+    text.iter().position(|byte| *byte == b'/')
+}
+
 /// What stands before and after the first slash.
 fn split_at_slash(text: &[u8]) -> Option<(&[u8], &[u8])>
     ensures { MatchOption result (has_slash text.now ≡ false) (λ p. (has_slash text.now ≡ true) × (p.0.now ≡ before_first is_slash text.now) × (p.1.now ≡ after_first is_slash text.now)) }
 {
-    let slash = text.iter().position(|byte| *byte == b'/')?;
-    Some((&text[..slash], &text[slash + 1..]))
+    match slash_place(text) {
+        Some(slash) => Some((&text[..slash], &text[slash + 1..])),
+        None => None,
+    }
 }
 
 /// Whether the text is an IPv4 address and the length of its prefix.

@@ -1,6 +1,7 @@
 //! Groups of digits with a byte between each two.
-ghost use Rattle.std.specs.Prelude.{◌≡◌, ◌==◌};
-ghost use Rattle.pq_term.specs.Groups.{is_group, are_groups};
+ghost use Rattle.std.specs.Prelude.{◌≡◌, length};
+ghost use Rattle.std.specs.List.{list_all};
+ghost use Rattle.pq_term.specs.Groups.{is_group, parts, are_groups};
 
 use crate::numbers::{is_decimal, is_hex};
 
@@ -23,23 +24,24 @@ fn is_group(group: Group, text: &[u8]) -> bool
     }
 }
 
+/// How many parts the separators cut the text into.
+fn part_count(separator: u8, text: &[u8]) -> usize
+    ensures { result ≡ length (parts separator text.now) }
+{
+    text.split(|byte| *byte == separator).count()
+}
+
+/// Whether each of the parts that the separators cut the text into is a group of this shape.
+fn all_are_groups(separator: u8, group: Group, text: &[u8]) -> bool
+    ensures { result ≡ list_all (is_group group) (parts separator text.now) }
+{
+    text.split(|byte| *byte == separator)
+        .all(|part| is_group(group, part))
+}
+
 /// Whether the text is so many groups of this shape, joined by the separator.
 pub(crate) fn are_groups(separator: u8, count: usize, group: Group, text: &[u8]) -> bool
     ensures { result ≡ are_groups separator count group text.now }
 {
-    let mut groups = 0;
-    for part in text.split(
-        |byte: &u8| -> bool
-            ensures { result ≡ (byte.now == separator) }
-        { *byte == separator },
-    ) {
-        if groups == count {
-            return false;
-        }
-        if !is_group(group, part) {
-            return false;
-        }
-        groups += 1;
-    }
-    groups == count
+    part_count(separator, text) == count && all_are_groups(separator, group, text)
 }

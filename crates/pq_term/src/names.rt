@@ -39,7 +39,7 @@ const RESERVED: [&[u8]; 27] = [
 pub fn is_reserved(word: &[u8]) -> bool
     ensures { result ≡ is_reserved word.now }
 {
-    RESERVED.iter().any(|reserved| *reserved == word)
+    RESERVED.contains(&word)
 }
 
 /// Whether the text is a name: a word that is not reserved.

@@ -5,7 +5,6 @@ ghost use Rattle.pq_term.specs.Numbers.{digit_value, is_digit, value_of, is_deci
 
 /// The value of a hexadecimal digit in either case, 0 to 15.
 fn digit_value(byte: u8) -> u64
-    requires { byte < 128 }
     ensures { result ≡ digit_value byte }
 {
     if byte.is_ascii_digit() {
@@ -13,7 +12,7 @@ fn digit_value(byte: u8) -> u64
     } else if byte.is_ascii_uppercase() {
         u64::from(byte - b'A') + 10
     } else {
-        u64::from(byte.saturating_sub(87))
+        u64::from(byte.saturating_sub(b'a' - 10))
     }
 }
 
@@ -40,8 +39,7 @@ fn with_digit(value: u64, base: u64, digit: u64) -> Option<u64>
 
 /// The value of digits of a base, unless it is beyond a `u64`.
 fn value_of(base: u64, digits: &[u8]) -> Option<u64>
-    requires positive { 0 < base }
-    requires digits { list_all (is_digit base) digits.now ≡ true }
+    requires { 0 < base }
     ensures { SomeIff result (value_of base digits.now < 2 ^ 64) (value_of base digits.now) }
 {
     let mut value = 0;
@@ -105,7 +103,8 @@ pub fn number_value(text: &[u8]) -> Option<u64>
     }
 }
 
-/// The value of 1 to 16 hexadecimal digits.
+/// The value of 1 to 16 hexadecimal digits; `None` where the text is none.
+#[tactic(auto, using(crate::proofs::Digits::hexadecimal_fits))]
 fn hexadecimal(digits: &[u8]) -> Option<u64>
     ensures { result ≡ cond (is_hex 1 16 digits.now) (Some (value_of 16 digits.now)) None }
 {

@@ -1,5 +1,6 @@
 //! The token that comes next.
-ghost use Rattle.std.specs.Prelude.{◌≡◌, ◌+◌, ◌<◌, ◌≤◌, length, drop, false, take_while};
+ghost use Rattle.std.specs.Prelude.{◌≡◌, ◌≤◌, length, drop, false};
+ghost use Rattle.std.specs.List.{prefix_len};
 ghost use Rattle.pq_term.specs.Bytes.{is_run_byte};
 ghost use Rattle.pq_term.specs.Tokens.{after_blanks, token_or_none, run_token, first_token, next_of, IsWithin};
 
@@ -29,16 +30,16 @@ fn skip_blanks(bytes: &[u8], at: usize) -> usize
     bytes.len()
 }
 
-/// The run that the text begins with: as many bytes as can be in one.
-fn first_run(text: &[u8]) -> &[u8]
-    ensures { result.now ≡ take_while is_run_byte text.now }
+/// The number of bytes of the run that the text begins with, which is as long as can be.
+fn run_len(text: &[u8]) -> usize
+    ensures { result ≡ prefix_len is_run_byte text.now }
 {
-    for (place, byte) in text.iter().enumerate() {
-        if !is_run_byte(*byte) {
-            return &text[..place];
+    for len in 0..text.len() {
+        if !is_run_byte(text[len]) {
+            return len;
         }
     }
-    text
+    text.len()
 }
 
 /// A token of this kind, or none that begins at the place.
@@ -61,7 +62,7 @@ fn first_token(place: usize, rest: &[u8]) -> Next
 {
     match rest {
         [] => Next::End,
-        [first, ..] if is_run_byte(*first) => run_token(place, first_run(rest)),
+        [first, ..] if is_run_byte(*first) => run_token(place, &rest[..run_len(rest)]),
         [first, ..] if is_symbol(*first) => token_or_none(place, 1, Some(Kind::Symbol)),
         [b'>', b'>', ..] => token_or_none(place, 2, Some(Kind::Symbol)),
         _ => Next::NoToken(place),
@@ -83,7 +84,7 @@ fn run_token(place: usize, run: &[u8]) -> Next
 pub fn token_at(bytes: &[u8], at: usize) -> Next
     requires { at ≤ length bytes.now }
     ensures value { result ≡ next_of bytes.now at }
-    ensures within { IsWithin bytes.now at result }
+    ensures within { IsWithin at (length bytes.now) result }
 {
     let place = skip_blanks(bytes, at);
     first_token(place, &bytes[place..])
