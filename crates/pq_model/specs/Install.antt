@@ -4,7 +4,7 @@ use Rattle.std.specs.declared.option.Option.{Option}
 use Rattle.std.specs.declared.option.Option.TheVariants.{None, Some}
 use Rattle.std.specs.Int.{w16, w32, w64, to_be_bytes}
 use Rattle.std.specs.List.{flat_map, IsDistinct}
--- PENDING use Rattle.pq_term.specs.Names.{is_name}
+use Rattle.pq_term.specs.Names.{is_name}
 use Rattle.pq_fields.specs.Packet.{is_before}
 use Rattle.pq_model.specs.declared.message.Message.{Message}
 use Rattle.pq_model.specs.declared.message.Message.TheVariants.{Flow, Group, Barrier}
@@ -82,7 +82,7 @@ IsLawfulList ms = (length ms < 2 ^ 32) × All IsLawfulMessage ms
 pub record IsLawfulInstall (i : Install) : Type 0 where
   pub topology : IsLawfulTopology i.topology
   pub few_queries : length i.queries ≤ 256
-  -- PENDING pub names : All (λ name. IsTrue (is_name name)) i.queries
+  pub names : All (λ name. IsTrue (is_name name)) i.queries
   pub names_differ : IsDistinct bytes_eq i.queries
   pub rows : All (IsLawfulRow (length i.queries)) i.report
   pub tags_ascend : Ascends (map (λ row. row.tag) i.report)
