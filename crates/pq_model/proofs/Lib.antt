@@ -1,2 +1,4 @@
 pub mod Examples
+pub mod Pairs
+pub mod Schedules
 pub mod WorkedSpellings

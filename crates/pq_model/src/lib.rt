@@ -9,6 +9,7 @@ mod flow_mod;
 mod group_mod;
 mod matching;
 mod message;
+mod simulation;
 mod tagged;
 
 pub use action::Action;
@@ -17,4 +18,5 @@ pub use flow_mod::{FlowCommand, FlowMod};
 pub use group_mod::{GroupCommand, GroupMod};
 pub use matching::Match;
 pub use message::Message;
+pub use simulation::{Correspondence, agreeing_hops_make_schedules_agree};
 pub use tagged::{Sent, Tagged};
