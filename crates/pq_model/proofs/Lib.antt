@@ -1,4 +1,5 @@
 pub mod Examples
 pub mod Pairs
 pub mod Schedules
+pub mod WorkedRuns
 pub mod WorkedSpellings
