@@ -1,5 +1,10 @@
+pub mod Commuting
 pub mod Examples
+pub mod LawfulOrders
 pub mod Pairs
+pub mod Reorderings
+pub mod SameTables
 pub mod Schedules
+pub mod Sending
 pub mod WorkedRuns
 pub mod WorkedSpellings
