@@ -1,4 +1,3 @@
-pub mod Commuting
 pub mod Examples
 pub mod LawfulOrders
 pub mod Pairs
