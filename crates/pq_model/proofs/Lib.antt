@@ -1,5 +1,8 @@
+pub mod CommutingFlows
+pub mod CommutingGroups
 pub mod Examples
 pub mod LawfulOrders
 pub mod Reorderings
 pub mod SameTables
+pub mod Sending
 pub mod WorkedSpellings
