@@ -1,3 +1,5 @@
+pub mod CommutingFlows
+pub mod CommutingGroups
 pub mod Examples
 pub mod LawfulOrders
 pub mod Pairs

@@ -17,7 +17,7 @@ pub use action::Action;
 pub use event::Event;
 pub use flow_mod::{FlowCommand, FlowMod};
 pub use group_mod::{GroupCommand, GroupMod};
-pub use laws::{lawful_orders_leave_the_same_tables, messages_keep_tables_the_same};
+pub use laws::{lawful_orders_leave_the_same_tables, messages_keep_tables_the_same, same_tables_send_the_same};
 pub use matching::Match;
 pub use message::Message;
 pub use simulation::{Correspondence, agreeing_hops_make_schedules_agree};
