@@ -78,7 +78,7 @@ not_the_number n m below = grind (arith, nat_tests)
 different : (n m k : ℕ) → k ≡ n → (n == m) ≡ false → (m == k) ≡ false
 different n m k is apart = grind (arith, nat_tests)
 
-same : (n m : ℕ) → (n == m) ≡ true → n ≡ m
+pub same : (n m : ℕ) → (n == m) ≡ true → n ≡ m
 same n m is = grind (arith, nat_tests)
 
 -- the packet leaves at the other port, also where that is the port of arrival
