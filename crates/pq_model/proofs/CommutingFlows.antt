@@ -1,42 +1,28 @@
 -- Messages on entries that leave the same tables in either order.
-use Rattle.std.proofs.Common.{◌≡◌, ℕ, Bool, true, false, cond, not, List, [], ◌∷◌, ◌++◌, ◌&&◌, ◌==◌, if◌then◌else◌, filter, refl, sym, ap, subst, subst₂, ◌∙◌, append_assoc, arith}
+use Rattle.std.proofs.Common.{◌≡◌, ◌≢◌, ℕ, Bool, true, false, cond, not, List, [], ◌∷◌, ◌++◌, ◌&&◌, ◌==◌, if◌then◌else◌, filter, refl, sym, ap, subst, subst₂, ◌∙◌, append_assoc, arith}
 use Rattle.std.proofs.Math.Bool.{and_comm}
 use Rattle.std.proofs.lemmas.Bool.Decides.{nat_tests}
 use Rattle.std.proofs.lemmas.List.Elements.{filter-append}
 use Rattle.std.specs.List.{list_all, list_any}
-use Rattle.std.specs.FinMap.{contains_key}
+use Rattle.std.specs.FinMap.{contains_key, insert}
 use Rattle.std.specs.declared.option.Option.{Option}
 use Rattle.std.specs.declared.option.Option.TheVariants.{None, Some}
+use Rattle.pq_model.specs.declared.flow_mod.FlowCommand.{FlowCommand}
+use Rattle.pq_model.specs.declared.group_mod.GroupCommand.{GroupCommand}
 use Rattle.pq_model.specs.declared.flow_mod.FlowCommand.TheVariants.{Add, DeleteAll, DeleteStrict}
-use Rattle.pq_model.specs.declared.group_mod.GroupCommand.TheVariants.{Delete}
+use Rattle.pq_model.specs.declared.group_mod.GroupCommand.TheVariants.{Add as AddGroup, Modify, Delete}
 use Rattle.pq_model.specs.declared.message.Message.{Message}
 use Rattle.pq_model.specs.declared.message.Message.TheVariants.{Flow, Group}
 use Rattle.pq_model.specs.MatchFields.{MatchFields, same_number, same_masked, same_match}
 use Rattle.pq_model.specs.Mods.{FlowValue, GroupValue}
 use Rattle.pq_model.specs.SwitchMachine.{Entry, Groups, Tables, entry_of, is_placed, groups_named, is_removed, removed_from, changes_entries, changes_groups, applies}
 use Rattle.pq_model.specs.Orders.{IsReordering, AreSame, Commute}
+use Rattle.pq_model.proofs.Filters.{filter-exchange, filter-end, filter-none}
 use Rattle.pq_model.proofs.Reorderings.{reordering-refl, reordering-exchange}
-use Rattle.pq_model.proofs.SameTables.{same-refl, same-sym}
+use Rattle.pq_model.proofs.SameTables.{same-refl, same-sym, same-equal}
 
 pub commute-sym : (m n : Message) → Commute m n → Commute n m
 commute-sym m n h t = same-sym (applies (applies t m) n) (applies (applies t n) m) (h t)
-
-module _ {A : Type 0} where
-  pub filter-filter : (p q : A → Bool) (xs : List A) → filter p (filter q xs) ≡ filter (λ x. q x && p x) xs
-  filter-filter p q [] = refl
-  filter-filter p q (x ∷ xs) = both (p x) (q x) refl (filter-filter p q xs)
-    where
-      both : (a b : Bool) → p x ≡ a → filter p (filter q xs) ≡ filter (λ y. q y && p y) xs → filter p (cond b (x ∷ filter q xs) (filter q xs)) ≡ cond (b && a) (x ∷ filter (λ y. q y && p y) xs) (filter (λ y. q y && p y) xs)
-      both true true h more = rw h (ap (λ l. x ∷ l) more)
-      both false true h more = rw h more
-      both a false h more = more
-
-  pub filter-exchange : (p q : A → Bool) (xs : List A) → filter p (filter q xs) ≡ filter q (filter p xs)
-  filter-exchange p q xs = filter-filter p q xs ∙ ap (λ test. filter test xs) (λ i x. and_comm (q x) (p x) i) ∙ sym (filter-filter q p xs)
-
-  -- a value that passes, put at the end
-  filter-end : (p : A → Bool) (xs : List A) (x : A) → p x ≡ true → filter p (xs ++ x ∷ []) ≡ filter p xs ++ x ∷ []
-  filter-end p xs x h = filter-append p xs (x ∷ []) ∙ ap (λ b. filter p xs ++ cond b (x ∷ []) []) h
 
 -- an entry stays in the place of another match
 abbrev stays : FlowValue → Entry → Bool
@@ -111,14 +97,48 @@ adds-exchange f g h t =
 pub add-add : (f g : FlowValue) → f.command ≡ Add → g.command ≡ Add → is_placed f (entry_of g) ≡ false → Commute (Flow f) (Flow g)
 add-add f g isf isg h t = subst₂ (λ c d. AreSame (changes_entries d g (changes_entries c f t)) (changes_entries c f (changes_entries d g t))) (sym isf) (sym isg) (adds-exchange f g h t)
 
-pub delete_all-delete : (f : FlowValue) (g : GroupValue) → f.command ≡ DeleteAll → g.command ≡ Delete → Commute (Flow f) (Group g)
-delete_all-delete f g all delete t = rw (all, delete) (record { entries = refl; groups = refl })
+-- the entries that a delete leaves
+abbrev is_left : FlowCommand → FlowValue → Entry → Bool
+is_left Add f e = true
+is_left DeleteAll f e = false
+is_left DeleteStrict f e = stays f e
 
-same_filters : (p q : Entry → Bool) (xs : List Entry) (groups : Groups) → AreSame (record { entries = filter p (filter q xs); groups = groups }) (record { entries = filter q (filter p xs); groups = groups })
-same_filters p q xs groups = record { entries = subst (IsReordering (filter p (filter q xs))) (filter-exchange p q xs) (reordering-refl (filter p (filter q xs))); groups = refl }
+abbrev with_left : (Entry → Bool) → Tables → Tables
+with_left test t = record t { entries = filter test t.entries }
 
-pub strict-strict : (f g : FlowValue) → f.command ≡ DeleteStrict → g.command ≡ DeleteStrict → Commute (Flow f) (Flow g)
-strict-strict f g isf isg t = rw (isf, isg) (same_filters (stays g) (stays f) t.entries t.groups)
+pub deletes : (c : FlowCommand) (f : FlowValue) (t : Tables) → c ≢ Add → changes_entries c f t ≡ with_left (is_left c f) t
+deletes Add f t h = absurd (h refl)
+deletes DeleteAll f t h = λ i. record t { entries = filter-none t.entries i }
+deletes DeleteStrict f t h = refl
 
-pub strict-delete : (f : FlowValue) (g : GroupValue) → f.command ≡ DeleteStrict → g.command ≡ Delete → Commute (Flow f) (Group g)
-strict-delete f g isf isg t = rw (isf, isg) (same_filters (λ e. not (list_any (is_removed t.groups g.group) (groups_named e.actions))) (stays f) t.entries (removed_from t.groups g.group))
+pub delete-delete : (f g : FlowValue) → f.command ≢ Add → g.command ≢ Add → Commute (Flow f) (Flow g)
+delete-delete f g isf isg t = same-equal _ _ (both f g isf isg ∙ exchanged ∙ sym (both g f isg isf))
+  where
+    both : (d e : FlowValue) → d.command ≢ Add → e.command ≢ Add → changes_entries e.command e (changes_entries d.command d t) ≡ with_left (is_left e.command e) (with_left (is_left d.command d) t)
+    both d e isd ise = ap (changes_entries e.command e) (deletes d.command d t isd) ∙ deletes e.command e (with_left (is_left d.command d) t) ise
+    exchanged : with_left (is_left g.command g) (with_left (is_left f.command f) t) ≡ with_left (is_left f.command f) (with_left (is_left g.command g) t)
+    exchanged = λ i. record t { entries = filter-exchange (is_left g.command g) (is_left f.command f) t.entries i }
+
+left-group : (test : Entry → Bool) (c : GroupCommand) (g : GroupValue) (t : Tables) → changes_groups c g (with_left test t) ≡ with_left test (changes_groups c g t)
+left-group test AddGroup g t = by (contains_key t.groups g.group)
+  where
+    by : (b : Bool) → (if b then with_left test t else record (with_left test t) { groups = insert t.groups g.group g.buckets }) ≡ with_left test (if b then t else record t { groups = insert t.groups g.group g.buckets })
+    by true = refl
+    by false = refl
+left-group test Modify g t = by (contains_key t.groups g.group)
+  where
+    by : (b : Bool) → (if b then record (with_left test t) { groups = insert t.groups g.group g.buckets } else with_left test t) ≡ with_left test (if b then record t { groups = insert t.groups g.group g.buckets } else t)
+    by true = refl
+    by false = refl
+left-group test Delete g t = λ i. record { entries = filter-exchange (λ e. not (list_any (is_removed t.groups g.group) (groups_named e.actions))) test t.entries i; groups = removed_from t.groups g.group }
+
+pub delete-group : (f : FlowValue) (g : GroupValue) → f.command ≢ Add → Commute (Flow f) (Group g)
+delete-group f g isf t = same-equal _ _
+    (ap (changes_groups g.command g) (deletes f.command f t isf) ∙ left-group (is_left f.command f) g.command g t ∙ sym (deletes f.command f (changes_groups g.command g t) isf))
+
+strict-added : (b : Bool) (f g : FlowValue) (t : Tables) → is_placed g (entry_of f) ≡ false → with_left (stays g) (added b f t) ≡ added b f (with_left (stays g) t)
+strict-added true f g t h = λ i. record t { entries = (filter-end (stays g) (filter (stays f) t.entries) (entry_of f) (ap not h) ∙ ap (λ l. l ++ entry_of f ∷ []) (filter-exchange (stays g) (stays f) t.entries)) i }
+strict-added false f g t h = refl
+
+pub add-strict : (f g : FlowValue) → f.command ≡ Add → g.command ≡ DeleteStrict → is_placed g (entry_of f) ≡ false → Commute (Flow f) (Flow g)
+add-strict f g isf isg h t = rw (isf, isg) (same-equal _ _ (strict-added (has_named f t.groups) f g t h))

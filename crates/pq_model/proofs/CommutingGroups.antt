@@ -16,7 +16,7 @@ use Rattle.pq_model.specs.SwitchMachine.{Entry, Groups, Tables, all_groups, grou
 use Rattle.pq_model.specs.Orders.{IsReordering, AreSame, Commute}
 use Rattle.pq_model.proofs.Reorderings.{reordering-refl}
 use Rattle.pq_model.proofs.SameTables.{same-refl, same-equal}
-use Rattle.pq_model.proofs.CommutingFlows.{filter-filter}
+use Rattle.pq_model.proofs.Filters.{filter-filter}
 
 get-put : (groups : Groups) (k q : ℕ) (v : List (List Action)) → get (insert groups k v) q ≡ cond (q == k) (Some v) (get groups q)
 get-put groups k q v = get-insert nat_cmp_total groups k v q ∙ ap (λ b. cond b (Some v) (get groups q)) (unsigned_tied q k)

@@ -1,6 +1,7 @@
 pub mod CommutingFlows
 pub mod CommutingGroups
 pub mod Examples
+pub mod Filters
 pub mod LawfulOrders
 pub mod Pairs
 pub mod Reorderings

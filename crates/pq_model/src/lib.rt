@@ -4,21 +4,23 @@
 #![tactic(auto)]
 
 mod action;
+mod commuting;
 mod event;
 mod flow_mod;
 mod group_mod;
-mod laws;
 mod matching;
 mod message;
+mod orders;
 mod simulation;
 mod tagged;
 
 pub use action::Action;
+pub use commuting::{flow_mods_commute, group_mods_commute};
 pub use event::Event;
 pub use flow_mod::{FlowCommand, FlowMod};
 pub use group_mod::{GroupCommand, GroupMod};
-pub use laws::{lawful_orders_leave_the_same_tables, messages_keep_tables_the_same, same_tables_send_the_same};
 pub use matching::Match;
 pub use message::Message;
+pub use orders::{lawful_orders_leave_the_same_tables, messages_keep_tables_the_same, same_tables_send_the_same};
 pub use simulation::{Correspondence, agreeing_hops_make_schedules_agree};
 pub use tagged::{Sent, Tagged};
