@@ -1,0 +1,32 @@
+ghost use Rattle.std.specs.Prelude.{◌≡◌, ◌+◌, ◌<◌, ◌++◌, length, OnOk};
+ghost use Rattle.pq_model.specs.Spelling.{oxm, oxm_masked};
+
+use std::alloc::AllocError;
+
+/// Appends an OXM field of class `OPENFLOW_BASIC` without a mask (OpenFlow 1.3.5, section 7.2.3.2).
+pub fn write_oxm(field: u8, value: &[u8], into: &mut Vec<u8>) -> Result<(), AllocError>
+    requires field { field < 128 }
+    requires short { length value.now < 256 }
+    ensures ok { OnOk result (into.new.items ≡ into.old.items ++ oxm field value.now) }
+{
+    into.extend_from_slice(&[0x80, 0, field * 2, value.len() as u8])?;
+    into.extend_from_slice(value)
+}
+
+/// Appends an OXM field of class `OPENFLOW_BASIC` with a mask.
+pub fn write_masked_oxm(
+    field: u8,
+    value: &[u8],
+    mask: &[u8],
+    into: &mut Vec<u8>,
+) -> Result<(), AllocError>
+    requires field { field < 127 }
+    requires short { length value.now + length mask.now < 256 }
+    ensures ok { OnOk result
+        (into.new.items ≡ into.old.items ++ oxm_masked field value.now mask.now) }
+{
+    let length = value.len() + mask.len();
+    into.extend_from_slice(&[0x80, 0, field * 2 + 1, length as u8])?;
+    into.extend_from_slice(value)?;
+    into.extend_from_slice(mask)
+}
