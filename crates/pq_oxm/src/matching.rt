@@ -1,7 +1,9 @@
 ghost use Rattle.std.specs.Prelude.{◌≡◌, ◌++◌, IfOk, OnOk, OnErr};
+ghost use Rattle.pq_model.specs.MatchFields.{IsLawfulMatch};
 ghost use Rattle.pq_model.specs.Spelling.{match_bytes, match_oxms};
 
 use crate::bytes::{padding, write_length, write_zeros};
+use crate::oxm_field;
 use crate::stated::{write_byte, write_ipv4, write_ipv6, write_mac, write_u16, write_u32};
 use pq_model::Match;
 use std::alloc::{AllocError, Global};
@@ -12,20 +14,20 @@ fn oxms(alloc: Global, value: &Match) -> Result<Vec<u8>, AllocError>
     ensures { IfOk result (λ bytes. bytes.items ≡ match_oxms value.now) }
 {
     let mut bytes = Vec::new(alloc);
-    write_u32(0, value.in_port, &mut bytes)?;
-    write_u16(6, value.vlan, &mut bytes)?;
-    write_u16(5, value.eth_type, &mut bytes)?;
-    write_byte(10, value.ip_proto, &mut bytes)?;
-    write_mac(4, value.eth_src, &mut bytes)?;
-    write_mac(3, value.eth_dst, &mut bytes)?;
-    write_ipv4(11, value.ipv4_src, &mut bytes)?;
-    write_ipv4(12, value.ipv4_dst, &mut bytes)?;
-    write_u16(13, value.tcp_src, &mut bytes)?;
-    write_u16(14, value.tcp_dst, &mut bytes)?;
-    write_u16(15, value.udp_src, &mut bytes)?;
-    write_u16(16, value.udp_dst, &mut bytes)?;
-    write_ipv6(26, value.ipv6_src, &mut bytes)?;
-    write_ipv6(27, value.ipv6_dst, &mut bytes)?;
+    write_u32(oxm_field::IN_PORT, value.in_port, &mut bytes)?;
+    write_u16(oxm_field::VLAN_VID, value.vlan, &mut bytes)?;
+    write_u16(oxm_field::ETH_TYPE, value.eth_type, &mut bytes)?;
+    write_byte(oxm_field::IP_PROTO, value.ip_proto, &mut bytes)?;
+    write_mac(oxm_field::ETH_SRC, value.eth_src, &mut bytes)?;
+    write_mac(oxm_field::ETH_DST, value.eth_dst, &mut bytes)?;
+    write_ipv4(oxm_field::IPV4_SRC, value.ipv4_src, &mut bytes)?;
+    write_ipv4(oxm_field::IPV4_DST, value.ipv4_dst, &mut bytes)?;
+    write_u16(oxm_field::TCP_SRC, value.tcp_src, &mut bytes)?;
+    write_u16(oxm_field::TCP_DST, value.tcp_dst, &mut bytes)?;
+    write_u16(oxm_field::UDP_SRC, value.udp_src, &mut bytes)?;
+    write_u16(oxm_field::UDP_DST, value.udp_dst, &mut bytes)?;
+    write_ipv6(oxm_field::IPV6_SRC, value.ipv6_src, &mut bytes)?;
+    write_ipv6(oxm_field::IPV6_DST, value.ipv6_dst, &mut bytes)?;
     Ok(bytes)
 }
 
@@ -43,8 +45,9 @@ fn spelling(alloc: Global, value: &Match) -> Result<Vec<u8>, AllocError>
     Ok(bytes)
 }
 
-/// Appends the spelling of a match: type 1, its length without the padding, its fields in their fixed order, and
-/// zeros up to a multiple of eight bytes (OpenFlow 1.3.5, section 7.2.3). After a refusal `into` is as before.
+/// Appends the spelling of a match: type 1, its length without the padding, its fields in their
+/// fixed order, and zeros up to a multiple of eight bytes (OpenFlow 1.3.5, section 7.2.3). Where
+/// there is no memory for it `into` is as before.
 pub fn write_match(alloc: Global, value: &Match, into: &mut Vec<u8>) -> Result<(), AllocError>
     ensures ok { OnOk result (into.new.items ≡ into.old.items ++ match_bytes value.now) }
     ensures err { OnErr result (into.new.items ≡ into.old.items) }
@@ -52,3 +55,10 @@ pub fn write_match(alloc: Global, value: &Match, into: &mut Vec<u8>) -> Result<(
     let spelling = spelling(alloc, value)?;
     into.extend_from_slice(&spelling)
 }
+
+/// The numbers of a match fit their fields, and each field has its prerequisites. It does nothing
+/// when it runs: a caller that holds a match behind a reference calls `keeps_rules(*value)` to know
+/// this of it.
+pub fn keeps_rules(value: Match)
+    ensures { IsLawfulMatch value }
+{}
