@@ -7,6 +7,11 @@ use pq_model::{Action, FlowCommand, FlowMod};
 use pq_oxm::{write_length, write_match};
 use std::alloc::{AllocError, Global};
 
+// The instruction types (OpenFlow 1.3.5, section 7.2.4).
+const GOTO_TABLE: u8 = 1;
+
+const APPLY_ACTIONS: u8 = 4;
+
 // The number of a command (OpenFlow 1.3.5, section 7.3.4.1).
 fn flow_code(command: FlowCommand) -> u8
     ensures { result ≡ flow_code command }
@@ -20,11 +25,7 @@ fn flow_code(command: FlowCommand) -> u8
 
 // The instruction APPLY_ACTIONS, where there are actions.
 #[tactic(auto, unfolding(pq_model::specs::Spelling::apply_bytes))]
-fn write_apply(
-    alloc: Global,
-    actions: &[Action],
-    into: &mut Vec<u8>,
-) -> Result<(), AllocError>
+fn write_apply(alloc: Global, actions: &[Action], into: &mut Vec<u8>) -> Result<(), AllocError>
     requires { All IsLawfulAction actions.now }
     ensures { OnOk result (into.new.items ≡ into.old.items ++ apply_bytes actions.now) }
 {
@@ -32,7 +33,7 @@ fn write_apply(
         return Ok(());
     }
     let spelling = actions_spelling(alloc, actions)?;
-    into.extend_from_slice(&[0, 4])?;
+    into.extend_from_slice(&[0, APPLY_ACTIONS])?;
     write_length(8 + spelling.len(), into)?;
     into.extend_from_slice(&[0; 4])?;
     into.extend_from_slice(&spelling)
@@ -45,11 +46,12 @@ fn write_goto(goto: Option<u8>, into: &mut Vec<u8>) -> Result<(), AllocError>
 {
     match goto {
         None => Ok(()),
-        Some(table) => into.extend_from_slice(&[0, 1, 0, 8, table, 0, 0, 0]),
+        Some(table) => into.extend_from_slice(&[0, GOTO_TABLE, 0, 8, table, 0, 0, 0]),
     }
 }
 
-/// What follows the header in the spelling of a flow mod (OpenFlow 1.3.5, section 7.3.4.1).
+/// What follows the header in the spelling of a flow mod: no cookie mask, no timeouts, no buffer,
+/// any port and group, and no flags (OpenFlow 1.3.5, section 7.3.4.1).
 #[tactic(auto, unfolding(pq_model::specs::Spelling::flow_body))]
 pub fn flow_body(alloc: Global, flow: &FlowMod) -> Result<Vec<u8>, AllocError>
     requires { IsLawfulFlow flow.now }

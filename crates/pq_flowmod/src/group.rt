@@ -21,11 +21,7 @@ fn group_code(command: GroupCommand) -> u8
 
 // A bucket: its length, weight 0, no port or group to watch, and its actions.
 #[tactic(auto, unfolding(pq_model::specs::Spelling::bucket_bytes))]
-fn write_bucket(
-    alloc: Global,
-    actions: &[Action],
-    into: &mut Vec<u8>,
-) -> Result<(), AllocError>
+fn write_bucket(alloc: Global, actions: &[Action], into: &mut Vec<u8>) -> Result<(), AllocError>
     requires { All IsLawfulAction actions.now }
     ensures { OnOk result (into.new.items ≡ into.old.items ++ bucket_bytes actions.now) }
 {
@@ -37,14 +33,15 @@ fn write_bucket(
     into.extend_from_slice(&spelling)
 }
 
+// The buckets, one after another.
 fn write_buckets(
     alloc: Global,
     buckets: &[Vec<Action>],
     into: &mut Vec<u8>,
 ) -> Result<(), AllocError>
     requires { All (All IsLawfulAction) (map (λ b. b.items) buckets.now) }
-    ensures { OnOk result
-        (into.new.items ≡ into.old.items ++ flat_map bucket_bytes (map (λ b. b.items) buckets.now)) }
+    ensures { OnOk result (into.new.items
+        ≡ into.old.items ++ flat_map bucket_bytes (map (λ b. b.items) buckets.now)) }
 {
     for bucket in buckets {
         write_bucket(alloc, bucket, into)?;
@@ -52,7 +49,7 @@ fn write_buckets(
     Ok(())
 }
 
-/// What follows the header in the spelling of a group mod (OpenFlow 1.3.5, section 7.3.4.2).
+/// What follows the header in the spelling of a group mod of type ALL (OpenFlow 1.3.5, section 7.3.4.2).
 #[tactic(auto, unfolding(pq_model::specs::Spelling::group_body))]
 pub fn group_body(alloc: Global, group: &GroupMod) -> Result<Vec<u8>, AllocError>
     requires { IsLawfulGroup group.now }
