@@ -28,7 +28,7 @@ use Rattle.pq_model.specs.Headline.{Agree, Implements, plain, installed}
 use Rattle.pq_model.specs.Simulation.{Pairwise, HopAgrees, Simulates}
 use Rattle.pq_model.proofs.LawfulOrders.{lawful-same}
 use Rattle.pq_model.proofs.SameTables.{same-refl}
-use Rattle.pq_model.proofs.CommutingFlows.{add-add, delete_all-delete}
+use Rattle.pq_model.proofs.CommutingFlows.{add-add, delete-group}
 use Rattle.pq_model.proofs.Sending.{sends-same}
 use Rattle.pq_model.proofs.Schedules.{agreement}
 use Rattle.pq_small.specs.SmallForm.{SmallForm, KeepsRules}
@@ -143,10 +143,10 @@ adds_commute s =
 
 deletes_commute : Commute delete_entries delete_groups
 deletes_commute =
-    delete_all-delete
+    delete-group
     (record { xid = 1; cookie = 0; table = 0xff; command = DeleteAll; priority = 0; matching = empty_match; actions = []; goto = None })
     (record { xid = 2; command = Delete; group = all_groups; buckets = [] })
-    refl refl
+    (λ is_add. cc)
 
 -- each two messages with no barrier between them commute
 free_of_order : (s : SmallForm) → IsFreeOfOrder (message_list s)
