@@ -1,6 +1,6 @@
 //! A text as its tokens.
-ghost use Rattle.std.specs.Prelude.{◌≡◌, ℕ, List, MatchResult};
-ghost use Rattle.pq_term.specs.Division.{IsDivision, IsDividedUpTo, IsLast, IsTokenFault};
+ghost use Rattle.std.specs.Prelude.{◌≡◌, ℕ, List, length, All, IfOk, MatchResult};
+ghost use Rattle.pq_term.specs.Division.{IsDivision, IsDividedUpTo, IsLast, IsTokenFault, LiesWithin};
 
 use crate::scan::token_at;
 use crate::token::{Next, Token};
@@ -24,7 +24,8 @@ pub enum TermFault {
 /// The tokens of the whole text, in order. `Lex` comes exactly where the division into tokens meets something that
 /// is no token, with its first byte; `Syntax` never.
 pub fn token_list(alloc: Global, bytes: &[u8]) -> Result<Vec<Token>, TermFault>
-    ensures { MatchResult result (λ tokens. IsDivision bytes.now tokens.items) (IsTokenFault bytes.now) }
+    ensures value { MatchResult result (λ tokens. IsDivision bytes.now tokens.items) (IsTokenFault bytes.now) }
+    ensures within { IfOk result (λ tokens. All (LiesWithin (length bytes.now)) tokens.items) }
 {
     let mut tokens = Vec::new(alloc);
     let mut at = 0;

@@ -4,8 +4,12 @@ use Rattle.pq_term.proofs.division.token_list.Goals as goal
 
 -- the end of the text ends the division
 pub returns-in-End : goal.returns-in-End
-returns-in-End c = ends_here _ _ _ _ c.loop-token.invariant.divided (sym c.token_at.ensures.value ∙ c.in-End.is)
+returns-in-End c =
+    let loop = c.loop-token.invariant in
+    record { value = ends_here _ _ _ _ loop.divided (sym c.token_at.ensures.value ∙ c.in-End.is); within = loop.lie }
 
 -- what is no token ends the division
 pub returns-in-NoToken : goal.returns-in-NoToken
-returns-in-NoToken c = (c.loop-token.tokens.items, ends_here _ _ _ _ c.loop-token.invariant.divided (sym c.token_at.ensures.value ∙ c.in-NoToken.is))
+returns-in-NoToken c =
+    let loop = c.loop-token.invariant in
+    record { value = (c.loop-token.tokens.items, ends_here _ _ _ _ loop.divided (sym c.token_at.ensures.value ∙ c.in-NoToken.is)); within = tt }
