@@ -1,5 +1,5 @@
 //! A text as its tokens.
-ghost use Rattle.std.specs.Prelude.{◌≡◌, ℕ, List, length, All, IfOk, MatchResult};
+ghost use Rattle.std.specs.Prelude.{◌≡◌, ℕ, List, length, All, IfOk, IfErr};
 ghost use Rattle.pq_term.specs.Division.{IsDivision, IsDividedUpTo, IsLast, IsTokenFault, LiesWithin};
 
 use crate::scan::token_at;
@@ -24,7 +24,8 @@ pub enum TermFault {
 /// The tokens of the whole text, in order. `Lex` comes exactly where the division into tokens meets something that
 /// is no token, with its first byte; `Syntax` never.
 pub fn token_list(alloc: Global, bytes: &[u8]) -> Result<Vec<Token>, TermFault>
-    ensures value { MatchResult result (λ tokens. IsDivision bytes.now tokens.items) (IsTokenFault bytes.now) }
+    ensures ok { IfOk result (λ tokens. IsDivision bytes.now tokens.items) }
+    ensures err { IfErr result (IsTokenFault bytes.now) }
     ensures within { IfOk result (λ tokens. All (LiesWithin (length bytes.now)) tokens.items) }
 {
     let mut tokens = Vec::new(alloc);
@@ -44,5 +45,6 @@ pub fn token_list(alloc: Global, bytes: &[u8]) -> Result<Vec<Token>, TermFault>
 /// A text has one division: from any place on, two lists of tokens that each stand one after another up to where
 /// nothing more can be divided off are the same list, with the same end.
 pub fn has_one_division()
-    ensures { (bytes : List ℕ) (at : ℕ) (xs ys : List Token) (x y : Next) → IsLast x → IsLast y → IsDividedUpTo bytes at xs x → IsDividedUpTo bytes at ys y → (xs ≡ ys) × (x ≡ y) }
+    ensures { (bytes : List ℕ) (at : ℕ) (xs ys : List Token) (x y : Next) → IsLast x → IsLast y
+        → IsDividedUpTo bytes at xs x → IsDividedUpTo bytes at ys y → (xs ≡ ys) × (x ≡ y) }
 {}
