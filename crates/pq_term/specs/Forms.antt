@@ -1,12 +1,12 @@
 -- The forms that a run may have.
-use Rattle.std.specs.Prelude.{ℕ, Bool, false, if◌then◌else◌, ◌&&◌, ◌||◌, List, [], ◌∷◌, length, nat_lt, ◌==◌, is_some, Option, Some, None}
+use Rattle.std.specs.Prelude.{ℕ, Bool, false, if◌then◌else◌, ◌&&◌, ◌||◌, List, [], ◌∷◌, length, nat_lt, ◌==◌, is_some, IsSome, IsTrue, codes, bytes_eq, Option, Some, None}
 use Rattle.std.specs.Char.{is_ascii_alphabetic}
 use Rattle.std.specs.List.{list_all, position_or_len, before_first, after_first}
 use Rattle.std.specs.Str.{byte}
 use Rattle.pq_term.specs.declared.token.Kind.{Kind}
-use Rattle.pq_term.specs.declared.token.Kind.TheVariants.{Word, Number, Mac, Ipv4, Ipv4Prefix, Ipv6}
+use Rattle.pq_term.specs.declared.token.Kind.TheVariants.{Word, Number, Mac, Ipv4, Ipv4Prefix, Ipv6, Symbol}
 use Rattle.pq_term.specs.declared.groups.Group.TheVariants.{Hex, Decimal}
-use Rattle.pq_term.specs.Bytes.{is_word_byte}
+use Rattle.pq_term.specs.Bytes.{is_word_byte, is_symbol}
 use Rattle.pq_term.specs.Numbers.{number_of, is_decimal}
 use Rattle.pq_term.specs.Groups.{are_groups}
 
@@ -57,3 +57,19 @@ form_of run =
     else (if is_ipv4_prefix run then Some Ipv4Prefix
     else (if is_ipv6 run then Some Ipv6
     else None)))))
+
+-- a symbol of one byte, or `>>`
+abbrev pub is_symbol_text : List ℕ → Bool
+is_symbol_text [] = false
+is_symbol_text (b ∷ []) = is_symbol b
+is_symbol_text (b ∷ c ∷ bs) = bytes_eq (b ∷ c ∷ bs) (codes ">>")
+
+-- the text has the form that tokens of the kind have
+abbrev pub HasForm : Kind → List ℕ → Type 0
+HasForm Word text = IsTrue (is_word text)
+HasForm Number text = IsSome (number_of text)
+HasForm Mac text = IsTrue (is_mac text)
+HasForm Ipv4 text = IsTrue (is_ipv4 text)
+HasForm Ipv4Prefix text = IsTrue (is_ipv4_prefix text)
+HasForm Ipv6 text = IsTrue (is_ipv6 text)
+HasForm Symbol text = IsTrue (is_symbol_text text)

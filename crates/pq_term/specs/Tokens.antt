@@ -7,7 +7,7 @@ use Rattle.pq_term.specs.declared.token.Token.{Token}
 use Rattle.pq_term.specs.declared.token.Next.{Next}
 use Rattle.pq_term.specs.declared.token.Next.TheVariants.{Token as Found, End, NoToken}
 use Rattle.pq_term.specs.Bytes.{is_blank, is_run_byte, is_symbol}
-use Rattle.pq_term.specs.Forms.{form_of}
+use Rattle.pq_term.specs.Forms.{form_of, HasForm}
 
 -- what follows white space and comments; the flag tells that the text begins inside a comment
 abbrev pub after_blanks : Bool → List ℕ → List ℕ
@@ -49,3 +49,13 @@ IsWithin at end (NoToken place) = (at ≤ place) × (place < end)
 -- the bytes of a token
 abbrev pub text_of : List ℕ → Token → List ℕ
 text_of bytes t = take t.len (drop t.at bytes)
+
+-- a token's bytes have the form of its kind
+abbrev pub HasItsForm : List ℕ → Token → Type 0
+HasItsForm bytes t = HasForm t.kind (text_of bytes t)
+
+-- what is found has the form of its kind
+abbrev pub IsFormed : List ℕ → Next → Type 0
+IsFormed bytes (Found t) = HasItsForm bytes t
+IsFormed bytes End = Unit {0}
+IsFormed bytes (NoToken place) = Unit {0}

@@ -1,6 +1,7 @@
 //! A text as its tokens.
 ghost use Rattle.std.specs.Prelude.{◌≡◌, ℕ, List, length, All, IfOk, IfErr};
 ghost use Rattle.pq_term.specs.Division.{IsDivision, IsDividedUpTo, IsLast, IsTokenFault, LiesWithin};
+ghost use Rattle.pq_term.specs.Tokens.{HasItsForm};
 
 use crate::scan::token_at;
 use crate::token::{Next, Token};
@@ -21,12 +22,14 @@ pub enum TermFault {
     Memory,
 }
 
-/// The tokens of the whole text, in order. `Lex` comes exactly where the division into tokens meets something that
-/// is no token, with its first byte; `Syntax` never.
+/// The tokens of the whole text, in order. Each has at least one byte, lies within the text, and has the form of its
+/// kind. `Lex` comes exactly where the division into tokens meets something that is no token, with its first byte;
+/// `Syntax` never.
 pub fn token_list(alloc: Global, bytes: &[u8]) -> Result<Vec<Token>, TermFault>
     ensures ok { IfOk result (λ tokens. IsDivision bytes.now tokens.items) }
     ensures err { IfErr result (IsTokenFault bytes.now) }
     ensures within { IfOk result (λ tokens. All (LiesWithin (length bytes.now)) tokens.items) }
+    ensures form { IfOk result (λ tokens. All (HasItsForm bytes.now) tokens.items) }
 {
     let mut tokens = Vec::new(alloc);
     let mut at = 0;
