@@ -1,2 +1,4 @@
+pub mod Compiled
 pub mod SmallForm
 pub mod SmallInstall
+pub mod SmallSpelling

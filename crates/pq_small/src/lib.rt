@@ -3,5 +3,6 @@
 #![tactic(auto)]
 
 mod small;
+mod spelling;
 
 pub use small::Small;
