@@ -1,1 +1,4 @@
+pub mod Told
+pub mod Places
+pub mod Ports
 pub mod Worked

@@ -2,6 +2,7 @@
 //! reading, its meaning, and its install as messages.
 #![tactic(auto)]
 
+mod reading;
 mod small;
 
 pub use small::Small;
