@@ -1,3 +1,4 @@
 pub mod Reading
 pub mod SmallForm
 pub mod SmallInstall
+pub mod Slots

@@ -3,6 +3,7 @@
 #![tactic(auto)]
 
 mod reading;
+mod slot;
 mod small;
 
 pub use small::Small;
