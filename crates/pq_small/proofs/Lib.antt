@@ -1,5 +1,5 @@
 pub mod Told
-pub mod Filled
-pub mod Places
 pub mod Ports
+pub mod Places
+pub mod Filled
 pub mod Worked

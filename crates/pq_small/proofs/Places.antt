@@ -6,7 +6,8 @@ use Rattle.std.proofs.Math.Seq.{drop-append_seam}
 use Rattle.std.proofs.lemmas.List.Elements.{All-head, All-tail}
 use Rattle.pq_term.specs.Numbers.{number_of}
 use Rattle.pq_model.specs.MatchFields.{IsPortNumber}
-use Rattle.pq_small.specs.SmallForm.{SmallForm, Slot, Exactly, AName, ThisName, ThisNumber, Fills, FillsAll, listed, switch_slots, part_slots, slots, KeepsRules}
+use Rattle.pq_small.specs.SmallForm.{SmallForm, Slot, Exactly, AName, ThisName, ThisNumber, Fills, FillsAll, after_commas, listed, switch_slots, part_slots, slots, KeepsRules}
+use Rattle.pq_small.proofs.Ports.{step}
 use Rattle.pq_small.specs.Reading.{short_number, port_of, with_port, ports_in, text_at, small_with, small_in}
 
 -- texts are as many as the places that they fill
@@ -48,19 +49,20 @@ in_range n range =
 spells_port : (t : List ℕ) (n : ℕ) → number_of t ≡ Some n → IsPortNumber n → port_of t ≡ Some n
 spells_port t n spelled range = ap short_number spelled ∙ in_range n range
 
+-- the ports behind commas are read
+commas_read : (ts : List (List ℕ)) (ps : List ℕ) → All IsPortNumber ps → FillsAll ts (after_commas ps) → ports_in (drop 1 ts) ≡ Some ps
+commas_read [] [] ports filled = refl
+commas_read (c ∷ ts) [] ports filled = absurd filled
+commas_read [] (p ∷ ps) ports filled = absurd filled
+commas_read (c ∷ []) (p ∷ ps) ports filled = absurd filled.1
+commas_read (c ∷ t ∷ ts) (p ∷ ps) ports filled = step t ts ∙ ap (λ o. with_port o (ports_in (drop 1 ts))) (spells_port t p filled.1.0 (All-head IsPortNumber p ps ports)) ∙ ap (with_port (Some p)) (commas_read ts ps (All-tail IsPortNumber p ps ports) filled.1.1)
+
 -- the ports of a list are read
 ports_listed : (ts : List (List ℕ)) (ps : List ℕ) → All IsPortNumber ps → FillsAll ts (listed ps) → ports_in ts ≡ Some ps
 ports_listed [] [] ports filled = refl
 ports_listed (t ∷ ts) [] ports filled = absurd filled
-ports_listed [] (p ∷ []) ports filled = absurd filled
-ports_listed (t ∷ []) (p ∷ []) ports filled = ap (λ o. with_port o (Some [])) (spells_port t p filled.0 (All-head IsPortNumber p [] ports))
-ports_listed (t ∷ u ∷ ts) (p ∷ []) ports filled = absurd filled.1
-ports_listed [] (p ∷ q ∷ ps) ports filled = absurd filled
-ports_listed (t ∷ []) (p ∷ q ∷ ps) ports filled = absurd filled.1
-ports_listed (t ∷ comma ∷ ts) (p ∷ q ∷ ps) ports filled =
-    let first = spells_port t p filled.0 (All-head IsPortNumber p (q ∷ ps) ports) in
-    let rest = ports_listed ts (q ∷ ps) (All-tail IsPortNumber p (q ∷ ps) ports) filled.1.1 in
-    ap (λ o. with_port o (ports_in ts)) first ∙ ap (with_port (Some p)) rest
+ports_listed [] (p ∷ ps) ports filled = absurd filled
+ports_listed (t ∷ ts) (p ∷ ps) ports filled = step t ts ∙ ap (λ o. with_port o (ports_in (drop 1 ts))) (spells_port t p filled.0 (All-head IsPortNumber p ps ports)) ∙ ap (with_port (Some p)) (commas_read ts ps (All-tail IsPortNumber p ps ports) filled.1)
 
 -- what a document says, from its parts
 joined : (s : SmallForm) (name : List ℕ) (datapath from to : Option ℕ) (ports : Option (List ℕ)) →

@@ -10,7 +10,7 @@ after_ports ps None = None
 after_ports ps (Some qs) = Some (ps ++ qs)
 
 -- a text, and what follows the next one
-step : (t : List ℕ) (ts : List (List ℕ)) → ports_in (t ∷ ts) ≡ with_port (port_of t) (ports_in (drop 1 ts))
+pub step : (t : List ℕ) (ts : List (List ℕ)) → ports_in (t ∷ ts) ≡ with_port (port_of t) (ports_in (drop 1 ts))
 step t [] = refl
 step t (comma ∷ ts) = refl
 
