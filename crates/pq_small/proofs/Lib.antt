@@ -4,6 +4,7 @@ pub mod Installed
 pub mod Places
 pub mod Ports
 pub mod Rules
+pub mod Spelled
 pub mod Told
 pub mod Tokens
 pub mod Worked
