@@ -2,6 +2,7 @@ pub mod CommutingFlows
 pub mod CommutingGroups
 pub mod Examples
 pub mod Filters
+pub mod FreeOfOrder
 pub mod LawfulOrders
 pub mod Reorderings
 pub mod SameTables
