@@ -9,7 +9,7 @@ use Rattle.pq_model.specs.declared.group_mod.GroupCommand.TheVariants.{Delete}
 use Rattle.pq_model.specs.declared.message.Message.{Message}
 use Rattle.pq_model.specs.declared.message.Message.TheVariants.{Flow, Group as Grouping, Barrier}
 use Rattle.pq_model.specs.MatchFields.{MatchFields, empty_match}
-use Rattle.pq_model.specs.Topology.{Topology}
+use Rattle.pq_model.specs.Topology.{Switch, Link, Topology}
 use Rattle.pq_model.specs.SwitchMachine.{all_groups}
 use Rattle.pq_model.specs.Install.{Install}
 
@@ -31,22 +31,18 @@ pair_topology = record { switches = record { name = codes "s1"; datapath = 1; po
 
 abbrev pub tiny_old : Install
 tiny_old = record {
-  topology = pair_topology;
-  queries = [];
-  report = [];
-  messages = (delete_entries ∷ delete_groups ∷ Barrier 3 ∷ Barrier 4
-      ∷ add 5 0 65535 (at_tag (Some 1) 0) (Output 2 ∷ []) None ∷ add 6 0 65534 (at_tag None 0) [] None ∷ Barrier 7 ∷ []) ∷ [];
-}
+    topology = pair_topology; queries = []; report = [];
+    messages = (delete_entries ∷ delete_groups ∷ Barrier 3 ∷ Barrier 4
+      ∷ add 5 0 65535 (at_tag (Some 1) 0) (Output 2 ∷ []) None ∷ add 6 0 65534 (at_tag None 0) [] None ∷ Barrier 7 ∷ []) ∷ []
+  }
 
 abbrev pub tiny : Install
 tiny = record {
-  topology = pair_topology;
-  queries = [];
-  report = [];
-  messages = (delete_entries ∷ delete_groups ∷ Barrier 3 ∷ Barrier 4
+    topology = pair_topology; queries = []; report = [];
+    messages = (delete_entries ∷ delete_groups ∷ Barrier 3 ∷ Barrier 4
       ∷ add 5 0 65535 (at_tag (Some 1) 0) (PushVlan ∷ SetVlan 0x1002 ∷ []) (Some 1)
       ∷ add 6 0 65534 (at_tag (Some 2) 0) (PushVlan ∷ SetVlan 0x1002 ∷ []) (Some 1)
       ∷ add 7 0 65533 (at_tag None 0) [] None
       ∷ add 8 1 65535 (at_tag (Some 1) 0x1002) (PopVlan ∷ Output 2 ∷ []) None
-      ∷ add 9 1 65534 (at_tag None 0x1002) [] None ∷ Barrier 10 ∷ []) ∷ [];
-}
+      ∷ add 9 1 65534 (at_tag None 0x1002) [] None ∷ Barrier 10 ∷ []) ∷ []
+  }
