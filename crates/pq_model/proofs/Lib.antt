@@ -4,7 +4,10 @@ pub mod Examples
 pub mod Filters
 pub mod FreeOfOrder
 pub mod LawfulOrders
+pub mod Pairs
 pub mod Reorderings
 pub mod SameTables
+pub mod Schedules
 pub mod Sending
+pub mod WorkedRuns
 pub mod WorkedSpellings

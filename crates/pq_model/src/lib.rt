@@ -12,6 +12,7 @@ mod group_mod;
 mod matching;
 mod message;
 mod orders;
+mod simulation;
 mod tagged;
 
 pub use action::Action;
@@ -28,4 +29,5 @@ pub use message::Message;
 pub use orders::{
     lawful_orders_leave_the_same_tables, messages_keep_tables_the_same, same_tables_send_the_same,
 };
+pub use simulation::{Correspondence, agreeing_hops_make_schedules_agree};
 pub use tagged::{Sent, Tagged};

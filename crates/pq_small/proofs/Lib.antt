@@ -1,0 +1,3 @@
+pub mod Implements
+pub mod Installed
+pub mod Worked

@@ -1,0 +1,7 @@
+//! The small form of a document: one switch, and one rule that sends what enters at one port out at another. Its
+//! reading, its meaning, and its install as messages.
+#![tactic(auto)]
+
+mod small;
+
+pub use small::Small;
