@@ -6,6 +6,7 @@ pub mod FreeOfOrder
 pub mod LawfulOrders
 pub mod Pairs
 pub mod Reorderings
+pub mod Renewals
 pub mod SameTables
 pub mod Schedules
 pub mod Sending

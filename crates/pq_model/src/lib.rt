@@ -12,6 +12,7 @@ mod group_mod;
 mod matching;
 mod message;
 mod orders;
+mod renewal;
 mod simulation;
 mod tagged;
 
@@ -29,5 +30,6 @@ pub use message::Message;
 pub use orders::{
     lawful_orders_leave_the_same_tables, messages_keep_tables_the_same, same_tables_send_the_same,
 };
+pub use renewal::renewals_leave_what_they_add;
 pub use simulation::{Correspondence, agreeing_hops_make_schedules_agree};
 pub use tagged::{Sent, Tagged};
