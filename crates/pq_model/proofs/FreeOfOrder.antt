@@ -12,8 +12,8 @@ use Rattle.pq_model.specs.Mods.{FlowValue, GroupValue}
 use Rattle.pq_model.specs.SwitchMachine.{Entry, Tables, entry_of, is_placed, groups_named, changes_entries, applies_all}
 use Rattle.pq_model.specs.Orders.{AreApart, CommutesUpToBarrier, HaveOwnPriorities, IsFreeOfOrder}
 use Rattle.pq_model.proofs.Reorderings.{all-at}
-use Rattle.pq_model.proofs.CommutingFlows.{add-add}
-use Rattle.pq_model.proofs.CommutingGroups.{put-put}
+use Rattle.pq_model.proofs.CommutingFlows.{add-add, delete-delete, delete-group}
+use Rattle.pq_model.proofs.CommutingGroups.{put-put, delete-delete as group_delete-delete}
 
 module _ (xid : ℕ) (ms : List Message) where
   commutes-parted : (m : Message) (block : List Message) → CommutesUpToBarrier m block → CommutesUpToBarrier m (block ++ Barrier xid ∷ ms)
@@ -53,6 +53,27 @@ pub puts-free : (gs : List GroupValue) → AllByRecursion (λ g. g.command ≢ D
 unfolding IsDistinct
 puts-free [] all own = tt
 puts-free (g ∷ gs) (is, all) (apart, own) = (puts-commute g is gs all apart, puts-free gs all own)
+
+module _ (gs : List GroupValue) where
+  delete-commutes : (f : FlowValue) → f.command ≢ Add → (fs : List FlowValue) → AllByRecursion (λ g. g.command ≢ Add) fs → CommutesUpToBarrier (Flow f) (map Flow fs ++ map Group gs)
+  delete-commutes f is [] none = with_groups gs
+    where
+      with_groups : (hs : List GroupValue) → CommutesUpToBarrier (Flow f) (map Group hs)
+      with_groups [] = tt
+      with_groups (h ∷ hs) = (delete-group f h is, with_groups hs)
+  delete-commutes f is (g ∷ fs) (here, rest) = (delete-delete f g is here, delete-commutes f is fs rest)
+
+group-commutes : (g : GroupValue) → g.command ≡ Delete → (gs : List GroupValue) → AllByRecursion (λ h. h.command ≡ Delete) gs → CommutesUpToBarrier (Group g) (map Group gs)
+group-commutes g is [] all = tt
+group-commutes g is (h ∷ gs) (here, rest) = (group_delete-delete g h is here, group-commutes g is gs rest)
+
+group_deletes-free : (gs : List GroupValue) → AllByRecursion (λ g. g.command ≡ Delete) gs → IsFreeOfOrder (map Group gs)
+group_deletes-free [] all = tt
+group_deletes-free (g ∷ gs) (here, rest) = (group-commutes g here gs rest, group_deletes-free gs rest)
+
+pub deletes-free : (fs : List FlowValue) (gs : List GroupValue) → AllByRecursion (λ f. f.command ≢ Add) fs → AllByRecursion (λ g. g.command ≡ Delete) gs → IsFreeOfOrder (map Flow fs ++ map Group gs)
+deletes-free [] gs none all = group_deletes-free gs all
+deletes-free (f ∷ fs) gs (is, none) all = (delete-commutes gs f is fs none, deletes-free fs gs none all)
 
 -- what Adds leave
 

@@ -24,6 +24,11 @@ pub fn group_mods_are_free_of_order()
     ensures { (gs : List GroupValue) → AllByRecursion (λ g. g.command ≢ Delete) gs → IsDistinct nat_eq (map (λ g. g.group) gs) → IsFreeOfOrder (map Group gs) }
 {}
 
+/// Flow mods that are no Adds and DELETEs of groups are free of order.
+pub fn deletes_are_free_of_order()
+    ensures { (fs : List FlowValue) (gs : List GroupValue) → AllByRecursion (λ f. f.command ≢ Add) fs → AllByRecursion (λ g. g.command ≡ Delete) gs → IsFreeOfOrder (map Flow fs ++ map Group gs) }
+{}
+
 /// Adds whose groups are there put their entries behind those that are there, if all of these
 /// differ in priority wherever they are of one table.
 pub fn adds_leave_their_entries()
