@@ -1,17 +1,17 @@
 -- A renewal leaves what it adds.
-use Rattle.std.proofs.Common.{◌≡◌, ◌≢◌, ℕ, Bool, true, false, cond, List, [], ◌∷◌, ◌++◌, ◌==◌, map, nat_eq, nat_cmp, is_some, if◌then◌else◌, refl, sym, ap, subst, ◌∙◌, append_assoc, append-nil, arith}
+use Rattle.std.proofs.Common.{◌≡◌, ◌≢◌, ℕ, false, cond, List, [], ◌∷◌, ◌++◌, ◌==◌, map, nat_eq, nat_cmp, is_some, if◌then◌else◌, refl, sym, ap, subst, ◌∙◌, append_assoc, append-nil, arith}
 use Rattle.std.specs.declared.option.Option.TheVariants.{None, Some}
 use Rattle.std.proofs.lemmas.Bool.Decides.{nat_tests}
 use Rattle.std.proofs.lemmas.List.{map-append}
-use Rattle.std.specs.List.{AllByRecursion, IsDistinct, list_all}
-use Rattle.std.specs.FinMap.{contains_key, find, from_entries, insert, get-from_entries, from_entries_push, nat_cmp-IsAntisymmetric}
+use Rattle.std.specs.List.{AllByRecursion, IsDistinct}
+use Rattle.std.specs.FinMap.{find, from_entries, insert, get-from_entries, from_entries_push, nat_cmp-IsAntisymmetric}
 use Rattle.std.specs.Cmp.{nat_cmp_total, unsigned_tied}
 use Rattle.pq_model.specs.declared.action.Action.{Action}
 use Rattle.pq_model.specs.declared.group_mod.GroupCommand.TheVariants.{Add, Delete}
 use Rattle.pq_model.specs.declared.message.Message.{Message}
 use Rattle.pq_model.specs.declared.message.Message.TheVariants.{Flow, Group, Barrier}
-use Rattle.pq_model.specs.Mods.{FlowValue, GroupValue}
-use Rattle.pq_model.specs.SwitchMachine.{Entry, Tables, all_groups, no_tables, applies, applies_all, changes_groups, sends}
+use Rattle.pq_model.specs.Mods.{GroupValue}
+use Rattle.pq_model.specs.SwitchMachine.{Entry, Tables, no_tables, applies, applies_all, changes_groups, sends}
 use Rattle.pq_model.specs.Orders.{AreSame, IsFreeOfOrder, IsLawfulOrder}
 use Rattle.pq_model.specs.Renewal.{Renewal, renewal_messages, renewed, IsRenewing}
 use Rattle.pq_model.proofs.Reorderings.{all-at}
@@ -46,8 +46,8 @@ groups-leave : (gs : List GroupValue) (entries : List Entry) (es : Pairs) → Al
 groups-leave [] entries es all own = λ i. record { entries = entries; groups = from_entries (sym (append-nil es) i) }
 groups-leave (g ∷ gs) entries es (is, all) own =
     ap (λ t. applies_all t (map Group gs)) one
-      ∙ groups-leave gs entries (es ++ numbered g ∷ []) all (subst (IsDistinct nat_eq) (sym keys) own)
-      ∙ (λ i. record { entries = entries; groups = from_entries (append_assoc es (numbered g ∷ []) (map numbered gs) i) })
+    ∙ groups-leave gs entries (es ++ numbered g ∷ []) all (subst (IsDistinct nat_eq) (sym keys) own)
+    ∙ (λ i. record { entries = entries; groups = from_entries (append_assoc es (numbered g ∷ []) (map numbered gs) i) })
   where
     none : find nat_cmp g.group es ≡ None
     none = not_found es g.group (map (λ x. x.group) gs) own
@@ -76,10 +76,10 @@ emptied r h t = rw (h.entries_away, h.groups_away.0, h.groups_away.1) refl
 pub renewal-leaves : (r : Renewal) → IsRenewing r → (t : Tables) → applies_all t (renewal_messages r) ≡ renewed r
 renewal-leaves r h t =
     ap (λ s. applies_all s (map Group r.groups ++ Barrier r.grouped ∷ (map Flow r.entries ++ Barrier r.filled ∷ []))) (emptied r h t)
-      ∙ applies_all-append no_tables (map Group r.groups) (Barrier r.grouped ∷ (map Flow r.entries ++ Barrier r.filled ∷ []))
-      ∙ ap (λ s. applies_all s (map Flow r.entries ++ Barrier r.filled ∷ [])) (groups-leave r.groups [] [] h.groups h.numbers)
-      ∙ applies_all-append (record { entries = []; groups = (renewed r).groups }) (map Flow r.entries) (Barrier r.filled ∷ [])
-      ∙ adds-leave r.entries (record { entries = []; groups = (renewed r).groups }) h.entries h.named h.priorities
+    ∙ applies_all-append no_tables (map Group r.groups) (Barrier r.grouped ∷ (map Flow r.entries ++ Barrier r.filled ∷ []))
+    ∙ ap (λ s. applies_all s (map Flow r.entries ++ Barrier r.filled ∷ [])) (groups-leave r.groups [] [] h.groups h.numbers)
+    ∙ applies_all-append (record { entries = []; groups = (renewed r).groups }) (map Flow r.entries) (Barrier r.filled ∷ [])
+    ∙ adds-leave r.entries (record { entries = []; groups = (renewed r).groups }) h.entries h.named h.priorities
 
 pub renewal-same : (r : Renewal) → IsRenewing r → (t : Tables) (order : List Message) → IsLawfulOrder (renewal_messages r) order → AreSame (renewed r) (applies_all t order)
 renewal-same r h t order lawful =

@@ -19,8 +19,7 @@ mod tagged;
 pub use action::Action;
 pub use blocks::{
     adds_are_free_of_order, adds_leave_their_entries, blocks_between_barriers_are_free_of_order,
-    deletes_are_free_of_order,
-    group_mods_are_free_of_order,
+    deletes_are_free_of_order, group_mods_are_free_of_order,
 };
 pub use commuting::{commuting_is_symmetric, flow_mods_commute, group_mods_commute};
 pub use event::Event;
