@@ -7,6 +7,8 @@ mod flow;
 mod group;
 mod message;
 mod set_field;
+#[cfg(test)]
+mod tests;
 
 pub use message::write_message;
 pub use pq_model::{Action, FlowCommand, FlowMod, GroupCommand, GroupMod, Message};

@@ -7,6 +7,8 @@ mod matching;
 mod oxm;
 pub mod oxm_field;
 mod stated;
+#[cfg(test)]
+mod tests;
 
 pub use bytes::{padding, write_length, write_zeros};
 pub use matching::{keeps_rules, write_match};

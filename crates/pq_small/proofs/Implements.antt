@@ -70,6 +70,7 @@ sends_departures s rules x edge = by (x.port == s.from) (has_port s s.from) (has
   where
     there : is_port (topology_of s) x.switch s.to ≡ has_port s s.to
     there = ap (λ d. is_port (topology_of s) d s.to) (sym (at_switch s x edge))
+
     by : (b f t : Bool) → (x.port == s.from) ≡ b → has_port s s.from ≡ f → has_port s s.to ≡ t
         → sends (tables_where (f && t) s) (plain x) ≡ map (λ y. Port (plain y)) (if b && is_port (topology_of s) x.switch s.to then record x { port = s.to } ∷ [] else [])
     by true true true b f t = rw (there, t) (sent_plain s rules x true b)
@@ -111,7 +112,7 @@ module _ (s : SmallForm) (rules : KeepsRules s) (send : Sender) (sent : (y : Tag
       record {
         flight = rw leaves (carries_nothing s x (entered w x) b);
         delivered = rw leaves (delivers_all s x b (second_of (x.port == s.from) (is_port (topology_of s) x.switch s.to)));
-        buckets = rw leaves (collects_nothing s x b)
+        buckets = rw leaves (collects_nothing s x b);
       }
 
   stranger_agrees : (x : Numbers) (t : ℕ) → IsEdge s x → HopAgrees (meaning_of s) [] send (Stands s) (Stranger x) (record { packet = x; vlan = Some t })

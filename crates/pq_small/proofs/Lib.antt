@@ -1,3 +1,9 @@
+pub mod Filled
 pub mod Implements
 pub mod Installed
+pub mod Places
+pub mod Ports
+pub mod Rules
+pub mod Told
+pub mod Tokens
 pub mod Worked

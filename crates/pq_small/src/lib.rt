@@ -2,6 +2,9 @@
 //! reading, its meaning, and its install as messages.
 #![tactic(auto)]
 
+mod reading;
+mod slot;
 mod small;
+mod spelling;
 
 pub use small::Small;
