@@ -1,12 +1,12 @@
 -- What a document of the small form says stands at its places.
-use Rattle.std.proofs.Common.{◌≡◌, ℕ, zero, suc, ◌+◌, ◌-◌, ◌<◌, ◌≤◌, ◌^◌, nat_lt, List, [], ◌∷◌, ◌++◌, length, get_or, take, drop, ap, sym, subst, refl, ◌∙◌, arith, None, Some, Option, nat_le, ◌&&◌, true, cond}
+use Rattle.std.proofs.Common.{◌≡◌, ℕ, zero, suc, ◌+◌, ◌-◌, ◌<◌, ◌^◌, nat_lt, List, [], ◌∷◌, ◌++◌, length, get_or, take, drop, ap, sym, subst, refl, ◌∙◌, arith, None, Some, Option, true, cond}
 use Rattle.std.specs.List.{All}
-use Rattle.std.proofs.lemmas.List.{length-append, get_or-drop, length-drop, length-take-le}
+use Rattle.std.proofs.lemmas.List.{length-append, get_or-drop}
 use Rattle.std.proofs.Math.Seq.{drop-append_seam}
 use Rattle.std.proofs.lemmas.List.Elements.{All-head, All-tail}
 use Rattle.pq_term.specs.Numbers.{number_of}
 use Rattle.pq_model.specs.MatchFields.{IsPortNumber}
-use Rattle.pq_small.specs.SmallForm.{SmallForm, Slot, Exactly, AName, ThisName, ThisNumber, Fills, FillsAll, after_commas, listed, switch_slots, part_slots, slots, KeepsRules}
+use Rattle.pq_small.specs.SmallForm.{SmallForm, Slot, AName, Fills, FillsAll, after_commas, listed, switch_slots, part_slots, slots, KeepsRules}
 use Rattle.pq_small.proofs.Ports.{step}
 use Rattle.pq_small.specs.Reading.{short_number, port_of, with_port, ports_in, text_at, small_with, small_in}
 

@@ -1,5 +1,5 @@
 -- The ports of a list, read one after another.
-use Rattle.std.proofs.Common.{◌≡◌, ℕ, ◌-◌, ◌≤◌, List, [], ◌∷◌, ◌++◌, map, length, get_or, take, drop, ap, sym, refl, ◌∙◌, None, Some, Option, Bor, append_assoc, arith}
+use Rattle.std.proofs.Common.{◌≡◌, ℕ, ◌-◌, ◌≤◌, List, [], ◌∷◌, ◌++◌, length, get_or, take, drop, ap, sym, refl, ◌∙◌, None, Some, Option, Bor, append_assoc, arith}
 use Rattle.std.proofs.lemmas.List.{take_rest, drop-map}
 use Rattle.pq_small.proofs.Told.{told, no_text}
 use Rattle.pq_small.specs.Reading.{port_of, with_port, ports_in}

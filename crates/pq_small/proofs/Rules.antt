@@ -1,6 +1,6 @@
 -- The rules of the form, and the test of them.
-use Rattle.std.proofs.Common.{◌≡◌, refl, ℕ, ◌<◌, ◌≤◌, ◌==◌, ◌||◌, ◌&&◌, ◌^◌, Bool, true, false, not, List, [], ◌∷◌, length, sym, ◌∙◌, arith, nat_le, IsTrue, ◌↔◌}
-use Rattle.std.specs.List.{All, AllPass, AllByRecursion, IsDistinct, list_any, list_all}
+use Rattle.std.proofs.Common.{◌≡◌, refl, ℕ, ◌<◌, ◌==◌, ◌&&◌, ◌^◌, true, false, not, List, [], ◌∷◌, length, arith, nat_le, IsTrue, ◌↔◌}
+use Rattle.std.specs.List.{AllByRecursion, IsDistinct, list_any, list_all}
 use Rattle.std.specs.Bool.{nat_eq}
 use Rattle.std.proofs.lemmas.Bool.{and_parts, and_from, or_parts, or_from, not-true, not_from_false, leb-true, le-leb}
 use Rattle.std.proofs.lemmas.List.Sums.{AllPass-from_list_all, list_all-from_AllPass}

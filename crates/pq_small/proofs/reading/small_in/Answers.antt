@@ -1,4 +1,4 @@
-use Rattle.std.proofs.Common.{ap, sym, ◌∙◌, map, None, Some}
+use Rattle.std.proofs.Common.{ap, sym, ◌∙◌}
 use Rattle.std.specs.Option.{option_map}
 use Rattle.pq_small.proofs.Told.{found, not_found}
 use Rattle.pq_small.proofs.reading.small_in.Goals as goal
