@@ -4,4 +4,5 @@ pub mod Places
 pub mod Filled
 pub mod Rules
 pub mod Tokens
+pub mod Forms
 pub mod Worked
