@@ -7,4 +7,5 @@ pub mod Rules
 pub mod Spelled
 pub mod Told
 pub mod Tokens
+pub mod Forms
 pub mod Worked

@@ -11,14 +11,14 @@ use Rattle.pq_small.proofs.Ports.{step}
 use Rattle.pq_small.specs.Reading.{short_number, port_of, with_port, ports_in, text_at, small_with, small_in}
 
 -- texts are as many as the places that they fill
-fills_length : (ts : List (List ℕ)) (ss : List Slot) → FillsAll ts ss → length ts ≡ length ss
+pub fills_length : (ts : List (List ℕ)) (ss : List Slot) → FillsAll ts ss → length ts ≡ length ss
 fills_length [] [] filled = refl
 fills_length [] (s ∷ ss) filled = absurd filled
 fills_length (t ∷ ts) [] filled = absurd filled
 fills_length (t ∷ ts) (s ∷ ss) filled = ap suc (fills_length ts ss filled.1)
 
 -- the text at each place fills it
-fills_at : (ts : List (List ℕ)) (ss : List Slot) → FillsAll ts ss → (i : ℕ) (s : Slot) → i < length ts → Fills (text_at ts i) (get_or ss i s)
+pub fills_at : (ts : List (List ℕ)) (ss : List Slot) → FillsAll ts ss → (i : ℕ) (s : Slot) → i < length ts → Fills (text_at ts i) (get_or ss i s)
 fills_at [] [] filled i d within = absurd (omega (arith, within))
 fills_at [] (s ∷ ss) filled i d within = absurd filled
 fills_at (t ∷ ts) [] filled i d within = absurd filled

@@ -36,7 +36,7 @@ from_distinct [] d = refl
 from_distinct (p ∷ ps) d = and_from (not (list_any (λ q. q == p) ps)) (are_distinct ps) (not_from_false (list_any (λ q. q == p) ps) (from_apart p ps d.0)) (from_distinct ps d.1)
 
 -- the test tells that the rules are kept
-kept : (s : SmallForm) → s.datapath < 2 ^ 64 → keeps_rules s ≡ true → KeepsRules s
+pub kept : (s : SmallForm) → s.datapath < 2 ^ 64 → keeps_rules s ≡ true → KeepsRules s
 kept s datapath test =
     let some = nat_le 1 (length s.ports) in
     let few = nat_le (length s.ports) 16 in
@@ -58,7 +58,7 @@ kept s datapath test =
     }
 
 -- where the rules are kept the test tells it
-tested : (s : SmallForm) → KeepsRules s → keeps_rules s ≡ true
+pub tested : (s : SmallForm) → KeepsRules s → keeps_rules s ≡ true
 tested s rules =
     let some = nat_le 1 (length s.ports) in
     let few = nat_le (length s.ports) 16 in
@@ -73,7 +73,3 @@ tested s rules =
                 (from_distinct s.ports rules.distinct))
             (from_range s.from rules.from))
         (from_range s.to rules.to)
-
--- the test decides the rules
-pub decided : (s : SmallForm) → s.datapath < 2 ^ 64 → IsTrue (keeps_rules s) ↔ KeepsRules s
-decided s datapath = (kept s datapath, tested s)

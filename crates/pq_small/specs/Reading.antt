@@ -4,7 +4,7 @@ use Rattle.std.specs.List.{list_any, list_all}
 use Rattle.std.specs.declared.option.Option.{Option}
 use Rattle.std.specs.declared.option.Option.TheVariants.{None, Some}
 use Rattle.pq_term.specs.Numbers.{number_of}
-use Rattle.pq_small.specs.SmallForm.{SmallForm}
+use Rattle.pq_small.specs.SmallForm.{SmallForm, FillsAll, slots, KeepsRules}
 
 -- the number, where it has 32 bits
 abbrev pub short_number : Option ℕ → Option ℕ
@@ -57,3 +57,7 @@ is_port_number n = nat_le 1 n && nat_le n 0xffffff00
 -- the rules of the form, as a test
 abbrev pub keeps_rules : SmallForm → Bool
 keeps_rules s = nat_le 1 (length s.ports) && nat_le (length s.ports) 16 && list_all is_port_number s.ports && are_distinct s.ports && is_port_number s.from && is_port_number s.to
+
+-- the texts fill the places of the form that says this, which keeps its rules
+abbrev pub IsForm : List (List ℕ) → SmallForm → Type 0
+IsForm texts s = FillsAll texts (slots s) × KeepsRules s
