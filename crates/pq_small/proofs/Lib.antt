@@ -5,4 +5,5 @@ pub mod Filled
 pub mod Rules
 pub mod Tokens
 pub mod Forms
+pub mod Ascending
 pub mod Worked

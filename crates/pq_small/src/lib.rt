@@ -6,7 +6,9 @@ mod install;
 mod reading;
 mod slot;
 mod small;
+mod sorted;
 
-pub use install::{install, sorted_ports};
+pub use install::install_messages;
 pub use reading::{is_one_small_form, read_small};
 pub use small::Small;
+pub use sorted::sorted_ports;
