@@ -6,4 +6,5 @@ pub mod Rules
 pub mod Tokens
 pub mod Forms
 pub mod Ascending
+pub mod LawfulPorts
 pub mod Worked

@@ -25,12 +25,12 @@ from_apart p [] none = refl
 from_apart p (q ∷ ps) none = or_from (q == p) (list_any (λ r. r == p) ps) (grind (arith, none.0)) (from_apart p ps none.1)
 
 -- distinct ports
-distinct : (ps : List ℕ) → are_distinct ps ≡ true → IsDistinct nat_eq ps
+pub distinct : (ps : List ℕ) → are_distinct ps ≡ true → IsDistinct nat_eq ps
 unfolding IsDistinct
 distinct [] test = tt
 distinct (p ∷ ps) test = let t = and_parts (not (list_any (λ q. q == p) ps)) (are_distinct ps) test in (apart p ps (not-true (list_any (λ q. q == p) ps) t.0), distinct ps t.1)
 
-from_distinct : (ps : List ℕ) → IsDistinct nat_eq ps → are_distinct ps ≡ true
+pub from_distinct : (ps : List ℕ) → IsDistinct nat_eq ps → are_distinct ps ≡ true
 unfolding IsDistinct
 from_distinct [] d = refl
 from_distinct (p ∷ ps) d = and_from (not (list_any (λ q. q == p) ps)) (are_distinct ps) (not_from_false (list_any (λ q. q == p) ps) (from_apart p ps d.0)) (from_distinct ps d.1)
