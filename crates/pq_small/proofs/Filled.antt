@@ -1,6 +1,5 @@
 -- Places and the texts that fill them, one after another.
-use Rattle.std.proofs.Common.{◌≡◌, ℕ, ◌==◌, ◌↔◌, Bool, true, IsTrue, List, [], ◌∷◌, map, length, sym, ◌∙◌, Bor, arith}
-use Rattle.std.proofs.lemmas.Bool.{false≢true}
+use Rattle.std.proofs.Common.{◌≡◌, ℕ, ◌==◌, ◌↔◌, Bool, true, IsTrue, List, [], ◌∷◌, map, length, Bor, arith}
 use Rattle.pq_small.specs.declared.slot.Slot.{Slot as Place}
 use Rattle.pq_small.specs.SmallForm.{FillsAll}
 use Rattle.pq_small.specs.Slots.{slot_value}

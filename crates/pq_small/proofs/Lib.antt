@@ -7,4 +7,5 @@ pub mod Tokens
 pub mod Forms
 pub mod Ascending
 pub mod LawfulPorts
+pub mod LawfulInstall
 pub mod Worked

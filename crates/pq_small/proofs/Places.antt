@@ -1,12 +1,12 @@
 -- What a document of the small form says stands at its places.
-use Rattle.std.proofs.Common.{◌≡◌, ℕ, zero, suc, ◌+◌, ◌-◌, ◌<◌, ◌≤◌, ◌^◌, nat_lt, List, [], ◌∷◌, ◌++◌, length, get_or, take, drop, ap, sym, subst, refl, ◌∙◌, arith, None, Some, Option, nat_le, ◌&&◌, true, cond}
+use Rattle.std.proofs.Common.{◌≡◌, ℕ, zero, suc, ◌+◌, ◌-◌, ◌<◌, ◌^◌, nat_lt, List, [], ◌∷◌, ◌++◌, length, get_or, take, drop, ap, sym, subst, refl, ◌∙◌, arith, None, Some, Option, true, cond}
 use Rattle.std.specs.List.{All}
-use Rattle.std.proofs.lemmas.List.{length-append, get_or-drop, length-drop, length-take-le}
+use Rattle.std.proofs.lemmas.List.{length-append, get_or-drop}
 use Rattle.std.proofs.Math.Seq.{drop-append_seam}
 use Rattle.std.proofs.lemmas.List.Elements.{All-head, All-tail}
 use Rattle.pq_term.specs.Numbers.{number_of}
 use Rattle.pq_model.specs.MatchFields.{IsPortNumber}
-use Rattle.pq_small.specs.SmallForm.{SmallForm, Slot, Exactly, AName, ThisName, ThisNumber, Fills, FillsAll, after_commas, listed, switch_slots, part_slots, slots, KeepsRules}
+use Rattle.pq_small.specs.SmallForm.{SmallForm, Slot, AName, Fills, FillsAll, after_commas, listed, switch_slots, part_slots, slots, KeepsRules}
 use Rattle.pq_small.proofs.Ports.{step}
 use Rattle.pq_small.specs.Reading.{short_number, port_of, with_port, ports_in, text_at, small_with, small_in}
 
@@ -90,7 +90,7 @@ says ts s rules filled =
     let from = fills_at (drop n (drop 5 ts)) back end 8 AName (omega (arith, many)) in
     let to = fills_at (drop n (drop 5 ts)) back end 13 AName (omega (arith, many)) in
     joined s (text_at ts 1) (number_of (text_at ts 3)) (port_of (text_at ts (length ts - 8))) (port_of (text_at ts (length ts - 3))) (ports_in (take (length ts - 16 - 5) (drop 5 ts)))
-        name.1 datapath
-        (ap port_of (sym (behind ts n 8 (length ts - 8) (omega (arith, count)))) ∙ spells_port (text_at (drop n (drop 5 ts)) 8) s.from from rules.from)
-        (ap port_of (sym (behind ts n 13 (length ts - 3) (omega (arith, count)))) ∙ spells_port (text_at (drop n (drop 5 ts)) 13) s.to to rules.to)
-        (ap (λ k. ports_in (take k (drop 5 ts))) (omega (arith, count)) ∙ ports)
+    name.1 datapath
+    (ap port_of (sym (behind ts n 8 (length ts - 8) (omega (arith, count)))) ∙ spells_port (text_at (drop n (drop 5 ts)) 8) s.from from rules.from)
+    (ap port_of (sym (behind ts n 13 (length ts - 3) (omega (arith, count)))) ∙ spells_port (text_at (drop n (drop 5 ts)) 13) s.to to rules.to)
+    (ap (λ k. ports_in (take k (drop 5 ts))) (omega (arith, count)) ∙ ports)

@@ -1,11 +1,10 @@
 -- The tokens of a text lie within it.
-use Rattle.std.proofs.Common.{◌≡◌, ℕ, ◌+◌, ◌-◌, ◌<◌, ◌≤◌, ◌==◌, Bool, true, false, not, cond, List, [], ◌∷◌, length, drop, length-drop, subst, sym, arith}
+use Rattle.std.proofs.Common.{◌≡◌, ℕ, ◌+◌, ◌-◌, ◌≤◌, ◌==◌, Bool, true, false, not, List, [], ◌∷◌, length, drop, length-drop, subst, arith}
 use Rattle.std.specs.List.{All}
 use Rattle.std.proofs.lemmas.Bool.{cond_both}
 use Rattle.std.proofs.lemmas.List.Elements.{All-cons, All-nil}
 use Rattle.pq_term.specs.declared.token.Token.{Token}
 use Rattle.pq_term.specs.declared.token.Next.{Next}
-use Rattle.pq_term.specs.declared.token.Next.TheVariants.{Token as Found, End, NoToken}
 use Rattle.pq_term.specs.Bytes.{is_blank}
 use Rattle.pq_term.specs.Tokens.{after_blanks, first_token, next_of, IsWithin}
 use Rattle.pq_term.specs.Division.{IsDividedUpTo}

@@ -1,9 +1,8 @@
 -- Texts behind references.
-use Rattle.std.proofs.Common.{◌≡◌, ℕ, ◌-◌, ◌≤◌, List, [], ◌∷◌, map, length, get_or, take, drop, ap, sym, refl, ◌∙◌, None, Some, Option, Bor}
+use Rattle.std.proofs.Common.{◌≡◌, ℕ, ◌-◌, List, [], map, length, get_or, take, drop, ap, sym, refl, ◌∙◌, None, Some, Option, Bor}
 use Rattle.std.proofs.lemmas.List.{length-map, take-map, drop-map}
 use Rattle.std.proofs.Math.ListN.{get_or-map}
 use Rattle.pq_term.specs.Numbers.{number_of}
-use Rattle.pq_small.specs.SmallForm.{SmallForm}
 use Rattle.pq_small.specs.Reading.{port_of, ports_in, text_at, small_with, small_in}
 
 -- the texts themselves

@@ -8,7 +8,7 @@ mod slot;
 mod small;
 mod sorted;
 
-pub use install::install_messages;
+pub use install::{install_messages, is_lawful_install};
 pub use reading::{is_one_small_form, read_small};
 pub use small::Small;
 pub use sorted::sorted_ports;

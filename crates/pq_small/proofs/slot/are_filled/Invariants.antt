@@ -1,4 +1,4 @@
-use Rattle.std.proofs.Common.{◌≡◌, ◌↔◌, map, length}
+use Rattle.std.proofs.Common.{◌↔◌, map, length}
 use Rattle.pq_small.specs.SmallForm.{FillsAll}
 use Rattle.pq_small.specs.Slots.{slot_value}
 use Rattle.pq_small.proofs.slot.are_filled.Given as goal
