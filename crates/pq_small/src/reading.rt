@@ -4,8 +4,8 @@ ghost use Rattle.pq_term.specs.Tokens.{text_of};
 ghost use Rattle.pq_small.specs.SmallForm.{SmallForm, IsSmallForm};
 ghost use Rattle.pq_small.specs.Reading.{port_of, ports_in, small_in, IsForm};
 
-use crate::small::Small;
 use crate::slot::{are_filled, slots_of};
+use crate::small::Small;
 use pq_term::{TermFault, Token, number_value, token_list};
 use std::alloc::{AllocError, Global};
 
