@@ -6,6 +6,7 @@ ghost use Rattle.pq_model.specs.Lawful.{IsLawfulMessage};
 use crate::*;
 use pq_oxm::Match;
 use std::alloc::{AllocError, Global};
+use std::fmt::Write;
 use std::test::Fail;
 
 // The match that states no field.
@@ -126,6 +127,15 @@ fn message(alloc: Global, case: Case) -> Result<Message, AllocError>
     }
 }
 
+/// Two lower-case digits for each byte.
+fn hexadecimal(alloc: Global, bytes: &[u8]) -> Result<String, AllocError> {
+    let mut text = String::new(alloc);
+    for byte in bytes {
+        write!(text, "{byte:02x}")?;
+    }
+    Ok(text)
+}
+
 #[test]
 fn messages_are_spelled_as_openflow_says(rt: HostRuntime) -> Result<(), Fail> {
     let alloc = rt.alloc();
@@ -160,7 +170,7 @@ fn messages_are_spelled_as_openflow_says(rt: HostRuntime) -> Result<(), Fail> {
         let message = message(alloc, case)?;
         let mut bytes = Vec::new(alloc);
         write_message(alloc, &message, &mut bytes)?;
-        assert_eq!(rt; hex::encode(alloc, &bytes)?.as_str(), expected);
+        assert_eq!(rt; hexadecimal(alloc, &bytes)?.as_str(), expected);
     }
     Ok(())
 }

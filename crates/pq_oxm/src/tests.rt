@@ -1,4 +1,6 @@
 use crate::*;
+use std::alloc::{AllocError, Global};
+use std::fmt::Write;
 use std::test::Fail;
 
 // The match that states no field.
@@ -18,6 +20,15 @@ const ANY: Match = Match {
     ipv6_src: None,
     ipv6_dst: None,
 };
+
+/// Two lower-case digits for each byte.
+fn hexadecimal(alloc: Global, bytes: &[u8]) -> Result<String, AllocError> {
+    let mut text = String::new(alloc);
+    for byte in bytes {
+        write!(text, "{byte:02x}")?;
+    }
+    Ok(text)
+}
 
 #[test]
 fn matches_are_spelled_as_openflow_says(rt: HostRuntime) -> Result<(), Fail> {
@@ -74,7 +85,7 @@ fn matches_are_spelled_as_openflow_says(rt: HostRuntime) -> Result<(), Fail> {
     ] {
         let mut bytes = Vec::new(alloc);
         write_match(alloc, &value, &mut bytes)?;
-        assert_eq!(rt; hex::encode(alloc, &bytes)?.as_str(), expected);
+        assert_eq!(rt; hexadecimal(alloc, &bytes)?.as_str(), expected);
     }
     Ok(())
 }
