@@ -71,20 +71,56 @@ fn each_text_has_its_outcome(rt: HostRuntime) -> Result<(), Fail> {
     let alloc = rt.alloc();
     for (text, expected) in [
         (TWO_PORTS, Outcome::Done),
-        ("switch s = 0x1 ports 2; part p = filter(port=2) >> fwd(2); # end", Outcome::Done),
-        ("switch s = 1 ports 1; part p = filter(port=7) >> fwd(8);", Outcome::Done),
+        (
+            "switch s = 0x1 ports 2; part p = filter(port=2) >> fwd(2); # end",
+            Outcome::Done,
+        ),
+        (
+            "switch s = 1 ports 1; part p = filter(port=7) >> fwd(8);",
+            Outcome::Done,
+        ),
         ("", Outcome::NotYet),
         ("switch s = 1 ports 1;", Outcome::NotYet),
-        ("switch port = 1 ports 1; part p = filter(port=1) >> fwd(1);", Outcome::Done),
-        ("switch ports = 1 ports 1; part p = filter(port=1) >> fwd(1);", Outcome::NotYet),
-        ("switch s = 1 ports 1, 1; part p = filter(port=1) >> fwd(1);", Outcome::NotYet),
-        ("switch s = 1 ports 0; part p = filter(port=1) >> fwd(1);", Outcome::NotYet),
-        ("switch s = 1 ports 4294967041; part p = filter(port=1) >> fwd(1);", Outcome::NotYet),
-        ("switch s = 1 ports 4294967040; part p = filter(port=1) >> fwd(1);", Outcome::Done),
-        ("switch s = 1 ports 1; part p = filter(port=1) > fwd(1);", Outcome::NotYet),
-        ("switch s = 1 ports 1; part p = filter(port=1) >> fwd(1)", Outcome::NotYet),
-        ("switch s = 1 ports 1; part p = filter(port=1) >> fwd(1);;", Outcome::NotYet),
-        ("switch s = 1234567890123456789012345678901234567890 ports 1; part p = filter(port=1) >> fwd(1);", Outcome::NotYet),
+        (
+            "switch port = 1 ports 1; part p = filter(port=1) >> fwd(1);",
+            Outcome::Done,
+        ),
+        (
+            "switch ports = 1 ports 1; part p = filter(port=1) >> fwd(1);",
+            Outcome::NotYet,
+        ),
+        (
+            "switch s = 1 ports 1, 1; part p = filter(port=1) >> fwd(1);",
+            Outcome::NotYet,
+        ),
+        (
+            "switch s = 1 ports 0; part p = filter(port=1) >> fwd(1);",
+            Outcome::NotYet,
+        ),
+        (
+            "switch s = 1 ports 4294967041; part p = filter(port=1) >> fwd(1);",
+            Outcome::NotYet,
+        ),
+        (
+            "switch s = 1 ports 4294967040; part p = filter(port=1) >> fwd(1);",
+            Outcome::Done,
+        ),
+        (
+            "switch s = 1 ports 1; part p = filter(port=1) > fwd(1);",
+            Outcome::NotYet,
+        ),
+        (
+            "switch s = 1 ports 1; part p = filter(port=1) >> fwd(1)",
+            Outcome::NotYet,
+        ),
+        (
+            "switch s = 1 ports 1; part p = filter(port=1) >> fwd(1);;",
+            Outcome::NotYet,
+        ),
+        (
+            "switch s = 1234567890123456789012345678901234567890 ports 1; part p = filter(port=1) >> fwd(1);",
+            Outcome::NotYet,
+        ),
         ("\u{0}", Outcome::NotYet),
         ("# a comment without an end \u{ff}", Outcome::NotYet),
     ] {
@@ -106,7 +142,12 @@ fn a_document_has_524288_bytes_at_the_most(rt: HostRuntime) -> Result<(), Fail> 
 #[test]
 fn other_words_touch_nothing(rt: HostRuntime) -> Result<(), Fail> {
     let alloc = rt.alloc();
-    for texts in [[].as_slice(), &["compile", "now"], &["Compile"], &["replay"]] {
+    for texts in [
+        [].as_slice(),
+        &["compile", "now"],
+        &["Compile"],
+        &["replay"],
+    ] {
         let words = words(alloc, texts)?;
         let mut source = source(alloc, b"text", &[])?;
         let mut sink = sink(alloc, &[], 0)?;
@@ -123,13 +164,22 @@ fn failing_calls_have_their_outcomes(rt: HostRuntime) -> Result<(), Fail> {
     for reads in [[1].as_slice(), &[2]] {
         let mut source = source(alloc, TWO_PORTS.as_bytes(), reads)?;
         let mut sink = sink(alloc, &[], 0)?;
-        assert_eq!(rt; run(alloc, &words, &mut source, &mut sink), Outcome::ReadFault);
+        assert_eq!(rt;
+            run(alloc, &words, &mut source, &mut sink),
+            Outcome::ReadFault
+        );
         assert_eq!(rt; sink.put().len(), 0);
     }
     let mut source = source(alloc, TWO_PORTS.as_bytes(), &[])?;
     let mut sink = sink(alloc, &[1], 10)?;
-    assert_eq!(rt; run(alloc, &words, &mut source, &mut sink), Outcome::WriteFault);
-    assert_eq!(rt; hexadecimal(alloc, sink.put())?.as_str(), "50514931000100000000");
+    assert_eq!(rt;
+        run(alloc, &words, &mut source, &mut sink),
+        Outcome::WriteFault
+    );
+    assert_eq!(rt;
+        hexadecimal(alloc, sink.put())?.as_str(),
+        "50514931000100000000"
+    );
     Ok(())
 }
 
