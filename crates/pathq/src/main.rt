@@ -4,7 +4,7 @@
 use pq_command::{Outcome, run};
 use pq_io::{StreamSink, StreamSource};
 use std::alloc::Global;
-use std::env;
+use std::env::{self, Env};
 use std::io;
 use std::process::ExitCode;
 
