@@ -12,3 +12,6 @@ pub use install::{install_messages, is_lawful_install};
 pub use reading::{is_one_small_form, read_small};
 pub use small::Small;
 pub use sorted::sorted_ports;
+
+#[cfg(test)]
+mod tests;
