@@ -1,0 +1,10 @@
+//! The switch machine: what OpenFlow messages do to the tables of a switch, and what the switch sends for a packet
+//! (OpenFlow 1.3.5, sections 5 and 7.3.4).
+#![tactic(auto)]
+
+mod actions;
+mod groups;
+mod matching;
+
+pub use matching::{covers, same_match};
+pub use pq_model::{Sent, Tagged};
