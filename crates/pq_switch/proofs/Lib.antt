@@ -1,2 +1,4 @@
 pub mod Lookups
+pub mod SentOrder
 pub mod Settable
+pub mod Sorted

@@ -5,6 +5,7 @@
 mod actions;
 mod groups;
 mod matching;
+mod sorting;
 
 pub use matching::{covers, same_match};
 pub use pq_model::{Sent, Tagged};
