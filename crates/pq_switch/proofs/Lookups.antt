@@ -3,9 +3,9 @@ use Rattle.std.proofs.Common.{◌≡◌, ℕ, Bool, true, false, cond, List, [],
 use Rattle.std.specs.declared.option.Option.{Option}
 use Rattle.std.specs.declared.option.Option.TheVariants.{None, Some}
 use Rattle.std.specs.Option.{option_map}
-use Rattle.std.specs.Ordering.{nat_cmp, eq_by_cmp, is_eq}
+use Rattle.std.specs.Ordering.{nat_cmp, is_eq}
 use Rattle.std.specs.Cmp.{nat_cmp_total, eq_by_cmp_equiv}
-use Rattle.std.specs.FinMap.{FinMap, find, get, empty, insert, remove, from_entries, get-from_entries, get-insert, get-remove, get-empty, same_map, nat_cmp-IsAntisymmetric}
+use Rattle.std.specs.FinMap.{FinMap, find, get, insert, remove, from_entries, get-from_entries, get-insert, get-remove, same_map, nat_cmp-IsAntisymmetric}
 use Rattle.std.specs.Map.{lookup}
 use Rattle.std.specs.BTreeMap.{BTreeMap, is_at}
 use Rattle.std.specs.BTreeMap as tree
@@ -43,9 +43,9 @@ module _ {X Y : Type 0} (f : X → Y) where
   pub shown-insert : (m n : BTreeMap ℕ X) (k : ℕ) (v : X) → tree.Updates nat_cmp m n k (Some v) → shown n ≡ insert (shown m) k (f v)
   shown-insert m n k v h = same_map nat_cmp_total nat_cmp-IsAntisymmetric (shown n) (insert (shown m) k (f v)) (λ q.
       get-shown n q ∙ ap (option_map f) (h.0 q) ∙ mapped (is_at (nat_cmp k) q) (Some v) (tree.get nat_cmp m q)
-        ∙ (λ i. cond (turned k q i) (Some (f v)) (sym (get-shown m q) i)) ∙ sym (get-insert nat_cmp_total (shown m) k (f v) q))
+      ∙ (λ i. cond (turned k q i) (Some (f v)) (sym (get-shown m q) i)) ∙ sym (get-insert nat_cmp_total (shown m) k (f v) q))
 
   pub shown-remove : (m n : BTreeMap ℕ X) (k : ℕ) → tree.Updates nat_cmp m n k None → shown n ≡ remove (shown m) k
   shown-remove m n k h = same_map nat_cmp_total nat_cmp-IsAntisymmetric (shown n) (remove (shown m) k) (λ q.
       get-shown n q ∙ ap (option_map f) (h.0 q) ∙ mapped (is_at (nat_cmp k) q) None (tree.get nat_cmp m q)
-        ∙ (λ i. cond (turned k q i) None (sym (get-shown m q) i)) ∙ sym (get-remove nat_cmp_total (shown m) k q))
+      ∙ (λ i. cond (turned k q i) None (sym (get-shown m q) i)) ∙ sym (get-remove nat_cmp_total (shown m) k q))

@@ -1,5 +1,5 @@
 -- The copies in order are the copies sorted by their numbers.
-use Rattle.std.proofs.Common.{◌≡◌, ℕ, suc, Bool, true, false, if◌then◌else◌, arith, List, [], ◌∷◌, ◌++◌, map, length, refl, sym, ap, ◌∙◌}
+use Rattle.std.proofs.Common.{◌≡◌, ℕ, Bool, true, false, if◌then◌else◌, arith, List, [], ◌∷◌, ◌++◌, map, length, refl, sym, ap, ◌∙◌}
 use Rattle.std.specs.Cmp.Lexicographic.{slice_cmp}
 use Rattle.std.specs.Ordering.{nat_cmp, ordering_then}
 use Rattle.std.specs.declared.cmp.Ordering.{Ordering}
@@ -24,7 +24,7 @@ put-controller : (x : TaggedPacket) (ys : List TaggedPacket) → put_by sent_num
 put-controller x [] = refl
 put-controller x (y ∷ ys) =
     ap (λ l. if is_before (tagged_numbers y) (tagged_numbers x) then Controller y ∷ l else Controller x ∷ Controller y ∷ map Controller ys) (put-controller x ys)
-      ∙ sym (map-choice Controller (is_before (tagged_numbers y) (tagged_numbers x)) (y ∷ put_by tagged_numbers x ys) (x ∷ y ∷ ys))
+    ∙ sym (map-choice Controller (is_before (tagged_numbers y) (tagged_numbers x)) (y ∷ put_by tagged_numbers x ys) (x ∷ y ∷ ys))
 
 put-past : (x : TaggedPacket) (ports : List TaggedPacket) (rest : List Sent) → put_by sent_numbers (Controller x) (map Port ports ++ rest) ≡ map Port ports ++ put_by sent_numbers (Controller x) rest
 put-past x [] rest = refl
@@ -37,8 +37,8 @@ put-port x (y ∷ ports) others =
     let b = is_before (tagged_numbers y) (tagged_numbers x) in
     let rest = map Controller others in
     ap (λ l. if b then Port y ∷ l else Port x ∷ Port y ∷ (map Port ports ++ rest)) (put-port x ports others)
-      ∙ append-choice b (Port y ∷ map Port (put_by tagged_numbers x ports)) (Port x ∷ Port y ∷ map Port ports) rest
-      ∙ ap (λ l. l ++ rest) (sym (map-choice Port b (y ∷ put_by tagged_numbers x ports) (x ∷ y ∷ ports)))
+    ∙ append-choice b (Port y ∷ map Port (put_by tagged_numbers x ports)) (Port x ∷ Port y ∷ map Port ports) rest
+    ∙ ap (λ l. l ++ rest) (sym (map-choice Port b (y ∷ put_by tagged_numbers x ports) (x ∷ y ∷ ports)))
 
 pub sorted_in_order : (sent : List Sent) → sort_by sent_numbers sent ≡ in_order sent
 sorted_in_order [] = refl

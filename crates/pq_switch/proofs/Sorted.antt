@@ -1,13 +1,11 @@
 -- A list in the order of its keys, with ties as they stood, is the list sorted by these keys.
-use Rattle.std.proofs.Common.{◌≡◌, ℕ, suc, ◌+◌, ◌<◌, ◌≤◌, Bool, true, false, not, cond, ◌&&◌, ◌||◌, ◌==◌, nat_lt, if◌then◌else◌, List, [], ◌∷◌, length, get_or, refl, sym, ap, subst, ◌∙◌, arith}
-use Rattle.std.specs.declared.cmp.Ordering.{Ordering}
+use Rattle.std.proofs.Common.{◌≡◌, ℕ, suc, ◌<◌, ◌≤◌, Bool, true, false, not, cond, ◌&&◌, ◌||◌, ◌==◌, nat_lt, if◌then◌else◌, List, [], ◌∷◌, length, get_or, refl, sym, ap, subst, ◌∙◌, arith}
 use Rattle.std.specs.declared.cmp.Ordering.TheVariants.{Less, Equal, Greater}
 use Rattle.std.specs.Cmp.{IsStrictWeakOrder}
 use Rattle.std.specs.Cmp.Lexicographic.{slice_cmp, nat_list_cmp_total}
 use Rattle.std.specs.List.{AllByRecursion, filter}
 use Rattle.std.specs.List.Sorted.{IsSortedBy, IsStableBy, ties}
 use Rattle.std.specs.Ordering.{nat_cmp, is_lt, ordering_then}
-use Rattle.std.proofs.lemmas.Bool.Decides.{nat_tests}
 use Rattle.std.proofs.lemmas.List.Sorted.{sorted_far, ranks_by}
 use Rattle.pq_fields.specs.Packet.{is_before}
 use Rattle.pq_model.specs.Sorting.{put_by, sort_by}
@@ -86,9 +84,10 @@ module _ {A : Type 0} (lt : A → A → Bool) (o : IsStrictWeakOrder lt) where
 
   rises_of : (xs : List A) → ((i j : ℕ) (d : A) → i ≤ j → j < length xs → lt (get_or xs j d) (get_or xs i d) ≡ false) → Rises xs
   rises_of [] h = tt
-  rises_of (x ∷ xs) h =
-      (all_of (λ y. lt y x ≡ false) xs (λ k d below. h 0 (suc k) d (omega arith) (omega arith)),
-       rises_of xs (λ i j d le below. h (suc i) (suc j) d (omega arith) (omega arith)))
+  rises_of (x ∷ xs) h = (
+    all_of (λ y. lt y x ≡ false) xs (λ k d below. h 0 (suc k) d (omega arith) (omega arith)),
+    rises_of xs (λ i j d le below. h (suc i) (suc j) d (omega arith) (omega arith)),
+  )
 
   found : (P : A → Type 0) (p : A → Bool) (x : A) (xs rest : List A) → AllByRecursion P xs → filter p xs ≡ x ∷ rest → P x
   found P p x [] rest all e = absurd (full_is_no_empty x rest (sym e))

@@ -121,7 +121,11 @@ fn emit_in_bucket(action: Action, x: Tagged, sent: &mut Vec<Sent>) -> Result<(),
 }
 
 /// Runs the actions of a bucket on a copy of the packet.
-pub(crate) fn run_bucket(bucket: &Actions, mut x: Tagged, sent: &mut Vec<Sent>) -> Result<(), AllocError>
+pub(crate) fn run_bucket(
+    bucket: &Actions,
+    mut x: Tagged,
+    sent: &mut Vec<Sent>,
+) -> Result<(), AllocError>
     ensures { OnOk result (sent.new.items ≡ sent.old.items ++ runs emits_in_bucket bucket.now x) }
 {
     for action in bucket.as_slice() {

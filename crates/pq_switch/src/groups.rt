@@ -124,7 +124,8 @@ impl Groups {
         ensures { result ≡ list_any (is_removed self.now number) (groups_named (action ∷ [])) }
     {
         match action {
-            Action::Group(named) => self.contains(named) && (number == ALL_GROUPS || named == number),
+            Action::Group(named) => self.contains(named)
+                && (number == ALL_GROUPS || named == number),
             _ => false,
         }
     }

@@ -3,9 +3,15 @@
 #![tactic(auto)]
 
 mod actions;
+mod entries;
+mod entry;
 mod groups;
 mod matching;
+mod sending;
 mod sorting;
+mod tables;
 
 pub use matching::{covers, same_match};
 pub use pq_model::{Sent, Tagged};
+pub use sending::hop;
+pub use tables::Tables;

@@ -15,9 +15,11 @@ use std::cmp::Ordering;
 pub(crate) fn sort(sent: &mut Vec<Sent>) -> Result<(), AllocError>
     ensures { OnOk result (sent.new.items ≡ in_order sent.old.items) }
 {
-    sent.sort_by(|x: &Sent, y: &Sent| -> Ordering
-        ensures { result ≡ slice_cmp nat_cmp (sent_numbers x.now) (sent_numbers y.now) }
-    { compare(x, y) })
+    sent.sort_by(
+        |x: &Sent, y: &Sent| -> Ordering
+            ensures { result ≡ slice_cmp nat_cmp (sent_numbers x.now) (sent_numbers y.now) }
+        { compare(x, y) },
+    )
 }
 
 fn compare(left: &Sent, right: &Sent) -> Ordering

@@ -1,4 +1,4 @@
-use Rattle.std.proofs.Common.{sym, ap, ◌∙◌}
+use Rattle.std.proofs.Common.{sym, ◌∙◌}
 use Rattle.pq_switch.proofs.Lookups.{some-shown}
 use Rattle.pq_switch.proofs.groups.Groups.contains.Goals as goal
 

@@ -1,7 +1,7 @@
-use Rattle.std.proofs.Common.{◌≡◌, ◌≢◌, ◌==◌, refl, arith, false, ap, sym, ◌∙◌, if◌then◌else◌}
+use Rattle.std.proofs.Common.{◌≡◌, ◌≢◌, ◌==◌, refl, arith, false, sym, ◌∙◌}
 use Rattle.std.proofs.lemmas.Bool.Decides.{nat_tests}
 use Rattle.std.specs.FinMap.{remove}
-use Rattle.pq_model.specs.SwitchMachine.{Groups, all_groups, no_groups, removed_from}
+use Rattle.pq_model.specs.SwitchMachine.{Groups, all_groups, removed_from}
 use Rattle.pq_switch.proofs.Lookups.{shown-remove}
 use Rattle.pq_switch.proofs.groups.Groups.remove.Goals.{in-Some-1, in-None-1}
 use Rattle.pq_switch.proofs.groups.Groups.remove.Goals as goal
