@@ -1,5 +1,5 @@
 -- A name as it is stored, and its bytes.
-use Rattle.std.specs.Prelude.{◌≡◌, ℕ, ◌-◌, ◌≤◌, List, ◌++◌, take, length, replicate, IsTrue}
+use Rattle.std.specs.Prelude.{◌≡◌, ℕ, ◌-◌, List, ◌++◌, take, length, replicate, IsTrue}
 use Rattle.pq_term.specs.declared.name.Name.TheInside.{Inside}
 use Rattle.pq_term.specs.Names.{is_name}
 
