@@ -1,5 +1,5 @@
 //! A name as a value of its own.
-ghost use Rattle.std.specs.Prelude.{◌≡◌, if◌then◌else◌, IsTrue};
+ghost use Rattle.std.specs.Prelude.{◌≡◌, ◌≤◌, length, if◌then◌else◌, IsTrue};
 ghost use Rattle.std.specs.declared.option.Option.TheVariants.{None, Some};
 ghost use Rattle.pq_term.specs.Names.{is_name};
 
@@ -52,6 +52,7 @@ impl Name {
     pub fn bytes(&self) -> &[u8]
         ensures bytes { result.now ≡ self.now }
         ensures name { IsTrue (is_name self.now) }
+        ensures short { length self.now ≤ 32 }
     {
         &self.padded[..self.len]
     }
