@@ -1,5 +1,5 @@
 -- Lists of numbers that ascend.
-use Rattle.std.specs.Prelude.{◌≡◌, ℕ, ◌+◌, ◌<◌, ◌≤◌, List, [], ◌∷◌, length, get_or, suc, zero}
+use Rattle.std.specs.Prelude.{ℕ, ◌<◌, ◌≤◌, List, [], ◌∷◌, length, get_or, suc, zero}
 use Rattle.std.proofs.Common.{arith}
 use Rattle.pq_model.specs.Lawful.{Ascends}
 

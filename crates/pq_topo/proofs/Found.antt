@@ -1,6 +1,6 @@
 -- What a search for a switch finds, and what is known of the switch.
-use Rattle.std.specs.Prelude.{◌≡◌, ◌≢◌, ℕ, ◌+◌, ◌<◌, ◌≤◌, ◌==◌, List, [], ◌∷◌, All, length, get_or, map, MatchOption, if◌then◌else◌, suc, zero, refl}
-use Rattle.std.proofs.Common.{arith, Result, Ok, Err, sym, ap}
+use Rattle.std.specs.Prelude.{◌≡◌, ◌≢◌, ℕ, ◌<◌, ◌≤◌, List, [], ◌∷◌, All, length, get_or, map, MatchOption, suc, zero, refl}
+use Rattle.std.proofs.Common.{arith, Result, Ok, Err, sym}
 use Rattle.std.specs.Result.{result_ok}
 use Rattle.std.specs.List.Sorted.{IsSearchInRange, IsBinarySearchResult, IsNonDecreasingBy}
 use Rattle.std.specs.Ordering.{nat_cmp, ordering_index}

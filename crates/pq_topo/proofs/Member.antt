@@ -1,5 +1,5 @@
 -- What a binary search among ascending numbers tells.
-use Rattle.std.specs.Prelude.{◌≡◌, ◌≢◌, ℕ, ◌<◌, ◌≤◌, ◌==◌, Bool, false, List, length, get_or}
+use Rattle.std.specs.Prelude.{◌≡◌, ◌≢◌, ℕ, ◌<◌, ◌≤◌, ◌==◌, List, length, get_or}
 use Rattle.std.proofs.Common.{arith, Result, Ok, Err, sym}
 use Rattle.std.specs.Result.{MatchResult, is_ok}
 use Rattle.std.specs.List.{list_any}

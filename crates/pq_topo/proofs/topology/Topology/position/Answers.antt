@@ -1,4 +1,4 @@
-use Rattle.std.proofs.Common.{rules, ap}
+use Rattle.std.proofs.Common.{rules}
 use Rattle.std.proofs.lemmas.List.Sorted.{answers_always}
 use Rattle.pq_topo.proofs.Found.{searched}
 use Rattle.pq_topo.proofs.topology.Topology.position.Goals as goal
