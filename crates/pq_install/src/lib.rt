@@ -5,6 +5,7 @@ mod install;
 mod lists;
 mod names;
 mod numbers;
+mod read;
 mod report;
 mod topology;
 mod write;
