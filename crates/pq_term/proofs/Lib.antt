@@ -2,3 +2,4 @@ pub mod Digits
 pub mod Ends
 pub mod Formed
 pub mod Within
+pub mod Stored

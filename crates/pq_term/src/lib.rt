@@ -6,12 +6,14 @@ mod bytes;
 mod division;
 mod forms;
 mod groups;
+mod name;
 mod names;
 mod numbers;
 mod scan;
 mod token;
 
 pub use division::{TermFault, has_one_division, token_list};
+pub use name::Name;
 pub use names::{is_name, is_reserved};
 pub use numbers::number_value;
 pub use scan::token_at;
