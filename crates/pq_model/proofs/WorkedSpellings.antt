@@ -1,13 +1,12 @@
 -- Worked spellings: bytes written out by hand from the standard, against the definitions.
-use Rattle.std.specs.Prelude.{◌≡◌, ℕ, List, [], ◌∷◌}
-use Rattle.std.specs.declared.option.Option.TheVariants.{None, Some}
+use Rattle.std.specs.Prelude.{◌≡◌, [], ◌∷◌}
+use Rattle.std.specs.declared.option.Option.TheVariants.{Some}
 use Rattle.std.proofs.Common.{refl}
 use Rattle.pq_fields.specs.declared.field.Field.TheVariants.{TcpDst}
-use Rattle.pq_model.specs.declared.action.Action.TheVariants.{Output, PushVlan, PopVlan, SetVlan, SetField}
+use Rattle.pq_model.specs.declared.action.Action.TheVariants.{Output, PopVlan, SetField}
 use Rattle.pq_model.specs.declared.group_mod.GroupCommand.TheVariants.{Add as AddGroup}
-use Rattle.pq_model.specs.declared.message.Message.{Message}
 use Rattle.pq_model.specs.declared.message.Message.TheVariants.{Group as Grouping}
-use Rattle.pq_model.specs.MatchFields.{MatchFields, empty_match}
+use Rattle.pq_model.specs.MatchFields.{empty_match}
 use Rattle.pq_model.specs.Spelling.{match_bytes, match_oxms, action_bytes, apply_bytes, goto_bytes, bucket_bytes, flow_body, group_body, with_header, message_bytes}
 use Rattle.pq_model.specs.Install.{install_bytes, spelling, old_spelling}
 use Rattle.pq_model.proofs.Examples.{tiny_old, tiny}

@@ -1,7 +1,6 @@
 -- The headline: installed tables move and capture packets as a document's meaning says, and in no other way.
 use Rattle.std.specs.Prelude.{◌≡◌, ℕ, List, map}
-use Rattle.std.specs.declared.option.Option.{Option}
-use Rattle.std.specs.declared.option.Option.TheVariants.{None, Some}
+use Rattle.std.specs.declared.option.Option.TheVariants.{None}
 use Rattle.pq_fields.specs.Packet.{Numbers}
 use Rattle.pq_model.specs.declared.event.Event.{Event}
 use Rattle.pq_model.specs.declared.message.Message.{Message}

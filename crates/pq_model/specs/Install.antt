@@ -1,6 +1,5 @@
 -- An install: what is written for a network, its rules, and its bytes. All numbers are big-endian.
-use Rattle.std.specs.Prelude.{◌≡◌, ◌≢◌, ℕ, ◌+◌, ◌^◌, ◌<◌, ◌≤◌, Bool, true, false, List, [], ◌∷◌, ◌++◌, map, length, All, sum_by, is_none, ◌==◌, ◌&&◌, IsTrue, bytes_eq, if◌then◌else◌}
-use Rattle.std.specs.declared.option.Option.{Option}
+use Rattle.std.specs.Prelude.{◌≡◌, ◌≢◌, ℕ, ◌^◌, ◌<◌, ◌≤◌, List, [], ◌∷◌, ◌++◌, map, length, All, sum_by, ◌==◌, ◌&&◌, IsTrue, bytes_eq, if◌then◌else◌}
 use Rattle.std.specs.declared.option.Option.TheVariants.{None, Some}
 use Rattle.std.specs.Int.{w16, w32, w64, to_be_bytes}
 use Rattle.std.specs.List.{flat_map, IsDistinct}
@@ -116,11 +115,11 @@ list_bytes ms = to_be_bytes w32 (length ms) ++ flat_map message_bytes ms
 unfoldable pub install_bytes : ℕ → Install → List ℕ
 install_bytes version i =
     0x50 ∷ 0x51 ∷ 0x49 ∷ version ∷ []
-      ++ to_be_bytes w16 (length i.topology.switches) ++ flat_map switch_bytes i.topology.switches
-      ++ to_be_bytes w16 (length i.topology.links) ++ flat_map link_bytes i.topology.links
-      ++ to_be_bytes w16 (length i.queries) ++ flat_map name_bytes i.queries
-      ++ to_be_bytes w16 (length i.report) ++ flat_map row_bytes i.report
-      ++ flat_map list_bytes i.messages
+    ++ to_be_bytes w16 (length i.topology.switches) ++ flat_map switch_bytes i.topology.switches
+    ++ to_be_bytes w16 (length i.topology.links) ++ flat_map link_bytes i.topology.links
+    ++ to_be_bytes w16 (length i.queries) ++ flat_map name_bytes i.queries
+    ++ to_be_bytes w16 (length i.report) ++ flat_map row_bytes i.report
+    ++ flat_map list_bytes i.messages
 
 -- the spelling of an install, with the magic `PQI2`
 abbrev pub spelling : Install → List ℕ

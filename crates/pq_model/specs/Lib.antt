@@ -7,6 +7,8 @@ pub mod MatchFields
 pub mod Meaning
 pub mod Mods
 pub mod Orders
+pub mod Simulation
+pub mod Renewal
 pub mod Sorting
 pub mod Spelling
 pub mod SwitchMachine

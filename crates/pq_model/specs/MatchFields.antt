@@ -71,12 +71,12 @@ agrees_masked (Some a) n = bit_and n a.1 == a.0
 unfoldable pub covers : MatchFields → TaggedPacket → Bool
 covers m x =
     agrees m.in_port x.packet.port && agrees m.vlan (vlan_word x.vlan)
-      && agrees m.eth_type x.packet.eth_type && agrees m.ip_proto x.packet.ip_proto
-      && agrees m.eth_src x.packet.eth_src && agrees m.eth_dst x.packet.eth_dst
-      && agrees_masked m.ipv4_src x.packet.ipv4_src && agrees_masked m.ipv4_dst x.packet.ipv4_dst
-      && agrees m.tcp_src x.packet.tcp_src && agrees m.tcp_dst x.packet.tcp_dst
-      && agrees m.udp_src x.packet.udp_src && agrees m.udp_dst x.packet.udp_dst
-      && agrees_masked m.ipv6_src x.packet.ipv6_src && agrees_masked m.ipv6_dst x.packet.ipv6_dst
+    && agrees m.eth_type x.packet.eth_type && agrees m.ip_proto x.packet.ip_proto
+    && agrees m.eth_src x.packet.eth_src && agrees m.eth_dst x.packet.eth_dst
+    && agrees_masked m.ipv4_src x.packet.ipv4_src && agrees_masked m.ipv4_dst x.packet.ipv4_dst
+    && agrees m.tcp_src x.packet.tcp_src && agrees m.tcp_dst x.packet.tcp_dst
+    && agrees m.udp_src x.packet.udp_src && agrees m.udp_dst x.packet.udp_dst
+    && agrees_masked m.ipv6_src x.packet.ipv6_src && agrees_masked m.ipv6_dst x.packet.ipv6_dst
 
 abbrev pub same_number : Option ℕ → Option ℕ → Bool
 same_number None None = true
@@ -94,9 +94,9 @@ same_masked (Some a) (Some b) = (a.0 == b.0) && (a.1 == b.1)
 unfoldable pub same_match : MatchFields → MatchFields → Bool
 same_match m n =
     same_number m.in_port n.in_port && same_number m.vlan n.vlan
-      && same_number m.eth_type n.eth_type && same_number m.ip_proto n.ip_proto
-      && same_number m.eth_src n.eth_src && same_number m.eth_dst n.eth_dst
-      && same_masked m.ipv4_src n.ipv4_src && same_masked m.ipv4_dst n.ipv4_dst
-      && same_number m.tcp_src n.tcp_src && same_number m.tcp_dst n.tcp_dst
-      && same_number m.udp_src n.udp_src && same_number m.udp_dst n.udp_dst
-      && same_masked m.ipv6_src n.ipv6_src && same_masked m.ipv6_dst n.ipv6_dst
+    && same_number m.eth_type n.eth_type && same_number m.ip_proto n.ip_proto
+    && same_number m.eth_src n.eth_src && same_number m.eth_dst n.eth_dst
+    && same_masked m.ipv4_src n.ipv4_src && same_masked m.ipv4_dst n.ipv4_dst
+    && same_number m.tcp_src n.tcp_src && same_number m.tcp_dst n.tcp_dst
+    && same_number m.udp_src n.udp_src && same_number m.udp_dst n.udp_dst
+    && same_masked m.ipv6_src n.ipv6_src && same_masked m.ipv6_dst n.ipv6_dst

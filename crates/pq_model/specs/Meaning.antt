@@ -48,7 +48,7 @@ arrival word y (Some e) = Traced word (moved_to y e) ∷ []
 
 -- the departures at linked ports, in order
 abbrev pub arrivals : Topology → Word → List Numbers → List Item
-arrivals t entered ys = flat_map (λ y. arrival (entered ++ Out y ∷ []) y (peer t y.switch y.port)) ys
+arrivals t w ys = flat_map (λ y. arrival (w ++ Out y ∷ []) y (peer t y.switch y.port)) ys
 
 -- the departures at all other ports, in order
 abbrev pub deliveries : Topology → List Numbers → List Numbers
@@ -61,12 +61,12 @@ pub record Sighting : Type 0 where
 
 -- the observations of departures, or the one of a drop: an Out at port 0
 abbrev pub leavings : Word → Numbers → List Numbers → List Sighting
-leavings entered x [] = record { word = entered ++ Out (record x { port = 0 }) ∷ []; packet = x } ∷ []
-leavings entered x (y ∷ ys) = map (λ z. record { word = entered ++ Out z ∷ []; packet = record z { port = x.port } }) (y ∷ ys)
+leavings w x [] = record { word = w ++ Out (record x { port = 0 }) ∷ []; packet = x } ∷ []
+leavings w x (y ∷ ys) = map (λ z. record { word = w ++ Out z ∷ []; packet = record z { port = x.port } }) (y ∷ ys)
 
--- all observations of one hop of the packet x whose word with this arrival is `entered`
+-- all observations of one hop of the packet x, whose word with this arrival is w
 abbrev pub sightings : Word → Numbers → List Numbers → List Sighting
-sightings entered x ys = record { word = entered; packet = x } ∷ leavings entered x ys
+sightings w x ys = record { word = w; packet = x } ∷ leavings w x ys
 
 -- the packets of the observations whose word is accepted
 abbrev pub accepted_packets : (Word → Bool) → List Sighting → List Numbers
@@ -77,18 +77,31 @@ accepted_packets accepts (s ∷ ss) = if accepts s.word then s.packet ∷ accept
 abbrev pub entries_of : Meaning → List Sighting → Instance → List BucketEntry
 entries_of m seen i = map (λ x. record { pair = i; packet = x }) (sort_by numbers (accepted_packets (m.accepts i) seen))
 
--- what one hop of a traced packet adds to the flight, to the deliveries and to the buckets
-abbrev pub captures : Meaning → Word → Numbers → List BucketEntry
-captures m entered x = flat_map (entries_of m (sightings entered x (m.departs x))) m.instances
+-- the word up to the arrival of a packet
+abbrev pub entered : Word → Numbers → Word
+entered w x = w ++ In x ∷ []
 
+-- what one hop of an item adds to the flight, to the deliveries and to the buckets; a stranger adds nothing
+abbrev pub flown : Meaning → Item → List Item
+flown m (Traced w x) = arrivals m.topology (entered w x) (m.departs x)
+flown m (Stranger x) = []
+
+abbrev pub dropped_off : Meaning → Item → List Numbers
+dropped_off m (Traced w x) = deliveries m.topology (m.departs x)
+dropped_off m (Stranger x) = []
+
+abbrev pub captured : Meaning → Item → List BucketEntry
+captured m (Traced w x) = flat_map (entries_of m (sightings (entered w x) x (m.departs x))) m.instances
+captured m (Stranger x) = []
+
+-- a hop takes the item at the place out, if there is one
 abbrev pub hops : Meaning → MeaningState → ℕ → Option Item → MeaningState
 hops m s k None = s
-hops m s k (Some (Stranger x)) = record s { flight = remove s.flight k }
-hops m s k (Some (Traced w x)) = let entered = w ++ In x ∷ [] in record {
-    flight = remove s.flight k ++ arrivals m.topology entered (m.departs x);
-    delivered = s.delivered ++ deliveries m.topology (m.departs x);
-    buckets = s.buckets ++ captures m entered x
-  }
+hops m s k (Some i) = record {
+  flight = remove s.flight k ++ flown m i;
+  delivered = s.delivered ++ dropped_off m i;
+  buckets = s.buckets ++ captured m i;
+}
 
 abbrev pub entered_as : TaggedPacket → Option ℕ → Item
 entered_as x None = Traced [] x.packet

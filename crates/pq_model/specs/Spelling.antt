@@ -59,19 +59,19 @@ ones128 = 0xffffffffffffffffffffffffffffffff
 unfoldable pub match_oxms : MatchFields → List ℕ
 match_oxms m =
     stated 0 (to_be_bytes w32) m.in_port
-      ++ stated 6 (to_be_bytes w16) m.vlan
-      ++ stated 5 (to_be_bytes w16) m.eth_type
-      ++ stated 10 byte m.ip_proto
-      ++ stated 4 mac_bytes m.eth_src
-      ++ stated 3 mac_bytes m.eth_dst
-      ++ stated_masked 11 (to_be_bytes w32) ones32 m.ipv4_src
-      ++ stated_masked 12 (to_be_bytes w32) ones32 m.ipv4_dst
-      ++ stated 13 (to_be_bytes w16) m.tcp_src
-      ++ stated 14 (to_be_bytes w16) m.tcp_dst
-      ++ stated 15 (to_be_bytes w16) m.udp_src
-      ++ stated 16 (to_be_bytes w16) m.udp_dst
-      ++ stated_masked 26 (to_be_bytes w128) ones128 m.ipv6_src
-      ++ stated_masked 27 (to_be_bytes w128) ones128 m.ipv6_dst
+    ++ stated 6 (to_be_bytes w16) m.vlan
+    ++ stated 5 (to_be_bytes w16) m.eth_type
+    ++ stated 10 byte m.ip_proto
+    ++ stated 4 mac_bytes m.eth_src
+    ++ stated 3 mac_bytes m.eth_dst
+    ++ stated_masked 11 (to_be_bytes w32) ones32 m.ipv4_src
+    ++ stated_masked 12 (to_be_bytes w32) ones32 m.ipv4_dst
+    ++ stated 13 (to_be_bytes w16) m.tcp_src
+    ++ stated 14 (to_be_bytes w16) m.tcp_dst
+    ++ stated 15 (to_be_bytes w16) m.udp_src
+    ++ stated 16 (to_be_bytes w16) m.udp_dst
+    ++ stated_masked 26 (to_be_bytes w128) ones128 m.ipv6_src
+    ++ stated_masked 27 (to_be_bytes w128) ones128 m.ipv6_dst
 
 -- a match of type OXM, with its length without the padding
 unfoldable pub match_bytes : MatchFields → List ℕ
@@ -133,8 +133,8 @@ flow_code DeleteStrict = 4
 unfoldable pub flow_body : FlowValue → List ℕ
 flow_body f =
     to_be_bytes w64 f.cookie ++ replicate 8 0 ++ f.table ∷ flow_code f.command ∷ 0 ∷ 0 ∷ 0 ∷ 0 ∷ []
-      ++ to_be_bytes w16 f.priority ++ replicate 12 0xff ++ replicate 4 0
-      ++ match_bytes f.matching ++ apply_bytes f.actions ++ goto_bytes f.goto
+    ++ to_be_bytes w16 f.priority ++ replicate 12 0xff ++ replicate 4 0
+    ++ match_bytes f.matching ++ apply_bytes f.actions ++ goto_bytes f.goto
 
 abbrev pub group_code : GroupCommand → ℕ
 group_code AddGroup = 0

@@ -1,11 +1,11 @@
 -- The switch machine: what messages do to a switch's tables, and what it sends for a packet (OpenFlow 1.3.5, sections 5 and 7.3.4).
-use Rattle.std.specs.Prelude.{ℕ, zero, suc, ◌+◌, ◌-◌, Bool, true, false, List, [], ◌∷◌, ◌++◌, map, not, nat_lt, ◌==◌, ◌&&◌, if◌then◌else◌}
+use Rattle.std.specs.Prelude.{ℕ, zero, suc, ◌-◌, Bool, true, List, [], ◌∷◌, ◌++◌, map, not, nat_lt, ◌==◌, ◌&&◌, if◌then◌else◌}
 use Rattle.std.specs.declared.option.Option.{Option}
 use Rattle.std.specs.declared.option.Option.TheVariants.{None, Some}
 use Rattle.std.specs.List.{filter, filter_map, flat_map, list_any, list_all}
 use Rattle.std.specs.Ordering.{nat_cmp}
 use Rattle.std.specs.FinMap.{FinMap, empty, get, insert, contains_key, remove}
-use Rattle.pq_fields.specs.Packet.{Numbers, has_field, with_number}
+use Rattle.pq_fields.specs.Packet.{has_field, with_number}
 use Rattle.pq_model.specs.declared.action.Action.{Action}
 use Rattle.pq_model.specs.declared.action.Action.TheVariants.{Output, PushVlan, PopVlan, Group, SetVlan, SetField}
 use Rattle.pq_model.specs.declared.flow_mod.FlowCommand.{FlowCommand}
@@ -97,9 +97,9 @@ abbrev pub changes_groups : GroupCommand → GroupValue → Tables → Tables
 changes_groups AddGroup g t = if contains_key t.groups g.group then t else record t { groups = insert t.groups g.group g.buckets }
 changes_groups Modify g t = if contains_key t.groups g.group then record t { groups = insert t.groups g.group g.buckets } else t
 changes_groups Delete g t = record {
-    entries = filter (λ e. not (list_any (is_removed t.groups g.group) (groups_named e.actions))) t.entries;
-    groups = removed_from t.groups g.group
-  }
+  entries = filter (λ e. not (list_any (is_removed t.groups g.group) (groups_named e.actions))) t.entries;
+  groups = removed_from t.groups g.group;
+}
 
 -- the tables after one message
 abbrev pub applies : Tables → Message → Tables

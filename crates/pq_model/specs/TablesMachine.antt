@@ -66,10 +66,10 @@ collected report ys = sort_by entry_numbers (flat_map (λ y. collected_at report
 abbrev pub hops_sending : Topology → Report → Sender → TablesState → ℕ → Option TaggedPacket → TablesState
 hops_sending t report send s k None = s
 hops_sending t report send s k (Some x) = record {
-    flight = remove s.flight k ++ carried_all t (to_ports (send x));
-    delivered = s.delivered ++ delivered_of t (to_ports (send x));
-    buckets = s.buckets ++ collected report (to_controller (send x))
-  }
+  flight = remove s.flight k ++ carried_all t (to_ports (send x));
+  delivered = s.delivered ++ delivered_of t (to_ports (send x));
+  buckets = s.buckets ++ collected report (to_controller (send x));
+}
 
 abbrev pub injects_sending : Topology → TablesState → TaggedPacket → TablesState
 injects_sending t s x = if is_edge t x.packet.switch x.packet.port then record s { flight = s.flight ++ x ∷ [] } else s

@@ -18,9 +18,7 @@ use Rattle.pq_small.proofs.Rules.{kept, tested}
 
 -- a hexadecimal number has 64 bits
 hexadecimal_below : (t : List ℕ) → is_hexadecimal t ≡ true → value_of 16 (drop 2 t) < 2 ^ 64
-hexadecimal_below [] is = absurd (false≢true is)
-hexadecimal_below (z ∷ []) is = absurd (false≢true is)
-hexadecimal_below (z ∷ x ∷ digits) is = hexadecimal_fits digits (and_parts _ (is_hex 1 16 digits) is).1
+hexadecimal_below t is = hexadecimal_fits (drop 2 t) (and_parts _ (is_hex 1 16 (drop 2 t)) is).1
 
 -- a number that a text spells has 64 bits
 number_below : (t : List ℕ) (n : ℕ) → number_of t ≡ Some n → n < 2 ^ 64

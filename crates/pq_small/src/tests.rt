@@ -1,4 +1,6 @@
-use crate::*;
+use crate::install::install_messages;
+use crate::read_small;
+use crate::sorted::sorted_ports;
 use pq_model::{Action, Message};
 use std::test::Fail;
 

@@ -1,5 +1,5 @@
 -- A text as its tokens.
-use Rattle.std.specs.Prelude.{◌≡◌, ℕ, ◌+◌, List, [], ◌∷◌}
+use Rattle.std.specs.Prelude.{◌≡◌, ℕ, ◌+◌, ◌≤◌, List, [], ◌∷◌}
 use Rattle.pq_term.specs.declared.token.Token.{Token}
 use Rattle.pq_term.specs.declared.token.Next.{Next}
 use Rattle.pq_term.specs.declared.token.Next.TheVariants.{Token as Found, End, NoToken}
@@ -19,6 +19,10 @@ IsDivision bytes tokens = IsDividedUpTo bytes 0 tokens End
 -- the division into tokens meets something that is no token, whose first byte is at the place
 abbrev pub MeetsNoToken : List ℕ → ℕ → Type 0
 MeetsNoToken bytes place = (tokens : List Token) × IsDividedUpTo bytes 0 tokens (NoToken place)
+
+-- the token has a byte, and lies within a text of this length
+abbrev pub LiesWithin : ℕ → Token → Type 0
+LiesWithin end t = (1 ≤ t.len) × (t.at + t.len ≤ end)
 
 -- nothing more can be divided off
 abbrev pub IsLast : Next → Type 0

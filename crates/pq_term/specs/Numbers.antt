@@ -1,11 +1,15 @@
 -- Numbers, as digits spell them.
-use Rattle.std.specs.Prelude.{ℕ, ◌+◌, ◌-◌, ◌*◌, ◌^◌, Bool, false, not, cond, ◌&&◌, ◌||◌, List, [], ◌∷◌, length, drop, fold, nat_lt, nat_le, ◌==◌, Option, Some, None}
+use Rattle.std.specs.Prelude.{ℕ, ◌+◌, ◌-◌, ◌*◌, ◌^◌, Bool, false, not, ◌&&◌, ◌||◌, if◌then◌else◌, List, [], ◌∷◌, length, take, drop, fold, nat_lt, nat_le, ◌==◌, Option, Some, None, codes, bytes_eq}
 use Rattle.std.specs.Char.{is_ascii_digit, is_ascii_uppercase, is_ascii_hexdigit}
 use Rattle.std.specs.List.{list_all}
+use Rattle.std.specs.Str.{byte}
 
 -- the value of a hexadecimal digit in either case
 abbrev pub digit_value : ℕ → ℕ
-digit_value b = cond (is_ascii_digit b) (b - 48) (cond (is_ascii_uppercase b) (b - 55) (b - 87))
+digit_value b =
+    if is_ascii_digit b then b - byte "0"
+    else (if is_ascii_uppercase b then b - byte "A" + 10
+    else b - (byte "a" - 10))
 
 -- a digit of the base, which is at most sixteen
 abbrev pub is_digit : ℕ → ℕ → Bool
@@ -22,7 +26,7 @@ value_of base digits = value_after base 0 digits
 -- `0`, or digits that begin with another one
 abbrev pub is_plain : List ℕ → Bool
 is_plain [] = false
-is_plain (b ∷ bs) = list_all (is_digit 10) (b ∷ bs) && (not (b == 48) || length bs == 0)
+is_plain (b ∷ bs) = list_all (is_digit 10) (b ∷ bs) && (not (b == byte "0") || length bs == 0)
 
 -- a decimal number without leading zeros, at most this one
 abbrev pub is_decimal : ℕ → List ℕ → Bool
@@ -34,10 +38,11 @@ is_hex least most bs = nat_le least (length bs) && nat_le (length bs) most && li
 
 -- `0x`, and one to sixteen hexadecimal digits
 abbrev pub is_hexadecimal : List ℕ → Bool
-is_hexadecimal [] = false
-is_hexadecimal (z ∷ []) = false
-is_hexadecimal (z ∷ x ∷ digits) = z == 48 && x == 120 && is_hex 1 16 digits
+is_hexadecimal bs = bytes_eq (take 2 bs) (codes "0x") && is_hex 1 16 (drop 2 bs)
 
 -- the value of a number as a text spells it, decimal or hexadecimal, if the text is one
 abbrev pub number_of : List ℕ → Option ℕ
-number_of bs = cond (is_decimal (2 ^ 64 - 1) bs) (Some (value_of 10 bs)) (cond (is_hexadecimal bs) (Some (value_of 16 (drop 2 bs))) None)
+number_of bs =
+    if is_decimal (2 ^ 64 - 1) bs then Some (value_of 10 bs)
+    else (if is_hexadecimal bs then Some (value_of 16 (drop 2 bs))
+    else None)

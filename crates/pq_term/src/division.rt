@@ -1,6 +1,7 @@
 //! A text as its tokens.
-ghost use Rattle.std.specs.Prelude.{◌≡◌, ℕ, List, MatchResult};
-ghost use Rattle.pq_term.specs.Division.{IsDivision, IsDividedUpTo, IsLast, IsTokenFault};
+ghost use Rattle.std.specs.Prelude.{◌≡◌, ℕ, List, length, All, IfOk, IfErr};
+ghost use Rattle.pq_term.specs.Division.{IsDivision, IsDividedUpTo, IsLast, IsTokenFault, LiesWithin};
+ghost use Rattle.pq_term.specs.Tokens.{HasItsForm};
 
 use crate::scan::token_at;
 use crate::token::{Next, Token};
@@ -21,10 +22,14 @@ pub enum TermFault {
     Memory,
 }
 
-/// The tokens of the whole text, in order. `Lex` comes exactly where the division into tokens meets something that
-/// is no token, with its first byte; `Syntax` never.
+/// The tokens of the whole text, in order. Each has at least one byte, lies within the text, and has the form of its
+/// kind. `Lex` comes exactly where the division into tokens meets something that is no token, with its first byte;
+/// `Syntax` never.
 pub fn token_list(alloc: Global, bytes: &[u8]) -> Result<Vec<Token>, TermFault>
-    ensures { MatchResult result (λ tokens. IsDivision bytes.now tokens.items) (IsTokenFault bytes.now) }
+    ensures ok { IfOk result (λ tokens. IsDivision bytes.now tokens.items) }
+    ensures err { IfErr result (IsTokenFault bytes.now) }
+    ensures within { IfOk result (λ tokens. All (LiesWithin (length bytes.now)) tokens.items) }
+    ensures form { IfOk result (λ tokens. All (HasItsForm bytes.now) tokens.items) }
 {
     let mut tokens = Vec::new(alloc);
     let mut at = 0;
@@ -43,5 +48,6 @@ pub fn token_list(alloc: Global, bytes: &[u8]) -> Result<Vec<Token>, TermFault>
 /// A text has one division: from any place on, two lists of tokens that each stand one after another up to where
 /// nothing more can be divided off are the same list, with the same end.
 pub fn has_one_division()
-    ensures { (bytes : List ℕ) (at : ℕ) (xs ys : List Token) (x y : Next) → IsLast x → IsLast y → IsDividedUpTo bytes at xs x → IsDividedUpTo bytes at ys y → (xs ≡ ys) × (x ≡ y) }
+    ensures { (bytes : List ℕ) (at : ℕ) (xs ys : List Token) (x y : Next) → IsLast x → IsLast y
+        → IsDividedUpTo bytes at xs x → IsDividedUpTo bytes at ys y → (xs ≡ ys) × (x ≡ y) }
 {}

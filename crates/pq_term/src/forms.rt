@@ -1,5 +1,5 @@
 //! The forms that a run may have.
-ghost use Rattle.std.specs.Prelude.{◌≡◌, ◌<◌, length, MatchOption, true, false, position};
+ghost use Rattle.std.specs.Prelude.{◌≡◌, ◌<◌, length, ◌↔◌, IsSome, IfSome, true, position};
 ghost use Rattle.std.specs.List.{list_all, before_first, after_first};
 ghost use Rattle.pq_term.specs.Bytes.{is_word_byte};
 ghost use Rattle.pq_term.specs.Forms.{is_word, is_mac, is_ipv4, is_ipv6_address, is_slash, has_slash, is_prefix, is_ipv4_prefix, is_ipv6, form_of};
@@ -58,7 +58,9 @@ fn slash_place(text: &[u8]) -> Option<usize>
 
 /// What stands before and after the first slash.
 fn split_at_slash(text: &[u8]) -> Option<(&[u8], &[u8])>
-    ensures { MatchOption result (has_slash text.now ≡ false) (λ p. (has_slash text.now ≡ true) × (p.0.now ≡ before_first is_slash text.now) × (p.1.now ≡ after_first is_slash text.now)) }
+    ensures slash { IsSome result ↔ (has_slash text.now ≡ true) }
+    ensures address { IfSome result (λ p. p.0.now ≡ before_first is_slash text.now) }
+    ensures length { IfSome result (λ p. p.1.now ≡ after_first is_slash text.now) }
 {
     match slash_place(text) {
         Some(slash) => Some((&text[..slash], &text[slash + 1..])),

@@ -16,3 +16,6 @@ pub use names::{is_name, is_reserved};
 pub use numbers::number_value;
 pub use scan::token_at;
 pub use token::{Kind, Next, Token};
+
+#[cfg(test)]
+mod tests;

@@ -1,5 +1,5 @@
 //! Numbers, as digits spell them.
-ghost use Rattle.std.specs.Prelude.{◌≡◌, ◌+◌, ◌-◌, ◌*◌, ◌^◌, ◌<◌, SomeIff, true, cond};
+ghost use Rattle.std.specs.Prelude.{◌≡◌, ◌+◌, ◌-◌, ◌*◌, ◌^◌, ◌<◌, SomeIff, if◌then◌else◌};
 ghost use Rattle.std.specs.List.{list_all};
 ghost use Rattle.pq_term.specs.Numbers.{digit_value, is_digit, value_of, is_decimal, is_plain, is_hex, number_of};
 
@@ -65,7 +65,7 @@ fn is_plain(text: &[u8]) -> bool
 /// The value of a decimal number without leading zeros; `None` where the text is none, or the value is beyond
 /// a `u64`.
 fn decimal(text: &[u8]) -> Option<u64>
-    ensures { result ≡ cond (is_decimal (2 ^ 64 - 1) text.now) (Some (value_of 10 text.now)) None }
+    ensures { result ≡ (if is_decimal (2 ^ 64 - 1) text.now then Some (value_of 10 text.now) else None) }
 {
     if is_plain(text) {
         value_of(10, text)
@@ -106,7 +106,7 @@ pub fn number_value(text: &[u8]) -> Option<u64>
 /// The value of 1 to 16 hexadecimal digits; `None` where the text is none.
 #[tactic(auto, using(crate::proofs::Digits::hexadecimal_fits))]
 fn hexadecimal(digits: &[u8]) -> Option<u64>
-    ensures { result ≡ cond (is_hex 1 16 digits.now) (Some (value_of 16 digits.now)) None }
+    ensures { result ≡ (if is_hex 1 16 digits.now then Some (value_of 16 digits.now) else None) }
 {
     if is_hex(1, 16, digits) {
         value_of(16, digits)

@@ -2,7 +2,7 @@
 ghost use Rattle.std.specs.Prelude.{◌≡◌, ◌≤◌, length, drop, false};
 ghost use Rattle.std.specs.List.{prefix_len};
 ghost use Rattle.pq_term.specs.Bytes.{is_run_byte};
-ghost use Rattle.pq_term.specs.Tokens.{after_blanks, token_or_none, run_token, first_token, next_of, IsWithin};
+ghost use Rattle.pq_term.specs.Tokens.{after_blanks, token_or_none, run_token, first_token, next_of, IsWithin, IsFormed};
 
 use crate::bytes::{is_blank, is_run_byte, is_symbol};
 use crate::forms::form_of;
@@ -85,6 +85,7 @@ pub fn token_at(bytes: &[u8], at: usize) -> Next
     requires { at ≤ length bytes.now }
     ensures value { result ≡ next_of bytes.now at }
     ensures within { IsWithin at (length bytes.now) result }
+    ensures form { IsFormed bytes.now result }
 {
     let place = skip_blanks(bytes, at);
     first_token(place, &bytes[place..])

@@ -1,12 +1,10 @@
-use Rattle.std.proofs.Common.{◌-◌, ◌≤◌, ◌++◌, List, length}
-use Rattle.pq_term.specs.declared.token.Token.{Token}
-use Rattle.pq_term.specs.declared.token.Next.{Next}
-use Rattle.pq_term.specs.Division.{IsDividedUpTo}
+use Rattle.std.proofs.Common.{◌-◌, length}
+use Rattle.pq_term.proofs.Ends.{IsDividedBefore}
 use Rattle.pq_term.proofs.division.token_list.Given as goal
 
--- whatever the rest is divided into completes the division
+-- the text so far is these tokens
 abbrev pub invariant-loop-token : goal.invariant-loop-token
-invariant-loop-token l = record { within : l.at ≤ length l.bytes; divided : (rest : List Token) (next : Next) → IsDividedUpTo l.bytes l.at rest next → IsDividedUpTo l.bytes 0 (l.tokens.items ++ rest) next }
+invariant-loop-token l = IsDividedBefore l.bytes l.at l.tokens.items
 
 -- each turn takes a byte
 abbrev pub decreases-loop-token : goal.decreases-loop-token

@@ -1,0 +1,24 @@
+-- What the program says of an outcome.
+use Rattle.std.specs.Prelude.{ℕ, List, [], codes}
+use Rattle.pq_command.specs.declared.outcome.Outcome.{Outcome}
+use Rattle.pq_command.specs.declared.outcome.Outcome.TheVariants.{Done, Words, ReadFault, TooLong, NotYet, WriteFault, Memory}
+
+-- the status of each outcome
+abbrev pub code_of : Outcome → ℕ
+code_of Done = 0
+code_of Words = 2
+code_of ReadFault = 4
+code_of TooLong = 1
+code_of NotYet = 1
+code_of WriteFault = 5
+code_of Memory = 6
+
+-- the line of each outcome
+abbrev pub line_of : Outcome → List ℕ
+line_of Done = []
+line_of Words = codes "words"
+line_of ReadFault = codes "read fault"
+line_of TooLong = codes "too long"
+line_of NotYet = codes "not yet"
+line_of WriteFault = codes "write fault"
+line_of Memory = codes "memory"

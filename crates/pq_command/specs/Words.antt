@@ -1,0 +1,10 @@
+-- The words that name a command.
+use Rattle.std.specs.Prelude.{ℕ, List, [], ◌∷◌, codes, bytes_eq, if◌then◌else◌, Option, Some, None}
+use Rattle.pq_command.specs.declared.words.Command.{Command}
+use Rattle.pq_command.specs.declared.words.Command.TheVariants.{Compile}
+
+-- the command that the words have the form of: `compile`
+abbrev pub command_of : List (List ℕ) → Option Command
+command_of [] = None
+command_of (word ∷ []) = if bytes_eq word (codes "compile") then Some Compile else None
+command_of (word ∷ next ∷ words) = None

@@ -1,0 +1,14 @@
+//! The messages that change a switch's flow entries and groups, and how they are spelled (OpenFlow
+//! 1.3.5, sections 7.1, 7.2.4, 7.2.5, 7.3.4 and 7.3.8). All numbers are spelled big-endian.
+#![tactic(auto)]
+
+mod action;
+mod flow;
+mod group;
+mod message;
+mod set_field;
+#[cfg(test)]
+mod tests;
+
+pub use message::write_message;
+pub use pq_model::{Action, FlowCommand, FlowMod, GroupCommand, GroupMod, Message};

@@ -1,0 +1,16 @@
+//! The match of a flow entry and how it is spelled (OpenFlow 1.3.5, section 7.2.3), with the pieces
+//! that the spellings of whole messages share. All numbers are spelled big-endian.
+#![tactic(auto)]
+
+mod bytes;
+mod matching;
+mod oxm;
+pub mod oxm_field;
+mod stated;
+#[cfg(test)]
+mod tests;
+
+pub use bytes::{padding, write_length, write_zeros};
+pub use matching::{keeps_rules, write_match};
+pub use oxm::write_oxm;
+pub use pq_model::Match;
