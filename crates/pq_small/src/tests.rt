@@ -1,5 +1,5 @@
 use crate::install::install_messages;
-use crate::reading::read_small;
+use crate::read_small;
 use crate::sorted::sorted_ports;
 use pq_model::{Action, Message};
 use std::test::Fail;
