@@ -4,6 +4,9 @@
 
 mod bytes;
 mod matching;
+mod fields;
+mod next;
+mod rules;
 mod oxm;
 pub mod oxm_field;
 mod stated;
