@@ -42,10 +42,23 @@ next_byte n p above is =
 again_128 : (n : ℕ) → n < 2 ^ 128 → from_be_bytes w128 (to_be_bytes w128 n) ≡ n
 again_128 n below =
     let top : n / 256 ^ 15 % 256 ≡ n / 256 ^ 15 = omega arith in
-    rw (top, next_byte n (256 ^ 14) (256 ^ 15) refl, next_byte n (256 ^ 13) (256 ^ 14) refl, next_byte n (256 ^ 12) (256 ^ 13) refl,
-        next_byte n (256 ^ 11) (256 ^ 12) refl, next_byte n (256 ^ 10) (256 ^ 11) refl, next_byte n (256 ^ 9) (256 ^ 10) refl, next_byte n (256 ^ 8) (256 ^ 9) refl,
-        next_byte n (256 ^ 7) (256 ^ 8) refl, next_byte n (256 ^ 6) (256 ^ 7) refl, next_byte n (256 ^ 5) (256 ^ 6) refl, next_byte n (256 ^ 4) (256 ^ 5) refl,
-        next_byte n (256 ^ 3) (256 ^ 4) refl, next_byte n (256 ^ 2) (256 ^ 3) refl, next_byte n 256 (256 ^ 2) refl) (omega arith)
+    rw (
+      top,
+      next_byte n (256 ^ 14) (256 ^ 15) refl,
+      next_byte n (256 ^ 13) (256 ^ 14) refl,
+      next_byte n (256 ^ 12) (256 ^ 13) refl,
+      next_byte n (256 ^ 11) (256 ^ 12) refl,
+      next_byte n (256 ^ 10) (256 ^ 11) refl,
+      next_byte n (256 ^ 9) (256 ^ 10) refl,
+      next_byte n (256 ^ 8) (256 ^ 9) refl,
+      next_byte n (256 ^ 7) (256 ^ 8) refl,
+      next_byte n (256 ^ 6) (256 ^ 7) refl,
+      next_byte n (256 ^ 5) (256 ^ 6) refl,
+      next_byte n (256 ^ 4) (256 ^ 5) refl,
+      next_byte n (256 ^ 3) (256 ^ 4) refl,
+      next_byte n (256 ^ 2) (256 ^ 3) refl,
+      next_byte n 256 (256 ^ 2) refl,
+    ) (omega arith)
 
 pub reads_128 : Reads 16 (2 ^ 128) (to_be_bytes w128) (from_be_bytes w128)
 reads_128 = record { long = λ n. refl; again = again_128 }
