@@ -5,3 +5,4 @@ pub mod Forms
 pub mod Tokens
 pub mod Division
 pub mod Names
+pub mod Addresses

@@ -1,0 +1,2 @@
+pub mod WorkedLines
+pub mod WorkedStates
