@@ -1,5 +1,5 @@
 -- Groups of digits with a byte between each two.
-use Rattle.std.specs.Prelude.{ℕ, Bool, ◌&&◌, if◌then◌else◌, List, length, nat_lt, ◌==◌, Option, Some, None}
+use Rattle.std.specs.Prelude.{ℕ, Bool, ◌&&◌, if◌then◌else◌, List, [], length, nat_lt, ◌==◌, Option, Some, None}
 use Rattle.std.specs.List.{list_all, slice_split, position_or_len, before_first, after_first}
 use Rattle.pq_term.specs.declared.groups.Group.{Group}
 use Rattle.pq_term.specs.declared.groups.Group.TheVariants.{Hex, Decimal}
@@ -27,3 +27,8 @@ abbrev pub behind_separator : ℕ → List ℕ → Option (List ℕ)
 behind_separator separator bs =
     if nat_lt (position_or_len (λ b. b == separator) bs) (length bs) then Some (after_first (λ b. b == separator) bs)
     else None
+
+-- what stands between the separators of a text, where there is a text
+abbrev pub parts_in : ℕ → Option (List ℕ) → List (List ℕ)
+parts_in separator None = []
+parts_in separator (Some bs) = parts separator bs
