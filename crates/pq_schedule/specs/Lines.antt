@@ -1,7 +1,7 @@
 -- The lines of a schedule: which event a line is.
-use Rattle.std.specs.Prelude.{ℕ, ◌-◌, ◌^◌, Bool, true, not, ◌&&◌, if◌then◌else◌, List, [], ◌∷◌, map, length, fold, find, nat_lt, bytes_eq, codes, option_map, option_and_then, Option, Some, None}
+use Rattle.std.specs.Prelude.{ℕ, ◌-◌, ◌^◌, Bool, true, ◌&&◌, if◌then◌else◌, List, [], ◌∷◌, map, length, fold, find, nat_lt, bytes_eq, codes, option_map, option_and_then, Option, Some, None}
 use Rattle.std.specs.Str.{byte}
-use Rattle.pq_term.specs.Numbers.{is_decimal, decimal_of, value_of}
+use Rattle.pq_term.specs.Numbers.{decimal_of}
 use Rattle.pq_term.specs.Groups.{parts, before_separator, behind_separator}
 use Rattle.pq_fields.specs.declared.field.Field.TheVariants.{EthType, IpProto, EthSrc, EthDst, Ipv4Src, Ipv4Dst, TcpSrc, TcpDst, UdpSrc, UdpDst, Ipv6Src, Ipv6Dst}
 use Rattle.pq_fields.specs.Packet.{rank, with_number, zero_packet}
@@ -67,25 +67,32 @@ ascend (s ∷ t ∷ rest) = nat_lt (place_of s.key) (place_of t.key) && ascend (
 abbrev pub packet_at : ℕ → ℕ → TaggedPacket
 packet_at switch port = record { packet = record zero_packet { switch = switch; port = port }; vlan = None }
 
--- the packet with the stated number
+-- the packet with a number stated under a key
+abbrev pub with_key : Key → ℕ → TaggedPacket → TaggedPacket
+with_key Vlan n x = record x { vlan = Some n }
+with_key (Header f) n x = record x { packet = with_number f n x.packet }
+
 abbrev pub with_statement : TaggedPacket → Statement → TaggedPacket
-with_statement x s = elim s.key [ Vlan ↦ record x { vlan = Some s.number } | Header f ↦ record x { packet = with_number f s.number x.packet } ]
+with_statement x s = with_key s.key s.number x
 
 -- the packet with all that is stated, where the keys ascend
 abbrev pub with_statements : TaggedPacket → List Statement → Option TaggedPacket
 with_statements x statements = if ascend statements then Some (fold with_statement x statements) else None
 
--- a port number that OpenFlow does not reserve: 1 to 0xffffff00
-abbrev pub is_port : List ℕ → Bool
-is_port word = is_decimal 0xffffff00 word && not (bytes_eq word (codes "0"))
+-- the number of a port that OpenFlow does not reserve: 1 to 0xffffff00
+abbrev pub port_of : List ℕ → Option ℕ
+port_of word = if bytes_eq word (codes "0") then None else decimal_of 0xffffff00 word
+
+abbrev pub injected_at : Option ℕ → Option ℕ → Option (List Statement) → Option TaggedPacket
+injected_at None port statements = None
+injected_at (Some switch) None statements = None
+injected_at (Some switch) (Some port) statements = option_and_then (with_statements (packet_at switch port)) statements
 
 -- the packet of an `inject` line: its switch, its port, and then what is stated of it
 abbrev pub injected : List (List ℕ) → Option TaggedPacket
 injected [] = None
 injected (switch ∷ []) = None
-injected (switch ∷ port ∷ words) =
-    if is_decimal (2 ^ 64 - 1) switch && is_port port then option_and_then (with_statements (packet_at (value_of 10 switch) (value_of 10 port))) (statements_of words)
-    else None
+injected (switch ∷ port ∷ words) = injected_at (decimal_of (2 ^ 64 - 1) switch) (port_of port) (statements_of words)
 
 -- the place in a `hop` or a `lose` line: one number of 64 bits
 abbrev pub place_in : List (List ℕ) → Option ℕ

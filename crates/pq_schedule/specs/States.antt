@@ -41,10 +41,12 @@ delivered_line x = codes "delivered " ++ packet_text x.packet ++ left_vlan x.vla
 abbrev pub query_name : List (List ℕ) → ℕ → List ℕ
 query_name names query = get_or names query []
 
+-- a line for an observed packet: the query's name, the values of the label, the packet
+abbrev pub bucket_text : List ℕ → List ℕ → Numbers → List ℕ
+bucket_text name label x = codes "bucket " ++ name ++ codes " [" ++ join_by decimal (codes ",") label ++ codes "] " ++ packet_text x ++ codes "\n"
+
 abbrev pub bucket_line : List (List ℕ) → BucketEntry → List ℕ
-bucket_line names e =
-    codes "bucket " ++ query_name names e.pair.query ++ codes " [" ++ join_by decimal (codes ",") e.pair.label ++ codes "] "
-    ++ packet_text e.packet ++ codes "\n"
+bucket_line names e = bucket_text (query_name names e.pair.query) e.pair.label e.packet
 
 -- a line per packet in flight, then per delivery, then per entry of a bucket, each list in its order
 abbrev pub output : List (List ℕ) → TablesState → List ℕ

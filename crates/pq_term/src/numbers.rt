@@ -1,5 +1,5 @@
 //! Numbers, as digits spell them.
-ghost use Rattle.std.specs.Prelude.{◌≡◌, ◌+◌, ◌-◌, ◌*◌, ◌^◌, ◌<◌, SomeIff, if◌then◌else◌};
+ghost use Rattle.std.specs.Prelude.{◌≡◌, ◌+◌, ◌-◌, ◌*◌, ◌^◌, ◌<◌, ◌≤◌, SomeIff, IfSome, if◌then◌else◌};
 ghost use Rattle.std.specs.List.{list_all};
 ghost use Rattle.pq_term.specs.Numbers.{digit_value, is_digit, value_of, is_decimal, is_plain, is_hex, number_of, decimal_of};
 
@@ -76,7 +76,8 @@ fn decimal(text: &[u8]) -> Option<u64>
 
 /// The value of a decimal number without leading zeros, where the text is one and at most this one.
 pub fn decimal_value(most: u64, text: &[u8]) -> Option<u64>
-    ensures { result ≡ decimal_of most text.now }
+    ensures value { result ≡ decimal_of most text.now }
+    ensures within { IfSome result (λ n. n ≤ most) }
 {
     match decimal(text) {
         Some(value) if value <= most => Some(value),
