@@ -6,3 +6,4 @@ pub mod Forms
 pub mod Tokens
 pub mod Division
 pub mod Names
+pub mod Addresses
