@@ -1,4 +1,4 @@
-pub mod Compiled
+pub mod Answers
 pub mod Outcomes
 pub mod Reading
 pub mod Words

@@ -1,7 +1,7 @@
 -- What the program says of an outcome.
-use Rattle.std.specs.Prelude.{ℕ, List, [], codes}
+use Rattle.std.specs.Prelude.{ℕ, List, [], ◌++◌, codes, decimal}
 use Rattle.pq_command.specs.declared.outcome.Outcome.{Outcome}
-use Rattle.pq_command.specs.declared.outcome.Outcome.TheVariants.{Done, Words, ReadFault, TooLong, NotYet, WriteFault, Memory}
+use Rattle.pq_command.specs.declared.outcome.Outcome.TheVariants.{Done, Words, ReadFault, TooLong, Syntax, NotYet, Damaged, ScheduleFull, WriteFault, Memory}
 
 -- the status of each outcome
 abbrev pub code_of : Outcome → ℕ
@@ -9,7 +9,10 @@ code_of Done = 0
 code_of Words = 2
 code_of ReadFault = 4
 code_of TooLong = 1
+code_of (Syntax at) = 1
 code_of NotYet = 1
+code_of (Damaged at) = 1
+code_of ScheduleFull = 3
 code_of WriteFault = 5
 code_of Memory = 6
 
@@ -19,6 +22,9 @@ line_of Done = []
 line_of Words = codes "words"
 line_of ReadFault = codes "read fault"
 line_of TooLong = codes "too long"
+line_of (Syntax at) = codes "syntax " ++ decimal at
 line_of NotYet = codes "not yet"
+line_of (Damaged at) = codes "damaged " ++ decimal at
+line_of ScheduleFull = codes "schedule full"
 line_of WriteFault = codes "write fault"
 line_of Memory = codes "memory"

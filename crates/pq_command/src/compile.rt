@@ -1,10 +1,5 @@
-ghost use Rattle.std.specs.Prelude.{◌≡◌, ◌≢◌};
-ghost use Rattle.pq_command.specs.Compiled.{
-  HasReadFaults,
-  HasWriteFaults,
-  IsAnswer,
-  OnRefusal,
-};
+ghost use Rattle.std.specs.Prelude.{◌≡◌};
+ghost use Rattle.pq_command.specs.Answers.{HasReadFaults, HasWriteFaults, IsCompileAnswer, OnRefusal, streams};
 
 use crate::outcome::Outcome;
 use crate::reading::{Unread, read_whole};
@@ -17,11 +12,10 @@ const DOCUMENT_LIMIT: usize = 524_288;
 
 /// Reads a document to its end and writes its install.
 pub(crate) fn compile<S: Source, K: Sink>(alloc: Global, source: &mut S, sink: &mut K) -> Outcome
-    ensures answer { IsAnswer result (S.left source.old) (S.left source.new) (K.put sink.old) (K.put sink.new) }
+    ensures answer { IsCompileAnswer result (streams (S.left source.old) (S.left source.new) (K.put sink.old) (K.put sink.new)) }
     ensures read_faults { HasReadFaults result (S.faults source.old) (S.faults source.new) }
     ensures write_faults { HasWriteFaults result (K.faults sink.old) (K.faults sink.new) }
     ensures refusal { OnRefusal result (sink.new ≡ sink.old) }
-    ensures command { result ≢ Outcome.Words }
 {
     let text = match read_whole(alloc, source, DOCUMENT_LIMIT) {
         Ok(text) => text,

@@ -4,6 +4,7 @@
 mod compile;
 mod outcome;
 mod reading;
+mod replay;
 mod top;
 mod words;
 

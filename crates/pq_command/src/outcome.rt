@@ -13,10 +13,16 @@ pub enum Outcome {
     Words,
     /// A read failed.
     ReadFault,
-    /// The document has more than 524,288 bytes.
+    /// The document has more than 524,288 bytes, or the input of another command more than 268,435,456.
     TooLong,
+    /// A line of a schedule is no event; its first byte is at this place of the input.
+    Syntax { at: usize },
     /// The document is not of the one form that is compiled today.
     NotYet,
+    /// The input begins with no install; the first unit that is missing, cut or unlawful begins at this place.
+    Damaged { at: usize },
+    /// The schedule has more than 100,000 events.
+    ScheduleFull,
     /// A write failed.
     WriteFault,
     /// Memory ran out.
@@ -30,8 +36,10 @@ impl Outcome {
     {
         match self {
             Outcome::Done => 0,
-            Outcome::TooLong | Outcome::NotYet => 1,
+            Outcome::TooLong | Outcome::Syntax { .. } | Outcome::NotYet | Outcome::Damaged { .. } =>
+                1,
             Outcome::Words => 2,
+            Outcome::ScheduleFull => 3,
             Outcome::ReadFault => 4,
             Outcome::WriteFault => 5,
             Outcome::Memory => 6,
@@ -42,15 +50,17 @@ impl Outcome {
     pub fn line(&self, alloc: Global) -> Result<String, AllocError>
         ensures { IfOk result (λ line. string_bytes line ≡ line_of self.now) }
     {
-        let line = match self {
-            Outcome::Done => "",
-            Outcome::Words => "words",
-            Outcome::ReadFault => "read fault",
-            Outcome::TooLong => "too long",
-            Outcome::NotYet => "not yet",
-            Outcome::WriteFault => "write fault",
-            Outcome::Memory => "memory",
-        };
-        String::from_str(alloc, line)
+        match self {
+            Outcome::Done => String::from_str(alloc, ""),
+            Outcome::Words => String::from_str(alloc, "words"),
+            Outcome::ReadFault => String::from_str(alloc, "read fault"),
+            Outcome::TooLong => String::from_str(alloc, "too long"),
+            Outcome::Syntax { at } => format!(in alloc; "syntax {at}"),
+            Outcome::NotYet => String::from_str(alloc, "not yet"),
+            Outcome::Damaged { at } => format!(in alloc; "damaged {at}"),
+            Outcome::ScheduleFull => String::from_str(alloc, "schedule full"),
+            Outcome::WriteFault => String::from_str(alloc, "write fault"),
+            Outcome::Memory => String::from_str(alloc, "memory"),
+        }
     }
 }

@@ -1,26 +1,30 @@
-ghost use Rattle.std.specs.Prelude.{◌≡◌, ◌↔◌, ◌≤◌, None, length, map, IfSome};
+ghost use Rattle.std.specs.Prelude.{◌≡◌, ◌↔◌, ◌≤◌, None, Some, length, map, IfSome};
 ghost use Rattle.std.specs.String.{string_bytes};
 ghost use Rattle.pq_io.specs.Faults.{Rose};
 ghost use Rattle.pq_small.specs.SmallForm.{SmallForm, IsSmallForm};
 ghost use Rattle.pq_command.specs.Words.{command_of};
-ghost use Rattle.pq_command.specs.Compiled.{
+ghost use Rattle.pq_command.specs.Answers.{
   HasReadFaults,
   HasWriteFaults,
-  IsAnswer,
+  IsCompileAnswer,
   IsDoneOrMemory,
+  IsReplayAnswer,
   OnRefusal,
   document_limit,
+  streams,
 };
 
 use crate::compile::compile;
 use crate::outcome::Outcome;
+use crate::replay::replay;
 use crate::words::Command;
 use pq_io::{Sink, Source};
 use std::alloc::Global;
 
 /// Does what the words after the program's name ask for, from the source to the sink.
 ///
-/// `compile` reads a document to its end and writes its install.
+/// `compile` reads a document to its end and writes its install. `replay` reads an install and at once behind it a
+/// schedule, and writes where every packet is.
 pub fn run<S: Source, K: Sink>(
     alloc: Global,
     words: &[String],
@@ -29,7 +33,8 @@ pub fn run<S: Source, K: Sink>(
 ) -> Outcome
     ensures words { (result ≡ Outcome.Words) ↔ (command_of (map string_bytes words.now) ≡ None) }
     ensures untouched { result ≡ Outcome.Words → source.new ≡ source.old }
-    ensures answer { IsAnswer result (S.left source.old) (S.left source.new) (K.put sink.old) (K.put sink.new) }
+    ensures compiles { command_of (map string_bytes words.now) ≡ Some Command.Compile → IsCompileAnswer result (streams (S.left source.old) (S.left source.new) (K.put sink.old) (K.put sink.new)) }
+    ensures replays { command_of (map string_bytes words.now) ≡ Some Command.Replay → IsReplayAnswer result (streams (S.left source.old) (S.left source.new) (K.put sink.old) (K.put sink.new)) }
     ensures read_faults { HasReadFaults result (S.faults source.old) (S.faults source.new) }
     ensures write_faults { HasWriteFaults result (K.faults sink.old) (K.faults sink.new) }
     ensures refusal { OnRefusal result (sink.new ≡ sink.old) }
@@ -37,6 +42,7 @@ pub fn run<S: Source, K: Sink>(
 {
     match Command::of_words(words) {
         Some(Command::Compile) => compile(alloc, source, sink),
+        Some(Command::Replay) => replay(alloc, source, sink),
         None => Outcome::Words,
     }
 }

@@ -7,4 +7,4 @@ returns-in-Ok-None-clause-answer g c =
     let read = c.in-Ok.ensures.ok in
     let P : List ℕ → Type 0 = IsNoForm in
     let none = subst P c.deref.ensures.value (rw c.in-Ok-None.field-0-is at c.in-Ok-None.ensures) in
-    (c.in-Ok.text.items, (read.1, read.2, read.0), none)
+    (c.in-Ok.text.items, read.1, read.2, read.0, none)
