@@ -1,0 +1,5 @@
+pub mod Copies
+pub mod EntryOrder
+pub mod Found
+pub mod Opened
+pub mod Searched

@@ -1,0 +1,4 @@
+pub mod Hops
+pub mod Network
+pub mod Searches
+pub mod Stored

@@ -1,0 +1,73 @@
+ghost use Rattle.std.specs.Prelude.{◌≡◌, map, IfOk, length, MatchOption};
+ghost use Rattle.pq_model.specs.Lawful.{Ascends};
+ghost use Rattle.pq_model.specs.SwitchMachine.{sends};
+ghost use Rattle.pq_model.specs.TablesMachine.{pairs_of};
+ghost use Rattle.pq_net.specs.Network.{tables_in};
+ghost use Rattle.pq_net.specs.Searches.{IsAt, IsNowhere};
+
+use pq_install::ReportRow;
+use pq_query::Instance;
+use pq_switch::{Sent, Tables, Tagged, hop};
+use pq_topo::{Switch, Topology};
+use std::alloc::{AllocError, Global};
+
+/// The instances of the row with this tag; none where there is no such row.
+pub(crate) fn pairs_of(report: &[ReportRow], tag: u16) -> &[Instance]
+    requires { Ascends (map (λ row. row.tag) report.now) }
+    ensures { result.now ≡ pairs_of report.now tag }
+{
+    match row_at(report, tag) {
+        Some(index) => {
+            let row = &report[index];
+            &row.pairs
+        }
+        None => &[],
+    }
+}
+
+// Where the row with this tag stands.
+fn row_at(report: &[ReportRow], tag: u16) -> Option<usize>
+    requires { Ascends (map (λ row. row.tag) report.now) }
+    ensures { MatchOption result (IsNowhere (λ row. row.tag) report.now tag) (IsAt (λ row. row.tag) report.now tag) }
+{
+    report
+        .binary_search_by_key(
+            &tag,
+            |row: &ReportRow| -> u16
+                ensures { result ≡ row.now.tag }
+            { row.tag },
+        )
+        .ok()
+}
+
+/// The copies that the packet's switch sends for it; none where there is no such switch.
+pub(crate) fn sent(
+    alloc: Global,
+    topology: &Topology,
+    tables: &[Tables],
+    x: &Tagged,
+) -> Result<Vec<Sent>, AllocError>
+    requires { length tables.now ≡ length topology.now.switches }
+    ensures { IfOk result (λ sent. sent.items ≡ sends (tables_in topology.now.switches tables.now x.now.packet.switch) x.now) }
+{
+    match switch_at(topology, x.packet.switch) {
+        Some(index) => hop(alloc, &tables[index], x),
+        None => Ok(Vec::new(alloc)),
+    }
+}
+
+// Where the switch with this datapath number stands.
+fn switch_at(topology: &Topology, datapath: u64) -> Option<usize>
+    ensures ascending { Ascends (map (λ s. s.datapath) topology.now.switches) }
+    ensures place { MatchOption result (IsNowhere (λ s. s.datapath) topology.now.switches datapath) (IsAt (λ s. s.datapath) topology.now.switches datapath) }
+{
+    topology
+        .switches()
+        .binary_search_by_key(
+            &datapath,
+            |switch: &Switch| -> u64
+                ensures { result ≡ switch.now.datapath }
+            { switch.datapath },
+        )
+        .ok()
+}
