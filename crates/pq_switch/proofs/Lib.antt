@@ -1,6 +1,11 @@
 pub mod Buckets
+pub mod Choice
+pub mod Kept
 pub mod Lookups
 pub mod Passing
+pub mod Places
+pub mod Ranges
+pub mod Rows
 pub mod SentOrder
-pub mod Settable
 pub mod Sorted
+pub mod SortedParts

@@ -41,7 +41,7 @@ before_is_order {A} key = subst IsStrictWeakOrder (λ i a b. before-cmp (key a) 
 
 module _ {A : Type 0} (lt : A → A → Bool) (o : IsStrictWeakOrder lt) where
   -- none is below one before it
-  abbrev Rises : List A → Type 0
+  abbrev pub Rises : List A → Type 0
   Rises [] = Unit {0}
   Rises (x ∷ xs) = AllByRecursion (λ y. lt y x ≡ false) xs × Rises xs
 
@@ -122,10 +122,10 @@ module _ {A : Type 0} (key : A → List ℕ) where
   abbrev below : A → A → Bool
   below a b = is_before (key a) (key b)
 
-  order : IsStrictWeakOrder below
+  pub order : IsStrictWeakOrder below
   order = before_is_order key
 
-  filter-choice : (p : A → Bool) (b : Bool) (xs ys : List A) → filter p (if b then xs else ys) ≡ cond b (filter p xs) (filter p ys)
+  pub filter-choice : (p : A → Bool) (b : Bool) (xs ys : List A) → filter p (if b then xs else ys) ≡ cond b (filter p xs) (filter p ys)
   filter-choice p true xs ys = refl
   filter-choice p false xs ys = refl
 
@@ -146,7 +146,7 @@ module _ {A : Type 0} (key : A → List ℕ) where
   sort-ties z [] = refl
   sort-ties z (x ∷ xs) = put-ties x z (sort_by key xs) ∙ ap (λ l. cond (ties below z x) (x ∷ l) l) (sort-ties z xs)
 
-  put-all : (P : A → Type 0) (x : A) (ys : List A) → P x → AllByRecursion P ys → AllByRecursion P (put_by key x ys)
+  pub put-all : (P : A → Type 0) (x : A) (ys : List A) → P x → AllByRecursion P ys → AllByRecursion P (put_by key x ys)
   put-all P x [] here all = (here, tt)
   put-all P x (y ∷ ys) here (first, all) = by (below y x) (put-all P x ys here all)
     where
@@ -154,7 +154,7 @@ module _ {A : Type 0} (key : A → List ℕ) where
       by true more = (first, more)
       by false more = (here, (first, all))
 
-  all_above : (x y : A) (ys : List A) → below y x ≡ false → AllByRecursion (λ w. below w y ≡ false) ys → AllByRecursion (λ w. below w x ≡ false) ys
+  pub all_above : (x y : A) (ys : List A) → below y x ≡ false → AllByRecursion (λ w. below w y ≡ false) ys → AllByRecursion (λ w. below w x ≡ false) ys
   all_above x y [] h all = tt
   all_above x y (w ∷ ys) h (here, all) = (order.chain w y x here h, all_above x y ys h all)
 
@@ -166,7 +166,7 @@ module _ {A : Type 0} (key : A → List ℕ) where
       by true e more = (put-all (λ w. below w y ≡ false) x ys (order.one_way y x e) above, more)
       by false e more = ((e, all_above x y ys e above), (above, r))
 
-  sort-rises : (xs : List A) → Rises below order (sort_by key xs)
+  pub sort-rises : (xs : List A) → Rises below order (sort_by key xs)
   sort-rises [] = tt
   sort-rises (x ∷ xs) = put-rises x (sort_by key xs) (sort-rises xs)
 

@@ -1,2 +1,6 @@
+pub mod Added
+pub mod Choice
 pub mod Layers
+pub mod Places
+pub mod Ranges
 pub mod SentOrder

@@ -1,31 +1,42 @@
-ghost use Rattle.std.specs.Prelude.{◌≡◌, [], ◌∷◌, ◌++◌, All, OnOk, OnErr, not, ◌==◌, ◌&&◌, if◌then◌else◌};
+ghost use Rattle.std.specs.Prelude.{◌≡◌, [], ◌∷◌, ◌++◌, All, OnOk, OnErr, not};
 ghost use Rattle.std.specs.List.{filter, list_any};
 ghost use Rattle.std.specs.Option.{option_copied};
 ghost use Rattle.pq_model.specs.Lawful.{IsLawfulAction};
-ghost use Rattle.pq_model.specs.MatchFields.{covers};
-ghost use Rattle.pq_model.specs.SwitchMachine.{better, entry_of, groups_named, is_placed, is_removed, taken};
+ghost use Rattle.pq_model.specs.SwitchMachine.{entry_of, groups_named, is_placed, is_removed, taken};
 
-use crate::actions::Actions;
-use crate::entry::Entry;
+use crate::entry::{Entry, Slot};
 use crate::groups::Groups;
-use crate::matching::{covers, same_match};
+use crate::lookup::best_in;
+use crate::matching::vlan_word;
+use crate::place::Place;
 use pq_model::{FlowMod, Tagged};
 use std::alloc::{AllocError, Global};
+use std::collections::BTreeMap;
 use std::marker::Model;
 
-/// The entries of a switch, in the order in which they were added.
+/// The entries of a switch, seen in the order in which they were added.
+///
+/// They are kept by their places, so that an Add finds the entry of its place, and a packet is compared only with
+/// entries whose matches state its arriving port and its VLAN word, or leave one of them or both unstated.
 #[derive(Drop)]
 pub(crate) struct Entries {
-    items: Vec<Entry>,
+    slots: BTreeMap<Place, Slot>,
+    // Above the number of each slot.
+    next: u64,
 }
 
 impl Model for Entries {
     ghost use Rattle.std.specs.Prelude.{List};
+    ghost use Rattle.std.specs.Map.{values_of};
     ghost use Rattle.pq_model.specs.SwitchMachine.{Entry as EntryValue};
 
     ghost Value = { List EntryValue };
 
-    ghost view = { λ e. e.items.items };
+    ghost use Rattle.pq_switch.specs.Added.{AreKept, entries_of, in_turn};
+
+    ghost view = { λ e. entries_of (in_turn (values_of e.slots.entries)) };
+
+    ghost invariant = { λ e. AreKept e.next e.slots.entries };
 }
 
 impl Entries {
@@ -33,7 +44,8 @@ impl Entries {
         ensures { result ≡ [] }
     {
         Entries {
-            items: Vec::new(alloc),
+            slots: BTreeMap::new(alloc),
+            next: 0,
         }
     }
 
@@ -41,13 +53,15 @@ impl Entries {
     pub(crate) fn taken(&self, table: u8, x: &Tagged) -> Option<&Entry>
         ensures { option_copied result ≡ taken self.now table x.now }
     {
-        let mut best: Option<&Entry> = None;
-        let mut index = self.items.len();
-        while index > 0 {
-            index -= 1;
-            best = better(&self.items[index], table, x, best);
+        let port = Some(x.packet.port);
+        let word = Some(vlan_word(x));
+        let best = best_in(&self.slots, table, port, word, x, None);
+        let best = best_in(&self.slots, table, port, None, x, best);
+        let best = best_in(&self.slots, table, None, word, x, best);
+        match best_in(&self.slots, table, None, None, x, best) {
+            Some(slot) => Some(&slot.entry),
+            None => None,
         }
-        best
     }
 
     /// Puts an entry last, in place of the one with its table, match and priority.
@@ -56,21 +70,14 @@ impl Entries {
         ensures ok { OnOk result (self.new ≡ filter (λ e. not (is_placed flow.now e)) self.old ++ entry_of flow.now ∷ []) }
         ensures err { OnErr result (self.new ≡ self.old) }
     {
-        let entry = Entry {
-            table: flow.table,
-            priority: flow.priority,
-            matching: flow.matching,
-            cookie: flow.cookie,
-            actions: Actions::copy(alloc, &flow.actions)?,
-            goto: flow.goto,
-        };
-        self.items.reserve(1)?;
-        self.items.retain(
-            |e: &Entry| -> bool
-                ensures { result ≡ not (is_placed flow.entry.now e.now) }
-            { !is_placed(flow, e) },
-        );
-        self.items.push(entry)?;
+        if self.next == u64::MAX {
+            return Err(AllocError);
+        }
+        let place = Place::of(flow.table, &flow.matching, flow.priority);
+        let entry = Entry::of(alloc, flow)?;
+        let sequence = self.next;
+        self.slots.insert(place, Slot { sequence, entry })?;
+        self.next += 1;
         Ok(())
     }
 
@@ -78,55 +85,24 @@ impl Entries {
     pub(crate) fn remove(&mut self, flow: &FlowMod)
         ensures { self.new ≡ filter (λ e. not (is_placed flow.now e)) self.old }
     {
-        self.items.retain(
-            |e: &Entry| -> bool
-                ensures { result ≡ not (is_placed flow.entry.now e.now) }
-            { !is_placed(flow, e) },
-        );
+        let place = Place::of(flow.table, &flow.matching, flow.priority);
+        self.slots.remove(&place);
     }
 
     pub(crate) fn clear(&mut self)
         ensures { self.new ≡ [] }
     {
-        self.items.clear();
+        self.slots.clear();
     }
 
     /// Takes out each entry that names a group that is removed.
     pub(crate) fn remove_naming(&mut self, groups: &Groups, number: u32)
         ensures { self.new ≡ filter (λ e. not (list_any (is_removed groups.now number) (groups_named e.actions))) self.old }
     {
-        self.items.retain(
-            |e: &Entry| -> bool
-                ensures { result ≡ not (list_any (is_removed groups.entry.now number) (groups_named e.now.actions)) }
-            { !groups.removes_named(number, e.actions.as_slice()) },
+        self.slots.retain(
+            |_place: &Place, slot: &mut Slot| -> bool
+                ensures { (result ≡ not (list_any (is_removed groups.entry.now number) (groups_named slot.old.entry.actions))) × (slot.new ≡ slot.old) }
+            { !groups.removes_named(number, slot.entry.actions.as_slice()) },
         );
-    }
-}
-
-// Whether the entry has the table, match and priority of the flow mod.
-fn is_placed(flow: &FlowMod, entry: &Entry) -> bool
-    ensures { result ≡ is_placed flow.now entry.now }
-{
-    if entry.table != flow.table || entry.priority != flow.priority {
-        return false;
-    }
-    same_match(&entry.matching, &flow.matching)
-}
-
-// The better one of an entry and the best of those after it.
-fn better<'a>(
-    entry: &'a Entry,
-    table: u8,
-    x: &Tagged,
-    after: Option<&'a Entry>,
-) -> Option<&'a Entry>
-    ensures { option_copied result ≡ (if (entry.now.table == table) && covers entry.now.matching x.now then better entry.now (option_copied after.entry) else option_copied after.entry) }
-{
-    if entry.table != table || !covers(&entry.matching, x) {
-        return after;
-    }
-    match after {
-        Some(other) if entry.priority < other.priority => after,
-        _ => Some(entry),
     }
 }

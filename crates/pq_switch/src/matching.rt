@@ -67,8 +67,8 @@ fn agrees_to_tag(matching: &Match, arriving: &Tagged) -> bool
         && agrees(matching.vlan.map(u64::from), vlan_word(arriving))
 }
 
-// The VLAN_VID word of a packet: 0 without a VLAN header.
-fn vlan_word(x: &Tagged) -> u64
+/// The VLAN_VID word of a packet: 0 without a VLAN header.
+pub(crate) fn vlan_word(x: &Tagged) -> u64
     ensures { result ≡ vlan_word x.now.vlan }
 {
     match x.vlan {

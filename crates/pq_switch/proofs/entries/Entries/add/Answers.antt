@@ -1,11 +1,20 @@
-use Rattle.std.proofs.Common.{◌≡◌, Bool, not, rules, filter, refl, ap, ◌∙◌}
-use Rattle.std.proofs.lemmas.Fn.{filter_same}
-use Rattle.pq_model.specs.SwitchMachine.{Entry, is_placed}
+use Rattle.std.proofs.Common.{◌≡◌, ◌<◌, ◌∷◌, [], ◌++◌, not, filter, refl, ap, ◌∙◌}
+use Rattle.pq_model.specs.SwitchMachine.{entry_of, is_placed}
+use Rattle.pq_switch.specs.Places.{place_of}
+use Rattle.pq_switch.proofs.Kept.{put_in, put_in-kept}
 use Rattle.pq_switch.proofs.entries.Entries.add.Goals as goal
+
+pub invariant_of-self-2 : goal.invariant_of-self-2
+invariant_of-self-2 c =
+    let f = c.args.flow.now in
+    let at : c.of-place.result ≡ place_of f.table f.matching f.priority = rw (← c.flow.view_is) c.of-place.ensures.value in
+    let small : f.priority < 0x10000 = rw (← c.flow.view_is) c.of-place.ensures.small in
+    put_in-kept f c.self.inside.next small c.of-place.result at c.self.inside.slots c.insert.new.self c.self.invariant _ c.in_ok-entry.ensures refl c.insert.ensures.was_ordered c.in_ok-insert.ensures.entries
 
 pub returns-clause-ok : goal.returns-clause-ok
 returns-clause-ok c =
-    let p : Entry → Bool = λ e. not (is_placed c.args.flow.now e) in
-    let kept : c.retain.new.self.items ≡ filter p c.args.self.now =
-    filter_same _ p _ (λ e b f called. search rules) _ _ c.retain.ensures.filtered ∙ ap (filter p) (c.in_ok-reserve.ensures.items ∙ c.self.view_is) in
-    rw (c.in_ok-push.ensures.items, kept, c.in_ok-copy.ensures, c.deref.ensures.value, ← c.flow.view_is) refl
+    let f = c.args.flow.now in
+    let at : c.of-place.result ≡ place_of f.table f.matching f.priority = rw (← c.flow.view_is) c.of-place.ensures.value in
+    let small : f.priority < 0x10000 = rw (← c.flow.view_is) c.of-place.ensures.small in
+    put_in f c.self.inside.next small c.of-place.result at c.self.inside.slots c.insert.new.self c.self.invariant _ c.in_ok-entry.ensures refl c.insert.ensures.was_ordered c.in_ok-insert.ensures.entries
+    ∙ ap (λ l. filter (λ e. not (is_placed f e)) l ++ entry_of f ∷ []) c.self.view_is

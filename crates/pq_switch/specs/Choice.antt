@@ -1,0 +1,25 @@
+-- Which of several entries a packet takes.
+use Rattle.std.specs.Prelude.{ℕ, Bool, List, [], ◌∷◌, nat_lt, ◌==◌, ◌&&◌, ◌||◌, if◌then◌else◌}
+use Rattle.std.specs.declared.option.Option.{Option}
+use Rattle.std.specs.declared.option.Option.TheVariants.{None, Some}
+use Rattle.pq_model.specs.MatchFields.{covers}
+use Rattle.pq_model.specs.Tagged.{TaggedPacket}
+use Rattle.pq_switch.specs.declared.entry.Slot.{Slot}
+
+-- whether the entry stands in the table and covers the packet
+abbrev pub counts : ℕ → TaggedPacket → Slot → Bool
+counts n x s = (s.entry.table == n) && covers s.entry.matching x
+
+-- whether the first has the higher priority, or the same and was added earlier
+abbrev pub comes_before : Slot → Slot → Bool
+comes_before s t = nat_lt t.entry.priority s.entry.priority || ((t.entry.priority == s.entry.priority) && nat_lt s.sequence t.sequence)
+
+-- the better one of an entry and the best so far
+abbrev pub preferred : ℕ → TaggedPacket → Slot → Option Slot → Option Slot
+preferred n x s None = if counts n x s then Some s else None
+preferred n x s (Some best) = if counts n x s && comes_before s best then Some s else Some best
+
+-- the best of entries and the best so far
+abbrev pub best_of : ℕ → TaggedPacket → List Slot → Option Slot → Option Slot
+best_of n x [] best = best
+best_of n x (s ∷ slots) best = best_of n x slots (preferred n x s best)

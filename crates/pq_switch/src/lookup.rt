@@ -1,0 +1,71 @@
+ghost use Rattle.std.specs.Prelude.{◌≡◌};
+ghost use Rattle.std.specs.Option.{option_copied};
+ghost use Rattle.pq_switch.specs.Choice.{best_of, comes_before, counts, preferred};
+ghost use Rattle.pq_switch.specs.Ranges.{range_of};
+
+use crate::entry::Slot;
+use crate::matching::covers;
+use crate::place::{Headers, Place};
+use pq_model::Tagged;
+use std::collections::BTreeMap;
+
+/// The best of the covering entries of a table whose matches state this arriving port and this VLAN word, and the best so far.
+pub(crate) fn best_in<'a>(
+    slots: &'a BTreeMap<Place, Slot>,
+    table: u8,
+    in_port: Option<u64>,
+    vlan: Option<u64>,
+    x: &Tagged,
+    mut best: Option<&'a Slot>,
+) -> Option<&'a Slot>
+    ensures { option_copied result ≡ best_of table x.now (range_of table in_port vlan slots.now.entries) (option_copied best.entry) }
+{
+    let first = Place {
+        table,
+        in_port,
+        vlan,
+        down: 0,
+        headers: Headers::NONE,
+    };
+    let last = Place {
+        down: 0x1_0001,
+        ..first
+    };
+    for (_, slot) in slots.range(first..last) {
+        best = preferred(table, x, slot, best);
+    }
+    best
+}
+
+// The better one of an entry and the best so far.
+fn preferred<'a>(table: u8, x: &Tagged, slot: &'a Slot, best: Option<&'a Slot>) -> Option<&'a Slot>
+    ensures { option_copied result ≡ preferred table x.now slot.now (option_copied best.entry) }
+{
+    if !counts(table, x, slot) {
+        return best;
+    }
+    match best {
+        Some(other) if !comes_before(slot, other) => best,
+        _ => Some(slot),
+    }
+}
+
+// Whether the entry stands in the table and covers the packet.
+fn counts(table: u8, x: &Tagged, slot: &Slot) -> bool
+    ensures { result ≡ counts table x.now slot.now }
+{
+    let entry = &slot.entry;
+    entry.table == table && covers(&entry.matching, x)
+}
+
+// Whether the first has the higher priority, or the same and was added earlier.
+fn comes_before(slot: &Slot, other: &Slot) -> bool
+    ensures { result ≡ comes_before slot.now other.now }
+{
+    let entry = &slot.entry;
+    let compared = &other.entry;
+    if entry.priority != compared.priority {
+        return entry.priority > compared.priority;
+    }
+    slot.sequence < other.sequence
+}
