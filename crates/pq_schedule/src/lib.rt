@@ -9,4 +9,4 @@ mod schedule;
 mod values;
 
 pub use event_line::event_of_line;
-pub use schedule::ScheduleFault;
+pub use schedule::{ScheduleFault, a_text_is_read_one_way, read_schedule};
