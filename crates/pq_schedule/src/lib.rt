@@ -5,6 +5,7 @@ mod event_line;
 mod injection;
 mod key;
 mod names;
+mod numbers;
 mod schedule;
 mod values;
 
