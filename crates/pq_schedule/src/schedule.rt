@@ -1,5 +1,6 @@
 ghost use Rattle.std.specs.Prelude.{◌≡◌, ℕ, List, IfErr, IfOk};
-ghost use Rattle.pq_schedule.specs.Schedules.{FirstFault, IsSchedule, IsScheduleFault, IsTooLong};
+ghost use Rattle.pq_model.specs.Events.{IsSchedule};
+ghost use Rattle.pq_schedule.specs.Schedules.{FirstFault, IsScheduleText, IsScheduleFault, IsTooLong};
 
 use crate::event_line::event_of_line;
 use pq_model::Event;
@@ -25,7 +26,8 @@ pub enum ScheduleFault {
 /// `Syntax` is answered exactly where the first line that is no event, which an empty line and an unended last one
 /// are too, stands behind at most 100,000 events; `Full` exactly where the first 100,001 lines are all events.
 pub fn read_schedule(alloc: Global, text: &[u8]) -> Result<Vec<Event>, ScheduleFault>
-    ensures ok { IfOk result (λ events. IsSchedule text.now events.items) }
+    ensures ok { IfOk result (λ events. IsScheduleText text.now events.items) }
+    ensures may_happen { IfOk result (λ events. IsSchedule events.items) }
     ensures err { IfErr result (IsScheduleFault text.now) }
 {
     let mut events = Vec::new(alloc);
@@ -57,9 +59,9 @@ pub fn read_schedule(alloc: Global, text: &[u8]) -> Result<Vec<Event>, ScheduleF
 /// What a text is answered is settled by the text, but for memory: it has at most one list of events, or a first
 /// line that is no event at one place, or too many events, and never two of the three. It does nothing when it runs.
 pub fn a_text_is_read_one_way()
-    ensures schedule { (text : List ℕ) (xs ys : List Event) → IsSchedule text xs → IsSchedule text ys → xs ≡ ys }
+    ensures schedule { (text : List ℕ) (xs ys : List Event) → IsScheduleText text xs → IsScheduleText text ys → xs ≡ ys }
     ensures fault { (text : List ℕ) (p q : ℕ) → FirstFault text p → FirstFault text q → p ≡ q }
-    ensures schedule_or_fault { (text : List ℕ) (xs : List Event) (p : ℕ) → IsSchedule text xs → FirstFault text p → ⊥ }
-    ensures schedule_or_full { (text : List ℕ) (xs : List Event) → IsSchedule text xs → IsTooLong text → ⊥ }
+    ensures schedule_or_fault { (text : List ℕ) (xs : List Event) (p : ℕ) → IsScheduleText text xs → FirstFault text p → ⊥ }
+    ensures schedule_or_full { (text : List ℕ) (xs : List Event) → IsScheduleText text xs → IsTooLong text → ⊥ }
     ensures fault_or_full { (text : List ℕ) (p : ℕ) → FirstFault text p → IsTooLong text → ⊥ }
 {}
