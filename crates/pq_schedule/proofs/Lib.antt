@@ -2,3 +2,4 @@ pub mod WorkedLines
 pub mod WorkedStates
 pub mod Statements
 pub mod Places
+pub mod Readings

@@ -21,8 +21,8 @@ AreEvents text [] rest = text ≡ rest
 AreEvents text (e ∷ es) rest = (left : List ℕ) × BeginsWith text e left × AreEvents left es rest
 
 -- the whole text is these events
-abbrev pub IsSchedule : List ℕ → List Event → Type 0
-IsSchedule text events = AreEvents text events [] × (length events ≤ event_limit)
+abbrev pub IsScheduleText : List ℕ → List Event → Type 0
+IsScheduleText text events = AreEvents text events [] × (length events ≤ event_limit)
 
 -- at the place begins the first line that is no event, behind at most as many events as a schedule has
 pub record FirstFault (text : List ℕ) (place : ℕ) : Type 0 where

@@ -18,7 +18,7 @@ abbrev pub field_text : Numbers → Field → List ℕ
 field_text x f = field_name f ++ codes "=" ++ text_in (form_of f) (number_in f x)
 
 -- the fields that the packet has, in field order, joined by one space
-abbrev pub packet_text : Numbers → List ℕ
+unfoldable pub packet_text : Numbers → List ℕ
 packet_text x = join_by (field_text x) (codes " ") (filter (λ f. has_field f x) fields)
 
 -- the VLAN number of a packet in flight, or that it has no VLAN header

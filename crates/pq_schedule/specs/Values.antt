@@ -1,6 +1,5 @@
 -- The names of fields, and how their numbers are written: in schedules, and of packets that are printed.
 use Rattle.std.specs.Prelude.{ℕ, ◌+◌, ◌-◌, ◌/◌, ◌%◌, ◌^◌, Bool, false, not, ◌&&◌, ◌||◌, if◌then◌else◌, List, [], ◌∷◌, map, length, ◌==◌, codes, decimal, Option, None}
-use Rattle.std.specs.Int.{w32, to_be_bytes}
 use Rattle.std.specs.Fmt.{digits, digit_glyph}
 use Rattle.std.specs.Char.{is_ascii_uppercase}
 use Rattle.std.specs.List.{list_all, list_any, join_by}
@@ -11,7 +10,6 @@ use Rattle.pq_term.specs.Addresses.{mac_of, ipv4_of, ipv6_of}
 use Rattle.pq_fields.specs.declared.field.Field.{Field}
 use Rattle.pq_fields.specs.declared.field.Field.TheVariants.{Switch, Port, EthType, IpProto, EthSrc, EthDst, Ipv4Src, Ipv4Dst, TcpSrc, TcpDst, UdpSrc, UdpDst, Ipv6Src, Ipv6Dst}
 use Rattle.pq_fields.specs.Packet.{width_of}
-use Rattle.pq_model.specs.Spelling.{mac_bytes}
 
 -- how a number is written: by decimal digits without leading zeros, or as an address
 pub data Form : Type 0 where
@@ -82,13 +80,13 @@ field_number f text = number_from (form_of f) (width_of f) text
 abbrev pub two_digits : ℕ → List ℕ
 two_digits n = digit_glyph false (n / 16) ∷ digit_glyph false (n % 16) ∷ []
 
--- the eight groups of sixteen bits of an IPv6 address, the highest first
-abbrev pub segments : ℕ → List ℕ
-segments n = map (λ place. n / 2 ^ place % 2 ^ 16) (112 ∷ 96 ∷ 80 ∷ 64 ∷ 48 ∷ 32 ∷ 16 ∷ 0 ∷ [])
+-- so many bits of a number at each of these places, counted from the lowest bit
+abbrev pub bits_at : ℕ → List ℕ → ℕ → List ℕ
+bits_at bits places n = map (λ place. n / 2 ^ place % 2 ^ bits) places
 
 -- the text of a number in a form
 abbrev pub text_in : Form → ℕ → List ℕ
 text_in Decimal n = decimal n
-text_in Mac n = join_by two_digits (codes ":") (mac_bytes n)
-text_in Ipv4 n = join_by decimal (codes ".") (to_be_bytes w32 n)
-text_in Ipv6 n = join_by (digits 16 false) (codes ":") (segments n)
+text_in Mac n = join_by two_digits (codes ":") (bits_at 8 (40 ∷ 32 ∷ 24 ∷ 16 ∷ 8 ∷ 0 ∷ []) n)
+text_in Ipv4 n = join_by decimal (codes ".") (bits_at 8 (24 ∷ 16 ∷ 8 ∷ 0 ∷ []) n)
+text_in Ipv6 n = join_by (digits 16 false) (codes ":") (bits_at 16 (112 ∷ 96 ∷ 80 ∷ 64 ∷ 48 ∷ 32 ∷ 16 ∷ 0 ∷ []) n)

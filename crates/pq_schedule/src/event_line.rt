@@ -1,6 +1,7 @@
-ghost use Rattle.std.specs.Prelude.{◌≡◌, ◌∷◌, option_copied};
+ghost use Rattle.std.specs.Prelude.{◌≡◌, ◌∷◌, IfSome, option_copied};
 ghost use Rattle.std.specs.Str.{byte};
 ghost use Rattle.pq_term.specs.Groups.{parts_in};
+ghost use Rattle.pq_model.specs.Events.{IsEvent};
 ghost use Rattle.pq_schedule.specs.Lines.{event_in, event_of, place_in};
 
 use crate::injection::injected;
@@ -28,7 +29,8 @@ fn place_value(words: Option<&[u8]>) -> Option<u64>
 
 /// The event that a verb and the words behind it are.
 fn event_in(verb: &[u8], words: Option<&[u8]>) -> Option<Event>
-    ensures { result ≡ event_in (verb.now ∷ parts_in (byte " ") (option_copied words.entry)) }
+    ensures value { result ≡ event_in (verb.now ∷ parts_in (byte " ") (option_copied words.entry)) }
+    ensures may_happen { IfSome result IsEvent }
 {
     if verb == INJECT {
         Some(Event::Inject(injected(words)?))
@@ -50,7 +52,8 @@ fn event_in(verb: &[u8], words: Option<&[u8]>) -> Option<Event>
 /// either case, an IPv4 address, or an IPv6 address of eight groups of lower-case digits without leading zeros.
 /// Fields that are not stated are 0.
 pub fn event_of_line(line: &[u8]) -> Option<Event>
-    ensures { result ≡ event_of line.now }
+    ensures value { result ≡ event_of line.now }
+    ensures may_happen { IfSome result IsEvent }
 {
     if line.len() >= LINE_LIMIT {
         return None;
