@@ -1,1 +1,2 @@
 pub mod front;
+pub mod switches;
