@@ -4,3 +4,6 @@ pub mod Sequences
 pub mod Ports
 pub mod ReadNames
 pub mod SwitchUnits
+pub mod Chains
+pub mod UnitLists
+pub mod SwitchLists

@@ -1,3 +1,4 @@
 pub mod Front
 pub mod Units
 pub mod Switches
+pub mod Following

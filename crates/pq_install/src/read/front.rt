@@ -1,8 +1,10 @@
-ghost use Rattle.std.specs.Prelude.{◌≡◌, MatchOption, IfOk};
+ghost use Rattle.std.specs.Prelude.{◌≡◌, ◌≤◌, MatchOption, IfErr, IfOk};
 ghost use Rattle.std.specs.List.{flat_map};
 ghost use Rattle.std.specs.Int.{w16, w32, w64, to_be_bytes};
 ghost use Rattle.pq_install.specs.Front.{AreCounted, AreFew, IsAtFront, IsU16, IsU32, IsU64, NoneAtFront, counted_by};
+ghost use Rattle.pq_install.specs.Units.{Tells, UnitFails};
 
+use crate::fault::Fault;
 use std::alloc::{AllocError, Global};
 
 /// The number in the first two bytes, and the bytes behind it.
@@ -97,5 +99,16 @@ pub fn counted_u64s_at(alloc: Global, bytes: &[u8]) -> Result<Option<(Vec<u64>, 
     match u32_at(bytes) {
         Some((count, rest)) => u64s_at(alloc, count as usize, rest),
         None => Ok(None),
+    }
+}
+
+/// A count of at most so many in the first two bytes, and the bytes behind it.
+pub fn count_at(most: u16, bytes: &[u8]) -> Result<(u16, &[u8]), Fault>
+    ensures ok { IfOk result (λ r. IsAtFront (λ n. n ≤ most) (to_be_bytes w16) bytes.now r.0 r.1.now) }
+    ensures err { IfErr result (Tells (UnitFails (λ n. n ≤ most) (to_be_bytes w16) bytes.now)) }
+{
+    match u16_at(bytes) {
+        Some((count, rest)) if count <= most => Ok((count, rest)),
+        _ => Err(Fault::Damaged { left: bytes.len() }),
     }
 }
