@@ -7,3 +7,6 @@ pub mod SwitchUnits
 pub mod Chains
 pub mod UnitLists
 pub mod SwitchLists
+pub mod Distinct
+pub mod LinkUnits
+pub mod LinkLists

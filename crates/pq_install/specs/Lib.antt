@@ -2,3 +2,4 @@ pub mod Front
 pub mod Units
 pub mod Switches
 pub mod Following
+pub mod Links
