@@ -1,2 +1,12 @@
 pub mod Front
 pub mod BigEndian
+pub mod Sequences
+pub mod Ports
+pub mod ReadNames
+pub mod SwitchUnits
+pub mod Chains
+pub mod UnitLists
+pub mod SwitchLists
+pub mod Distinct
+pub mod LinkUnits
+pub mod LinkLists

@@ -1,1 +1,5 @@
 pub mod Front
+pub mod Units
+pub mod Switches
+pub mod Following
+pub mod Links

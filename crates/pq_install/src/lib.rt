@@ -1,6 +1,7 @@
 //! What is written for a network, and how it is spelled. All numbers are spelled big-endian.
 #![tactic(auto)]
 
+mod fault;
 mod install;
 mod lists;
 mod names;

@@ -1,1 +1,3 @@
 pub mod front;
+pub mod links;
+pub mod switches;

@@ -93,6 +93,13 @@ impl Topology {
         }
     }
 
+    /// Whether this is a port of the topology.
+    pub fn is_port(&self, datapath: u64, port: u32) -> bool
+        ensures { result ≡ is_port self.now datapath port }
+    {
+        self.ports_of(datapath).binary_search(&port).is_ok()
+    }
+
     /// Whether this is a port of the topology that is in no link.
     pub fn is_edge(&self, datapath: u64, port: u32) -> bool
         ensures { result ≡ is_edge self.now datapath port }
@@ -122,13 +129,6 @@ impl Topology {
         }
         let links = Vec::from_slice(alloc, &self.links)?;
         Ok(Topology { switches, links })
-    }
-
-    // Whether this is a port of the topology.
-    fn is_port(&self, datapath: u64, port: u32) -> bool
-        ensures { result ≡ is_port self.now datapath port }
-    {
-        self.ports_of(datapath).binary_search(&port).is_ok()
     }
 
     // Where the switch with this datapath number stands in the list of switches.

@@ -1,8 +1,10 @@
-ghost use Rattle.std.specs.Prelude.{◌≡◌, MatchOption, IfOk};
+ghost use Rattle.std.specs.Prelude.{◌≡◌, ◌≤◌, MatchOption, IfErr, IfOk};
 ghost use Rattle.std.specs.List.{flat_map};
 ghost use Rattle.std.specs.Int.{w16, w32, w64, to_be_bytes};
-ghost use Rattle.pq_install.specs.Front.{AreCounted, IsAtFront, IsU16, IsU32, IsU64, NoneAtFront};
+ghost use Rattle.pq_install.specs.Front.{AreCounted, AreFew, IsAtFront, IsU16, IsU32, IsU64, NoneAtFront, counted_by};
+ghost use Rattle.pq_install.specs.Units.{Tells, UnitFails};
 
+use crate::fault::Fault;
 use std::alloc::{AllocError, Global};
 
 /// The number in the first two bytes, and the bytes behind it.
@@ -32,8 +34,8 @@ pub fn u64_at(bytes: &[u8]) -> Option<(u64, &[u8])>
     Some((u64::from_be_bytes(*front), rest))
 }
 
-/// So many numbers of four bytes, and the bytes behind them; `None` where there are fewer.
-pub fn u32s_at(
+// So many numbers of four bytes, and the bytes behind them; `None` where there are fewer.
+fn u32s_at(
     alloc: Global,
     count: usize,
     bytes: &[u8],
@@ -54,8 +56,8 @@ pub fn u32s_at(
     Ok(Some((numbers, rest)))
 }
 
-/// So many numbers of eight bytes, and the bytes behind them; `None` where there are fewer.
-pub fn u64s_at(
+// So many numbers of eight bytes, and the bytes behind them; `None` where there are fewer.
+fn u64s_at(
     alloc: Global,
     count: usize,
     bytes: &[u8],
@@ -74,4 +76,39 @@ pub fn u64s_at(
         rest = after;
     }
     Ok(Some((numbers, rest)))
+}
+
+/// Numbers of four bytes behind their count in two, and the bytes behind them.
+pub fn counted_u32s_at(alloc: Global, bytes: &[u8]) -> Result<Option<(Vec<u32>, &[u8])>, AllocError>
+    ensures { IfOk result (λ found. MatchOption found
+        (NoneAtFront (AreFew IsU16 IsU32) (counted_by w16 (to_be_bytes w32)) bytes.now)
+        (λ r. IsAtFront (AreFew IsU16 IsU32) (counted_by w16 (to_be_bytes w32)) bytes.now r.0.items r.1.now)) }
+{
+    match u16_at(bytes) {
+        Some((count, rest)) => u32s_at(alloc, usize::from(count), rest),
+        None => Ok(None),
+    }
+}
+
+/// Numbers of eight bytes behind their count in four, and the bytes behind them.
+pub fn counted_u64s_at(alloc: Global, bytes: &[u8]) -> Result<Option<(Vec<u64>, &[u8])>, AllocError>
+    ensures { IfOk result (λ found. MatchOption found
+        (NoneAtFront (AreFew IsU32 IsU64) (counted_by w32 (to_be_bytes w64)) bytes.now)
+        (λ r. IsAtFront (AreFew IsU32 IsU64) (counted_by w32 (to_be_bytes w64)) bytes.now r.0.items r.1.now)) }
+{
+    match u32_at(bytes) {
+        Some((count, rest)) => u64s_at(alloc, count as usize, rest),
+        None => Ok(None),
+    }
+}
+
+/// A count of at most so many in the first two bytes, and the bytes behind it.
+pub fn count_at(most: u16, bytes: &[u8]) -> Result<(u16, &[u8]), Fault>
+    ensures ok { IfOk result (λ r. IsAtFront (λ n. n ≤ most) (to_be_bytes w16) bytes.now r.0 r.1.now) }
+    ensures err { IfErr result (Tells (UnitFails (λ n. n ≤ most) (to_be_bytes w16) bytes.now)) }
+{
+    match u16_at(bytes) {
+        Some((count, rest)) if count <= most => Ok((count, rest)),
+        _ => Err(Fault::Damaged { left: bytes.len() }),
+    }
 }
