@@ -1,21 +1,17 @@
 -- What replaying an install and a schedule gives.
 use Rattle.std.specs.Prelude.{◌≡◌, ℕ, ◌+◌, ◌⊎◌, List, ◌++◌, length}
 use Rattle.pq_model.specs.declared.event.Event.{Event}
-use Rattle.pq_model.specs.SwitchMachine.{Tables, no_tables, applies_all}
-use Rattle.pq_model.specs.TablesMachine.{TablesState, nothing_sent, run_sending, sends_by}
-use Rattle.pq_model.specs.Install.{Install, messages_of, IsSpelled, IsSpelledOld}
-use Rattle.pq_schedule.specs.Schedules.{IsSchedule, FirstFault, IsTooLong}
+use Rattle.pq_model.specs.TablesMachine.{TablesState, nothing_sent, run_sending}
+use Rattle.pq_model.specs.Install.{Install, IsSpelled, IsSpelledOld}
+use Rattle.pq_net.specs.Network.{installed_sender}
+use Rattle.pq_schedule.specs.Schedules.{IsScheduleText, FirstFault, IsTooLong}
 use Rattle.pq_schedule.specs.States.{output}
 use Rattle.pq_replay.specs.declared.fault.ReplayFault.{ReplayFault}
 use Rattle.pq_replay.specs.declared.fault.ReplayFault.TheVariants.{Damaged, Syntax, Full, Memory}
 
--- each switch has processed its messages as they are written, from empty tables
-abbrev pub written_tables : Install → ℕ → Tables
-written_tables i d = applies_all no_tables (messages_of i d)
-
 -- what a schedule leaves of the network that an install makes
 abbrev pub replayed : Install → List Event → TablesState
-replayed i events = run_sending i.topology i.report (sends_by (written_tables i)) nothing_sent events
+replayed i events = run_sending i.topology i.report (installed_sender i) nothing_sent events
 
 -- the bytes begin with an install, in its spelling or its old spelling, and go on with this text
 pub record BeginsWith (bytes : List ℕ) (i : Install) (text : List ℕ) : Type 0 where
@@ -29,7 +25,7 @@ pub record IsReplay (bytes written : List ℕ) : Type 0 where
   pub text : List ℕ
   pub begins : BeginsWith bytes install text
   pub events : List Event
-  pub scheduled : IsSchedule text events
+  pub scheduled : IsScheduleText text events
   pub state : written ≡ output install.queries (replayed install events)
 
 -- the bytes begin with no install; the first unit that is missing, cut or unlawful after the units before it begins at the place

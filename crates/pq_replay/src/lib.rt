@@ -2,6 +2,7 @@
 #![tactic(auto)]
 
 mod fault;
+mod state;
 mod text;
 
 pub use fault::ReplayFault;
