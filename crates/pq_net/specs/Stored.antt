@@ -6,7 +6,7 @@ use Rattle.pq_net.specs.declared.net.Net.TheInside.{Inside}
 
 -- the parts that are stored
 abbrev pub stored_network : Inside → Network
-stored_network n = record { topology = n.topology; queries = n.names.items; report = n.report.items; tables = n.tables.items; state = n.state }
+stored_network n = record { topology = n.wiring; queries = n.names.items; report = n.report.items; tables = n.tables.items; state = n.state }
 
 -- the rows ascend by their tags, and there are tables for each switch
 pub record IsSearchable (n : Network) : Type 0 where

@@ -6,28 +6,28 @@ ghost use Rattle.pq_net.specs.Hops.{adds, carries, delivers};
 use crate::collecting::collect;
 use crate::sorting::sort;
 use crate::state::State;
+use crate::wiring::Wiring;
 use pq_fields::{Field, Packet, fits};
 use pq_install::ReportRow;
 use pq_model::{Sent, Tagged};
-use pq_topo::Topology;
 use std::alloc::{AllocError, Global};
 
 /// What the copies of one hop put in flight, deliver and put into buckets.
 pub(crate) fn added(
     alloc: Global,
-    topology: &Topology,
+    wiring: &Wiring,
     report: &[ReportRow],
     sent: &[Sent],
 ) -> Result<State, AllocError>
     requires { Ascends (map (λ row. row.tag) report.now) }
-    ensures { IfOk result (λ state. state ≡ adds topology.now report.now sent.now) }
+    ensures { IfOk result (λ state. state ≡ adds wiring.now report.now sent.now) }
 {
     let mut flight = Vec::new(alloc);
     let mut delivered = Vec::new(alloc);
     let mut buckets = Vec::new(alloc);
     for copy in sent {
-        carry(topology, *copy, &mut flight)?;
-        deliver(topology, *copy, &mut delivered)?;
+        carry(wiring, *copy, &mut flight)?;
+        deliver(wiring, *copy, &mut delivered)?;
         collect(alloc, report, *copy, &mut buckets)?;
     }
     sort(&mut buckets)?;
@@ -39,13 +39,13 @@ pub(crate) fn added(
 }
 
 // A copy to a linked port goes on at the other end of the link.
-fn carry(topology: &Topology, copy: Sent, flight: &mut Vec<Tagged>) -> Result<(), AllocError>
-    ensures { OnOk result (flight.new.items ≡ flight.old.items ++ carries topology.now copy) }
+fn carry(wiring: &Wiring, copy: Sent, flight: &mut Vec<Tagged>) -> Result<(), AllocError>
+    ensures { OnOk result (flight.new.items ≡ flight.old.items ++ carries wiring.now copy) }
 {
     let Sent::Port(x) = copy else {
         return Ok(());
     };
-    let Some(end) = topology.peer(x.packet.switch, port_of(x.packet)) else {
+    let Some(end) = wiring.peer(x.packet.switch, port_of(x.packet)) else {
         return Ok(());
     };
     flight.push(Tagged {
@@ -56,13 +56,13 @@ fn carry(topology: &Topology, copy: Sent, flight: &mut Vec<Tagged>) -> Result<()
 }
 
 // A copy to an edge port is delivered.
-fn deliver(topology: &Topology, copy: Sent, delivered: &mut Vec<Tagged>) -> Result<(), AllocError>
-    ensures { OnOk result (delivered.new.items ≡ delivered.old.items ++ delivers topology.now copy) }
+fn deliver(wiring: &Wiring, copy: Sent, delivered: &mut Vec<Tagged>) -> Result<(), AllocError>
+    ensures { OnOk result (delivered.new.items ≡ delivered.old.items ++ delivers wiring.now copy) }
 {
     let Sent::Port(x) = copy else {
         return Ok(());
     };
-    if !topology.is_edge(x.packet.switch, port_of(x.packet)) {
+    if !wiring.is_edge(x.packet.switch, port_of(x.packet)) {
         return Ok(());
     }
     delivered.push(x)?;

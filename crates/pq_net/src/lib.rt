@@ -11,6 +11,7 @@ mod net;
 mod opening;
 mod sorting;
 mod state;
+mod wiring;
 
 pub use entry::Entry;
 pub use laws::opened_networks_send_by_their_messages;

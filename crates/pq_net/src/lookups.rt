@@ -5,10 +5,11 @@ ghost use Rattle.pq_model.specs.TablesMachine.{pairs_of};
 ghost use Rattle.pq_net.specs.Network.{tables_in};
 ghost use Rattle.pq_net.specs.Searches.{IsAt, IsNowhere};
 
+use crate::wiring::Wiring;
 use pq_install::ReportRow;
 use pq_query::Instance;
 use pq_switch::{Sent, Tables, Tagged, hop};
-use pq_topo::{Switch, Topology};
+use pq_topo::Switch;
 use std::alloc::{AllocError, Global};
 
 /// The instances of the row with this tag; none where there is no such row.
@@ -43,25 +44,25 @@ fn row_at(report: &[ReportRow], tag: u16) -> Option<usize>
 /// The copies that the packet's switch sends for it; none where there is no such switch.
 pub(crate) fn sent(
     alloc: Global,
-    topology: &Topology,
+    wiring: &Wiring,
     tables: &[Tables],
     x: &Tagged,
 ) -> Result<Vec<Sent>, AllocError>
-    requires { length tables.now ≡ length topology.now.switches }
-    ensures { IfOk result (λ sent. sent.items ≡ sends (tables_in topology.now.switches tables.now x.now.packet.switch) x.now) }
+    requires { length tables.now ≡ length wiring.now.switches }
+    ensures { IfOk result (λ sent. sent.items ≡ sends (tables_in wiring.now.switches tables.now x.now.packet.switch) x.now) }
 {
-    match switch_at(topology, x.packet.switch) {
+    match switch_at(wiring, x.packet.switch) {
         Some(index) => hop(alloc, &tables[index], x),
         None => Ok(Vec::new(alloc)),
     }
 }
 
 // Where the switch with this datapath number stands.
-fn switch_at(topology: &Topology, datapath: u64) -> Option<usize>
-    ensures ascending { Ascends (map (λ s. s.datapath) topology.now.switches) }
-    ensures place { MatchOption result (IsNowhere (λ s. s.datapath) topology.now.switches datapath) (IsAt (λ s. s.datapath) topology.now.switches datapath) }
+fn switch_at(wiring: &Wiring, datapath: u64) -> Option<usize>
+    ensures ascending { Ascends (map (λ s. s.datapath) wiring.now.switches) }
+    ensures place { MatchOption result (IsNowhere (λ s. s.datapath) wiring.now.switches datapath) (IsAt (λ s. s.datapath) wiring.now.switches datapath) }
 {
-    topology
+    wiring
         .switches()
         .binary_search_by_key(
             &datapath,

@@ -9,18 +9,18 @@ use crate::hops::{added, port_of};
 use crate::lookups::sent;
 use crate::opening::all_tables;
 use crate::state::State;
+use crate::wiring::Wiring;
 use pq_install::{Install, ReportRow};
 use pq_model::{Event, Tagged};
 use pq_switch::Tables;
 use pq_term::Name;
-use pq_topo::Topology;
 use std::alloc::{AllocError, Global};
 use std::marker::Model;
 
 /// A network of switches with what is installed in them, the packets in it, and what the collector has.
 #[derive(Drop)]
 pub struct Net {
-    topology: Topology,
+    wiring: Wiring,
     names: Vec<Name>,
     report: Vec<ReportRow>,
     tables: Vec<Tables>,
@@ -33,15 +33,15 @@ impl Model for Net {
     ghost use Rattle.pq_model.specs.Topology.{Topology as TopologyValue};
     ghost use Rattle.pq_model.specs.SwitchMachine.{Tables as TablesValue};
     ghost use Rattle.pq_model.specs.TablesMachine.{Report, TablesState};
-    ghost use Rattle.pq_topo.specs.contracts.topology.Topology as topologies;
     ghost use Rattle.pq_install.specs.contracts.install.ReportRow as rows;
     ghost use Rattle.pq_switch.specs.contracts.tables.Tables as switches;
     ghost use Rattle.pq_net.specs.contracts.state.State as states;
+    ghost use Rattle.pq_net.specs.contracts.wiring.Wiring as wirings;
     ghost use Rattle.pq_net.specs.Network.{Network};
 
     ghost Value = { Network };
 
-    ghost coded = { code_by (TopologyValue × (List (List ℕ) × (Report × (List TablesValue × TablesState)))) (coded× topologies.the_row.coded (coded× (coded_list (coded_list coded_ℕ)) (coded× (coded_list rows.the_row.coded) (coded× (coded_list switches.the_row.coded) states.the_row.coded)))) (λ n. (n.topology, (n.queries, (n.report, (n.tables, n.state))))) (λ p. record { topology = p.0; queries = p.1.0; report = p.1.1.0; tables = p.1.1.1.0; state = p.1.1.1.1 }) (λ _. refl) };
+    ghost coded = { code_by (TopologyValue × (List (List ℕ) × (Report × (List TablesValue × TablesState)))) (coded× wirings.the_row.coded (coded× (coded_list (coded_list coded_ℕ)) (coded× (coded_list rows.the_row.coded) (coded× (coded_list switches.the_row.coded) states.the_row.coded)))) (λ n. (n.topology, (n.queries, (n.report, (n.tables, n.state))))) (λ p. record { topology = p.0; queries = p.1.0; report = p.1.1.0; tables = p.1.1.1.0; state = p.1.1.1.1 }) (λ _. refl) };
 
     ghost use Rattle.pq_net.specs.Stored.{stored_network, IsSearchable};
 
@@ -58,8 +58,9 @@ impl Net {
         ensures { IfOk result (λ net. net ≡ opened install) }
     {
         let tables = all_tables(alloc, &install.messages)?;
+        let wiring = Wiring::of(alloc, install.topology)?;
         Ok(Net {
-            topology: install.topology,
+            wiring,
             names: install.names,
             report: install.report,
             tables,
@@ -115,7 +116,7 @@ impl Net {
         ensures ok { OnOk result (self.new ≡ record self.old { state = injects_sending self.old.topology self.old.state x }) }
         ensures err { OnErr result (self.new ≡ self.old) }
     {
-        if !self.topology.is_edge(x.packet.switch, port_of(x.packet)) {
+        if !self.wiring.is_edge(x.packet.switch, port_of(x.packet)) {
             return Ok(());
         }
         self.state.flight.push(x)?;
@@ -130,8 +131,8 @@ impl Net {
         let Some(x) = self.state.flight.get(place) else {
             return Ok(());
         };
-        let sent = sent(alloc, &self.topology, &self.tables, x)?;
-        let added = added(alloc, &self.topology, &self.report, &sent)?;
+        let sent = sent(alloc, &self.wiring, &self.tables, x)?;
+        let added = added(alloc, &self.wiring, &self.report, &sent)?;
         self.state.move_on(place, added)
     }
 

@@ -7,7 +7,7 @@ use Rattle.pq_net.proofs.hops.added.Goals as goal
 
 pub returns : goal.returns
 returns c =
-    let t = c.args.topology.now in
+    let t = c.args.wiring.now in
     let report = c.args.report.now in
     let sent = c.args.sent.now in
     let past = c.loop-copy-test.false in

@@ -9,4 +9,4 @@ returns-clause-place c =
     let facts = c.binary_search_by_key.ensures in
     let by_datapath = rw c.switches.ensures.switches at (facts.position (λ s. s.datapath) (answers_always _ _ _ (λ f a r g called. search rules))) in
     let bound = rw c.switches.ensures.switches at facts.bound in
-    rw c.ok.ensures.value (searched (λ s. s.datapath) c.args.topology.now.switches c.switches.ensures.lawful.lawful.ascending c.args.datapath _ bound by_datapath)
+    rw c.ok.ensures.value (searched (λ s. s.datapath) c.args.wiring.now.switches c.switches.ensures.ascending c.args.datapath _ bound by_datapath)
