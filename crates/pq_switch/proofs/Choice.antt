@@ -1,5 +1,7 @@
 -- The best of entries is the one that a packet takes.
 use Rattle.std.proofs.Common.{◌≡◌, ◌⊎◌, ℕ, ◌<◌, ◌≤◌, Bool, true, false, ◌&&◌, nat_lt, if◌then◌else◌, List, [], ◌∷◌, ◌++◌, append_assoc, refl, sym, ap, subst, ◌∙◌, arith, inl, inr}
+use Rattle.std.specs.Cmp.{first_so, second_so}
+use Rattle.std.proofs.lemmas.Bool.{true≢false}
 use Rattle.std.proofs.lemmas.Bool.Decides.{nat_tests}
 use Rattle.std.specs.declared.option.Option.{Option}
 use Rattle.std.specs.declared.option.Option.TheVariants.{None, Some}
@@ -13,9 +15,6 @@ use Rattle.std.proofs.lemmas.List.{append-nil}
 use Rattle.pq_switch.specs.Added.{Climbs, entries_of, in_turn, turn}
 use Rattle.pq_switch.specs.Choice.{best_of, comes_before, counts, preferred}
 use Rattle.pq_switch.specs.declared.entry.Slot.{Slot}
-
-true_is_no_false : true ≡ false → ⊥
-true_is_no_false e = subst (λ b. elim b as (λ _. Type 0) [ true ↦ Unit {0} | false ↦ ⊥ ]) e tt
 
 module _ {A : Type 0} where
   -- one of these
@@ -71,17 +70,9 @@ itself s = grind (arith, nat_tests)
 carried : (s t best : Slot) → comes_before s best ≡ true → comes_before t best ≡ false → comes_before t s ≡ false
 carried s t best h g = grind (arith, nat_tests)
 
-first_so : (a b : Bool) → a && b ≡ true → a ≡ true
-first_so true b h = refl
-first_so false b h = h
-
-second_so : (a b : Bool) → a && b ≡ true → b ≡ true
-second_so true b h = h
-second_so false b h = absurd (true_is_no_false (sym h))
-
 not_second : (a b : Bool) → a && b ≡ false → a ≡ true → b ≡ false
 not_second true b h e = h
-not_second false b h e = absurd (true_is_no_false (sym e))
+not_second false b h e = absurd (true≢false (sym e))
 
 module _ (n : ℕ) (x : TaggedPacket) where
   -- the best of these
@@ -100,7 +91,7 @@ module _ (n : ℕ) (x : TaggedPacket) where
         in-right s slots (s ∷ []) (inl refl),
         c,
         λ t i d. elim (at_end t s slots i) [
-          | inl j ↦ absurd (true_is_no_false (sym d ∙ h t j))
+          | inl j ↦ absurd (true≢false (sym d ∙ h t j))
           | inr e ↦ ap (λ u. comes_before u s) e ∙ itself s
         ],
       )
@@ -179,14 +170,14 @@ module _ (n : ℕ) (x : TaggedPacket) where
     where
       by : (b : Bool) → counts n x y ≡ b → (best : Option Slot) → IsBest (y ∷ slots) best → ((o : Option Slot) → IsBest slots o → taken (entries_of slots) n x ≡ option_map (λ s. s.entry) o) →
           (if b then better y.entry (taken (entries_of slots) n x) else taken (entries_of slots) n x) ≡ option_map (λ s. s.entry) best
-      by true c None h more = absurd (true_is_no_false (sym c ∙ h y (inl refl)))
+      by true c None h more = absurd (true≢false (sym c ∙ h y (inl refl)))
       by true c (Some s) h more = elim h.0 [
         | inl e ↦ ap (λ u. better u.entry (taken (entries_of slots) n x)) (sym e) ∙ stays s.entry (taken (entries_of slots) n x) (no_higher s.entry.priority slots (λ t i d. not_above s t (h.2 t (inr i) d)))
         | inr i ↦ ap (better y.entry) (more (Some s) (i, h.1, λ t j. h.2 t (inr j)))
             ∙ ap (λ b. if b then Some s.entry else Some y.entry) (strictly_below y s (h.2 y (inl refl) c) (below_all y s slots above i))
       ]
       by false c None h more = more None (λ t i. h t (inr i))
-      by false c (Some s) h more = more (Some s) (elim h.0 as (λ _. IsIn s slots) [ inl e ↦ absurd (true_is_no_false (sym h.1 ∙ ap (counts n x) e ∙ c)) | inr i ↦ i ], h.1, λ t j. h.2 t (inr j))
+      by false c (Some s) h more = more (Some s) (elim h.0 as (λ _. IsIn s slots) [ inl e ↦ absurd (true≢false (sym h.1 ∙ ap (counts n x) e ∙ c)) | inr i ↦ i ], h.1, λ t j. h.2 t (inr j))
 
   -- the best of all is the one that a packet takes
   pub best-is_taken : (slots : List Slot) → Climbs (in_turn slots) → (best : Option Slot) → IsBest slots best → taken (entries_of (in_turn slots)) n x ≡ option_map (λ s. s.entry) best

@@ -1,5 +1,6 @@
 -- The order of places.
 use Rattle.std.proofs.Common.{◌≡◌, ℕ, ◌-◌, ◌<◌, Bool, true, false, ◌&&◌, ◌==◌, List, [], ◌∷◌, arith, refl, sym, ap, ◌∙◌}
+use Rattle.std.proofs.Math.Bool.{and_assoc}
 use Rattle.std.proofs.lemmas.Bool.Decides.{nat_tests}
 use Rattle.std.specs.declared.cmp.Ordering.{Ordering}
 use Rattle.std.specs.declared.cmp.Ordering.TheVariants.{Less, Equal, Greater}
@@ -40,7 +41,7 @@ both_equal Equal s = refl
 both_equal Greater s = refl
 
 -- tests after one another, from the first on
-abbrev joined : Bool → List Bool → Bool
+abbrev pub joined : Bool → List Bool → Bool
 joined b [] = b
 joined b (c ∷ cs) = joined (b && c) cs
 
@@ -48,10 +49,6 @@ abbrev nested : List Bool → Bool
 nested [] = true
 nested (b ∷ []) = b
 nested (b ∷ c ∷ cs) = b && nested (c ∷ cs)
-
-and_assoc : (a b c : Bool) → a && b && c ≡ a && (b && c)
-and_assoc true b c = refl
-and_assoc false b c = refl
 
 joined-nested : (a b : Bool) (cs : List Bool) → joined a (b ∷ cs) ≡ a && nested (b ∷ cs)
 joined-nested a b [] = refl

@@ -8,7 +8,7 @@ use Rattle.std.specs.declared.option.Option.{Option}
 use Rattle.std.specs.declared.option.Option.TheVariants.{None, Some}
 use Rattle.std.specs.Option.{option_map}
 use Rattle.std.specs.BTreeMap.Range.{range_contains}
-use Rattle.std.specs.Cmp.{alike_right, nat_cmp_total, tied_itself}
+use Rattle.std.specs.Cmp.{alike_right, first_so, nat_cmp_total, second_so, tied_itself}
 use Rattle.std.specs.List.{AllByRecursion, filter}
 use Rattle.std.specs.Map.{values_of}
 use Rattle.std.specs.Ordering.{is_le, nat_cmp, ordering_then}
@@ -23,7 +23,7 @@ use Rattle.pq_switch.specs.Places.{first_place, headers_cmp, last_place, no_head
 use Rattle.pq_switch.specs.Ranges.{range_of}
 use Rattle.pq_switch.specs.declared.entry.Slot.{Slot}
 use Rattle.pq_switch.proofs.Choice.{IsIn, best-all, best-among, best-is_taken, in-either, in-left, in-right}
-use Rattle.pq_switch.proofs.Places.{number_total, place_cmp_total}
+use Rattle.pq_switch.proofs.Places.{joined, number_total, place_cmp_total}
 
 module _ (n : ℕ) (in_port vlan : Option ℕ) where
   abbrev lies : Place → Bool
@@ -77,19 +77,6 @@ module _ (next : ℕ) where
       by : (b : Bool) → IsIn t (values_of (filter (λ d. p d.0) es)) → IsIn t (values_of (cond b (e ∷ filter (λ d. p d.0) es) (filter (λ d. p d.0) es)))
       by true more = inr more
       by false more = more
-
--- the first of tests after one another
-abbrev joined : Bool → List Bool → Bool
-joined b [] = b
-joined b (c ∷ cs) = joined (b && c) cs
-
-first_so : (a b : Bool) → a && b ≡ true → a ≡ true
-first_so true b h = refl
-first_so false b h = h
-
-second_so : (a b : Bool) → a && b ≡ true → b ≡ true
-second_so true b h = h
-second_so false b h = absurd (subst (λ c. elim c as (λ _. Type 0) [ true ↦ ⊥ | false ↦ Unit {0} ]) h tt)
 
 joined-first : (b : Bool) (cs : List Bool) → joined b cs ≡ true → b ≡ true
 joined-first b [] h = h

@@ -8,16 +8,14 @@ use Rattle.std.specs.List.{AllByRecursion, filter}
 use Rattle.std.specs.List.Sorted.{IsStrictlySortedBy}
 use Rattle.std.specs.Cmp.{IsTotalOrder}
 use Rattle.std.specs.Map.Calls.{RetainsPairs}
+use Rattle.std.proofs.lemmas.Bool.{true≢false}
 use Rattle.std.proofs.lemmas.Map.Entries.{filter_from_retain_pairs}
 use Rattle.std.specs.Map.{keys_of, lookup, remove_entry, values_of}
 use Rattle.std.specs.BTreeMap.{insert_entry, is_at}
 use Rattle.std.specs.Ordering.{is_eq, match_ordering}
 
-full_is_none : {A B : Type 0} (x : A) → Some x ≡ None → B
-full_is_none x e = absurd (true_is_no_false (ap is_some e))
-  where
-    true_is_no_false : true ≡ false → ⊥
-    true_is_no_false e = subst (λ b. elim b as (λ _. Type 0) [ true ↦ Unit {0} | false ↦ ⊥ ]) e tt
+some_is_no_none : {A B : Type 0} (x : A) → Some x ≡ None → B
+some_is_no_none x e = absurd (true≢false (ap is_some e))
 
 module _ {K X : Type 0} where
   pub all-remove : (P : K × X → Type 0) (test : K → Bool) (es : List (K × X)) → AllByRecursion P es → AllByRecursion P (remove_entry test es)
@@ -56,7 +54,7 @@ module _ {K X : Type 0} where
       none-stay (e ∷ es) (here, tells) none = by (is_eq (R k e.0)) here none (none-stay es tells)
         where
           by : (b : Bool) → p e.1 ≡ not b → cond b (Some e.1) (lookup (is_at (R k)) es) ≡ None → (lookup (is_at (R k)) es ≡ None → filter p (values_of es) ≡ values_of es) → cond (p e.1) (e.1 ∷ filter p (values_of es)) (filter p (values_of es)) ≡ e.1 ∷ values_of es
-          by true h none more = full_is_none e.1 none
+          by true h none more = some_is_no_none e.1 none
           by false h none more = ap (λ b. cond b (e.1 ∷ filter p (values_of es)) (filter p (values_of es))) h ∙ ap (λ l. e.1 ∷ l) (more none)
 
       pub removed : (es : List (K × X)) → Tells p es → lookup (is_at (R k)) (remove_entry (is_at (R k)) es) ≡ None → values_of (remove_entry (is_at (R k)) es) ≡ filter p (values_of es)

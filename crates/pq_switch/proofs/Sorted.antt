@@ -6,12 +6,10 @@ use Rattle.std.specs.Cmp.Lexicographic.{slice_cmp, nat_list_cmp_total}
 use Rattle.std.specs.List.{AllByRecursion, filter}
 use Rattle.std.specs.List.Sorted.{IsSortedBy, IsStableBy, ties}
 use Rattle.std.specs.Ordering.{nat_cmp, is_lt, ordering_then}
+use Rattle.std.proofs.lemmas.Bool.{true≢false}
 use Rattle.std.proofs.lemmas.List.Sorted.{sorted_far, ranks_by}
 use Rattle.pq_fields.specs.Packet.{is_before}
 use Rattle.pq_model.specs.Sorting.{put_by, sort_by}
-
-true_is_no_false : true ≡ false → ⊥
-true_is_no_false e = subst (λ b. elim b as (λ _. Type 0) [ true ↦ Unit {0} | false ↦ ⊥ ]) e tt
 
 full_is_no_empty : {A : Type 0} (x : A) (xs : List A) → x ∷ xs ≡ [] → ⊥
 full_is_no_empty x xs e = subst (λ l. elim l as (λ _. Type 0) [ [] ↦ ⊥ | y ∷ ys ↦ Unit {0} ]) e tt
@@ -114,8 +112,8 @@ module _ {A : Type 0} (lt : A → A → Bool) (o : IsStrictWeakOrder lt) where
     where
       by : (z : A) (b c : Bool) → b ≡ c → cond b (x ∷ filter (ties lt z) xs) (filter (ties lt z) xs) ≡ cond c (y ∷ filter (ties lt z) ys) (filter (ties lt z) ys) → filter (ties lt z) xs ≡ filter (ties lt z) ys
       by z true true e h = ap tail_of h
-      by z true false e h = absurd (true_is_no_false e)
-      by z false true e h = absurd (true_is_no_false (sym e))
+      by z true false e h = absurd (true≢false e)
+      by z false true e h = absurd (true≢false (sym e))
       by z false false e h = h
 
 module _ {A : Type 0} (key : A → List ℕ) where
@@ -131,7 +129,7 @@ module _ {A : Type 0} (key : A → List ℕ) where
 
   passed : (x y : A) (b c d : Bool) (put rest : List A) → put ≡ cond c (x ∷ rest) rest → (b ≡ true → c ≡ true → d ≡ false) →
       cond b (cond d (y ∷ put) put) (cond c (x ∷ cond d (y ∷ rest) rest) (cond d (y ∷ rest) rest)) ≡ cond c (x ∷ cond d (y ∷ rest) rest) (cond d (y ∷ rest) rest)
-  passed x y true true true put rest more far = absurd (true_is_no_false (far refl refl))
+  passed x y true true true put rest more far = absurd (true≢false (far refl refl))
   passed x y true true false put rest more far = more
   passed x y true false true put rest more far = ap (λ l. y ∷ l) more
   passed x y true false false put rest more far = more

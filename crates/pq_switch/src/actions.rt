@@ -13,7 +13,7 @@ const IN_PORT: u32 = 0xffff_fff8;
 const CONTROLLER: u32 = 0xffff_fffd;
 
 /// The actions of an entry or a bucket, each of which a message may hold.
-#[derive(Debug, Drop)]
+#[derive(Drop)]
 pub(crate) struct Actions {
     items: Vec<Action>,
 }

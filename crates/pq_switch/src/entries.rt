@@ -70,6 +70,7 @@ impl Entries {
         ensures ok { OnOk result (self.new ≡ filter (λ e. not (is_placed flow.now e)) self.old ++ entry_of flow.now ∷ []) }
         ensures err { OnErr result (self.new ≡ self.old) }
     {
+        // The last number is never given: want of memory is the answer that needs no cause.
         if self.next == u64::MAX {
             return Err(AllocError);
         }

@@ -8,7 +8,7 @@ use std::alloc::{AllocError, Global};
 use std::marker::Model;
 
 /// A flow entry (OpenFlow 1.3.5, section 5.2).
-#[derive(Debug, Drop)]
+#[derive(Drop)]
 pub(crate) struct Entry {
     pub(crate) table: u8,
     pub(crate) priority: u16,
@@ -45,7 +45,7 @@ impl Entry {
 }
 
 /// An entry, and the number by which it was added.
-#[derive(Debug, Drop)]
+#[derive(Drop)]
 pub(crate) struct Slot {
     pub(crate) sequence: u64,
     pub(crate) entry: Entry,

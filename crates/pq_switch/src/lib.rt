@@ -17,3 +17,6 @@ pub use matching::{covers, same_match};
 pub use pq_model::{Sent, Tagged};
 pub use sending::hop;
 pub use tables::Tables;
+
+#[cfg(test)]
+mod tests;

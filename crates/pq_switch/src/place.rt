@@ -7,7 +7,7 @@ use pq_model::Match;
 ///
 /// Places are ordered so that the entries of a table whose matches state the same arriving port and the same VLAN
 /// word stand together, by falling priority.
-#[derive(Clone, Copy, Debug, PartialEq, Eq, PartialOrd, Ord)]
+#[derive(Clone, Copy, PartialEq, Eq, PartialOrd, Ord)]
 pub(crate) struct Place {
     pub(crate) table: u8,
     pub(crate) in_port: Option<u64>,
@@ -18,7 +18,7 @@ pub(crate) struct Place {
 }
 
 /// The header fields that a match states besides the VLAN word.
-#[derive(Clone, Copy, Debug, PartialEq, Eq, PartialOrd, Ord)]
+#[derive(Clone, Copy, PartialEq, Eq, PartialOrd, Ord)]
 pub(crate) struct Headers {
     eth_type: Option<u16>,
     ip_proto: Option<u8>,
