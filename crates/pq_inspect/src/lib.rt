@@ -1,0 +1,13 @@
+//! An install as JSON text.
+#![tactic(auto)]
+
+mod hex;
+mod inspection;
+mod message;
+mod numbers;
+mod report;
+mod shown;
+mod switch;
+mod text;
+
+pub use inspection::inspect;
