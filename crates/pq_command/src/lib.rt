@@ -14,4 +14,6 @@ pub use top::run;
 pub use words::Command;
 
 #[cfg(test)]
+mod replay_tests;
+#[cfg(test)]
 mod tests;

@@ -146,7 +146,7 @@ fn other_words_touch_nothing(rt: HostRuntime) -> Result<(), Fail> {
         [].as_slice(),
         &["compile", "now"],
         &["Compile"],
-        &["replay"],
+        &["replays"],
     ] {
         let words = words(alloc, texts)?;
         let mut source = source(alloc, b"text", &[])?;
