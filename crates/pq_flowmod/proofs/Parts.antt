@@ -133,3 +133,6 @@ pub message_parted : (bytes : List ℕ) (m : Message) (more : List ℕ) → IsLa
 message_parted bytes m more law is =
     let parts = header_parted bytes m more (message_kind m) (message_xid m) (message_body m) (xid_below m law.content) (subst (λ (bs : List ℕ). length bs < 2 ^ 16) (spelled m) law.short) (is ∙ ap (λ (bs : List ℕ). bs ++ more) (spelled m)) in
     record { kind = parts.0; told = parts.1; xid = parts.2; within = parts.3; body = parts.4; short = parts.5 }
+
+pub bucket_told : (bytes : List ℕ) (actions : List Action) (more : List ℕ) → length (bucket_bytes actions) < 2 ^ 16 → bytes ≡ bucket_bytes actions ++ more → IsBucket bytes (actions_bytes actions) (length (bucket_bytes actions))
+bucket_told bytes actions more short is = rw is (bucket_sized actions more short)

@@ -3,8 +3,10 @@
 #![tactic(auto)]
 
 mod action;
+mod action_reading;
 mod flow;
 mod group;
+mod group_reading;
 mod message;
 mod rules;
 mod set_field;

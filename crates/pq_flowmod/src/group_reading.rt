@@ -1,0 +1,90 @@
+ghost use Rattle.std.specs.Prelude.{◌≡◌, ◌<◌, ◌≤◌, ◌^◌, ◌++◌, List, ℕ, All, IfOk, IfSome, IsSomeAnd, length, map};
+ghost use Rattle.std.specs.List.{flat_map};
+ghost use Rattle.std.specs.declared.option.Option.TheVariants.{Some};
+ghost use Rattle.pq_model.specs.declared.action.Action.{Action};
+ghost use Rattle.pq_model.specs.declared.group_mod.GroupCommand.{GroupCommand};
+ghost use Rattle.pq_model.specs.Lawful.{HasBuckets, IsLawfulGroup};
+ghost use Rattle.pq_model.specs.Mods.{GroupValue};
+ghost use Rattle.pq_model.specs.Spelling.{bucket_bytes, group_body, group_code};
+ghost use Rattle.pq_flowmod.specs.Reading.{IsReadable};
+
+use crate::action_reading::actions_of;
+use crate::rules::{are_buckets, is_group_number};
+use pq_model::{Action, GroupCommand, GroupMod};
+use pq_oxm::u32_of;
+use std::alloc::{AllocError, Global};
+
+// The number that stands for all groups (OpenFlow 1.3.5, section 7.3.4.2).
+const ALL: u32 = 0xffff_fffc;
+
+// The length of a bucket that stands at the front, as it tells it itself.
+fn bucket_len(bytes: &[u8]) -> Option<usize>
+    ensures within { IfSome result (λ size. (16 ≤ size) × (size ≤ length bytes.now)) }
+    ensures told { (actions : List Action) (more : List ℕ) → length (bucket_bytes actions) < 2 ^ 16
+        → bytes.now ≡ bucket_bytes actions ++ more → result ≡ Some (length (bucket_bytes actions)) }
+{
+    if bytes.len() < 16 {
+        return None;
+    }
+    let size = usize::from(u16::from_be_bytes([bytes[0], bytes[1]]));
+    if size < 16 {
+        return None;
+    }
+    if bytes.len() < size {
+        return None;
+    }
+    Some(size)
+}
+
+// The buckets whose spellings the bytes are, one after another. Where the bytes are the spellings of no
+// buckets of lawful actions, it may be any or none.
+fn buckets_of(alloc: Global, bytes: &[u8]) -> Result<Option<Vec<Vec<Action>>>, AllocError>
+    ensures { IfOk result (λ found. (whole : List (List Action)) → All IsReadable whole
+        → bytes.now ≡ flat_map bucket_bytes whole
+        → IsSomeAnd found (λ buckets. map (λ b. b.items) buckets.items ≡ whole)) }
+{
+    let mut buckets = Vec::new(alloc);
+    let mut rest = bytes;
+    while !rest.is_empty() {
+        let Some(size) = bucket_len(rest) else {
+            return Ok(None);
+        };
+        let Some(actions) = actions_of(alloc, &rest[16..size])? else {
+            return Ok(None);
+        };
+        buckets.push(actions)?;
+        rest = &rest[size..];
+    }
+    Ok(Some(buckets))
+}
+
+// The buckets that the bytes spell, where they are lawful and there is one.
+fn lawful_buckets(alloc: Global, bytes: &[u8]) -> Result<Option<Vec<Vec<Action>>>, AllocError>
+    ensures lawful { IfOk result (λ found. IfSome found (λ buckets. HasBuckets (map (λ b. b.items) buckets.items))) }
+    ensures said { IfOk result (λ found. (whole : List (List Action)) → HasBuckets whole
+        → length (flat_map bucket_bytes whole) < 2 ^ 16 → bytes.now ≡ flat_map bucket_bytes whole
+        → IsSomeAnd found (λ buckets. map (λ b. b.items) buckets.items ≡ whole)) }
+{
+    let Some(buckets) = buckets_of(alloc, bytes)? else {
+        return Ok(None);
+    };
+    if buckets.is_empty() {
+        return Ok(None);
+    }
+    if !are_buckets(&buckets) {
+        return Ok(None);
+    }
+    Ok(Some(buckets))
+}
+
+// The command of a number (OpenFlow 1.3.5, section 7.3.4.2).
+fn command_of(code: u8) -> Option<GroupCommand>
+    ensures { (command : GroupCommand) → code ≡ group_code command → result ≡ Some command }
+{
+    match code {
+        0 => Some(GroupCommand::Add),
+        1 => Some(GroupCommand::Modify),
+        2 => Some(GroupCommand::Delete),
+        _ => None,
+    }
+}
