@@ -4,14 +4,16 @@ use Rattle.std.specs.Prelude.{All}
 use Rattle.std.specs.List.{flat_map}
 use Rattle.std.specs.Int.{w16, w32, w64, to_be_bytes, from_be_bytes}
 use Rattle.std.proofs.lemmas.Nat.{from_be_bytes-to_be_bytes_8}
-use Rattle.std.proofs.lemmas.List.{take_at, drop_at, length-append}
+use Rattle.std.proofs.lemmas.List.{take_at, take_rest, drop_at, length-append}
+use Rattle.std.proofs.lemmas.List.Elements.{All-cons, All-nil, All-tail}
+use Rattle.std.proofs.lemmas.List.Concat.{flat_map-cons}
 use Rattle.pq_model.specs.declared.action.Action.{Action}
 use Rattle.pq_model.specs.declared.message.Message.{Message}
 use Rattle.pq_model.specs.declared.message.Message.TheVariants.{Flow, Group as Grouping, Barrier}
 use Rattle.pq_model.specs.Mods.{FlowValue, GroupValue}
-use Rattle.pq_model.specs.Lawful.{IsLawfulContent, IsLawfulMessage}
+use Rattle.pq_model.specs.Lawful.{IsLawfulBucket, IsLawfulContent, IsLawfulMessage}
 use Rattle.pq_model.specs.Spelling.{actions_bytes, apply_bytes, goto_bytes, match_bytes, flow_code, flow_body, bucket_bytes, group_code, group_body, with_header, message_bytes}
-use Rattle.pq_flowmod.specs.Reading.{message_kind, message_xid, message_body}
+use Rattle.pq_flowmod.specs.Reading.{IsReadable, message_kind, message_xid, message_body}
 use Rattle.pq_oxm.proofs.Numbers.{reads_16, reads_32}
 
 -- a bucket tells its length, and its actions stand behind its header
@@ -136,3 +138,25 @@ message_parted bytes m more law is =
 
 pub bucket_told : (bytes : List ℕ) (actions : List Action) (more : List ℕ) → length (bucket_bytes actions) < 2 ^ 16 → bytes ≡ bucket_bytes actions ++ more → IsBucket bytes (actions_bytes actions) (length (bucket_bytes actions))
 bucket_told bytes actions more short is = rw is (bucket_sized actions more short)
+
+bucket_size : (m n : ℕ) → Some m ≡ Some n → m ≡ n
+bucket_size m n same = cc
+
+-- the actions of the bucket at the front, and what follows it
+pub bucket_next : (rest : List ℕ) (size : ℕ) (actions : List Action) (more : List ℕ) → IsReadable actions → rest ≡ bucket_bytes actions ++ more →
+    Some size ≡ Some (length (bucket_bytes actions)) → (take (size - 16) (drop 16 rest) ≡ actions_bytes actions) × (take (length rest - size) (drop size rest) ≡ more)
+bucket_next rest size actions more law is told =
+    let long : length (bucket_bytes actions) ≡ size = sym (bucket_size _ _ told) in
+    let sized = bucket_told rest actions more law.1 is in
+    (ap (λ (k : ℕ). take (k - 16) (drop 16 rest)) (sym long) ∙ sized.inside, take_rest rest size ∙ ap (drop size) is ∙ drop_at (bucket_bytes actions) more size long)
+
+-- a spelling has bytes
+pub bucket_long : (actions : List Action) → IsReadable actions → 0 < length (bucket_bytes actions)
+bucket_long actions law = omega (arith, (bucket_sized actions [] law.1).long)
+
+-- the buckets of a message can be read
+pub each_readable : (buckets : List (List Action)) → All IsLawfulBucket buckets → length (flat_map bucket_bytes buckets) < 2 ^ 16 → All IsReadable buckets
+each_readable [] law short = All-nil IsReadable
+each_readable (b ∷ bs) law short =
+    let parts : length (flat_map bucket_bytes (b ∷ bs)) ≡ length (bucket_bytes b) + length (flat_map bucket_bytes bs) = ap length (flat_map-cons bucket_bytes b bs) ∙ length-append (bucket_bytes b) (flat_map bucket_bytes bs) in
+    All-cons IsReadable b bs ((law 0 b (omega arith)).each, omega (arith, parts, short)) (each_readable bs (All-tail IsLawfulBucket b bs law) (omega (arith, parts, short)))

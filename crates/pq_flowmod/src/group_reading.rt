@@ -58,7 +58,7 @@ fn buckets_of(alloc: Global, bytes: &[u8]) -> Result<Option<Vec<Vec<Action>>>, A
     Ok(Some(buckets))
 }
 
-// The buckets that the bytes spell, where they are lawful and there is one.
+// The buckets that the bytes spell, where they are lawful and there are any.
 fn lawful_buckets(alloc: Global, bytes: &[u8]) -> Result<Option<Vec<Vec<Action>>>, AllocError>
     ensures lawful { IfOk result (λ found. IfSome found (λ buckets. HasBuckets (map (λ b. b.items) buckets.items))) }
     ensures said { IfOk result (λ found. (whole : List (List Action)) → HasBuckets whole
@@ -68,9 +68,6 @@ fn lawful_buckets(alloc: Global, bytes: &[u8]) -> Result<Option<Vec<Vec<Action>>
     let Some(buckets) = buckets_of(alloc, bytes)? else {
         return Ok(None);
     };
-    if buckets.is_empty() {
-        return Ok(None);
-    }
     if !are_buckets(&buckets) {
         return Ok(None);
     }

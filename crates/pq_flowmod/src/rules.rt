@@ -4,6 +4,7 @@ ghost use Rattle.pq_model.specs.declared.action.Action.{Action};
 ghost use Rattle.pq_model.specs.declared.action.Action.TheVariants.{Output};
 ghost use Rattle.pq_model.specs.Lawful.{
   Ascends,
+  HasBuckets,
   IsGroupNumber,
   IsLawfulAction,
   IsLawfulBucket,
@@ -152,8 +153,8 @@ pub fn is_bucket(actions: &[Action]) -> bool
     end_with_output(actions)
 }
 
-/// Whether there is a bucket, and each one's actions may stand in a bucket.
-pub fn are_buckets(buckets: &[Vec<Action>]) -> bool
+// Whether each bucket's actions may stand in a bucket.
+fn each_is_bucket(buckets: &[Vec<Action>]) -> bool
     ensures { IsTrue result ↔ All IsLawfulBucket (map (λ b. b.items) buckets.now) }
 {
     for bucket in buckets {
@@ -162,4 +163,14 @@ pub fn are_buckets(buckets: &[Vec<Action>]) -> bool
         }
     }
     true
+}
+
+/// Whether there is a bucket, and each one's actions may stand in a bucket.
+pub fn are_buckets(buckets: &[Vec<Action>]) -> bool
+    ensures { IsTrue result ↔ HasBuckets (map (λ b. b.items) buckets.now) }
+{
+    if buckets.is_empty() {
+        return false;
+    }
+    each_is_bucket(buckets)
 }
