@@ -3,19 +3,20 @@ ghost use Rattle.std.specs.List.{flat_map};
 ghost use Rattle.std.specs.declared.option.Option.TheVariants.{Some};
 ghost use Rattle.pq_model.specs.declared.action.Action.{Action};
 ghost use Rattle.pq_model.specs.declared.group_mod.GroupCommand.{GroupCommand};
+ghost use Rattle.pq_model.specs.declared.group_mod.GroupCommand.TheVariants.{Delete};
 ghost use Rattle.pq_model.specs.Lawful.{HasBuckets, IsLawfulGroup};
 ghost use Rattle.pq_model.specs.Mods.{GroupValue};
 ghost use Rattle.pq_model.specs.Spelling.{bucket_bytes, group_body, group_code};
 ghost use Rattle.pq_flowmod.specs.Reading.{IsReadable};
 
 use crate::action_reading::actions_of;
-use crate::rules::{are_buckets, is_group_number};
+use crate::rules::{are_buckets, is_group_number, is_removed};
 use pq_model::{Action, GroupCommand, GroupMod};
 use pq_oxm::u32_of;
 use std::alloc::{AllocError, Global};
 
-// The number that stands for all groups (OpenFlow 1.3.5, section 7.3.4.2).
-const ALL: u32 = 0xffff_fffc;
+
+
 
 // The length of a bucket that stands at the front, as it tells it itself.
 fn bucket_len(bytes: &[u8]) -> Option<usize>
@@ -83,5 +84,66 @@ fn command_of(code: u8) -> Option<GroupCommand>
         1 => Some(GroupCommand::Modify),
         2 => Some(GroupCommand::Delete),
         _ => None,
+    }
+}
+
+// A message that removes a group, or all groups, where the number is one of a group or of all.
+fn removal(alloc: Global, xid: u32, group: u32) -> Option<GroupMod>
+    ensures lawful { IfSome result IsLawfulGroup }
+    ensures said { (g : GroupValue) → IsLawfulGroup g → g.command ≡ Delete → g.xid ≡ xid → g.group ≡ group → result ≡ Some g }
+{
+    if !is_removed(group) {
+        return None;
+    }
+    Some(GroupMod {
+        xid,
+        command: GroupCommand::Delete,
+        group,
+        buckets: Vec::new(alloc),
+    })
+}
+
+// A message that puts a group with the buckets that the bytes spell, where its number and they are lawful.
+fn filled(
+    alloc: Global,
+    xid: u32,
+    command: GroupCommand,
+    group: u32,
+    bytes: &[u8],
+) -> Result<Option<GroupMod>, AllocError>
+    requires { command ≡ Delete → ⊥ }
+    ensures lawful { IfOk result (λ found. IfSome found IsLawfulGroup) }
+    ensures said { IfOk result (λ found. (g : GroupValue) → IsLawfulGroup g → g.command ≡ command → g.xid ≡ xid → g.group ≡ group
+        → length (flat_map bucket_bytes g.buckets) < 2 ^ 16 → bytes.now ≡ flat_map bucket_bytes g.buckets → found ≡ Some g) }
+{
+    if !is_group_number(group) {
+        return Ok(None);
+    }
+    let Some(buckets) = lawful_buckets(alloc, bytes)? else {
+        return Ok(None);
+    };
+    Ok(Some(GroupMod {
+        xid,
+        command,
+        group,
+        buckets,
+    }))
+}
+
+/// The lawful group mod whose spelling the bytes are behind the header (OpenFlow 1.3.5, section 7.3.4.2).
+/// Where they are none's, it may be any or none.
+pub fn group_of(alloc: Global, xid: u32, body: &[u8]) -> Result<Option<GroupMod>, AllocError>
+    ensures lawful { IfOk result (λ found. IfSome found IsLawfulGroup) }
+    ensures said { IfOk result (λ found. (g : GroupValue) → IsLawfulGroup g → g.xid ≡ xid → length (group_body g) < 2 ^ 16
+        → body.now ≡ group_body g → found ≡ Some g) }
+{
+    if body.len() < 8 {
+        return Ok(None);
+    }
+    let group = u32_of(&body[4..8]);
+    match command_of(body[1]) {
+        None => Ok(None),
+        Some(GroupCommand::Delete) => Ok(removal(alloc, xid, group)),
+        Some(command) => filled(alloc, xid, command, group, &body[8..]),
     }
 }

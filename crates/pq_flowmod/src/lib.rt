@@ -6,6 +6,7 @@ mod action;
 mod action_reading;
 mod flow;
 mod group;
+mod flow_reading;
 mod group_reading;
 mod message;
 mod rules;

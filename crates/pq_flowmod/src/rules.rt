@@ -1,4 +1,4 @@
-ghost use Rattle.std.specs.Prelude.{◌≡◌, ◌↔◌, ℕ, ◌<◌, ◌^◌, ◌∷◌, [], ◌++◌, List, All, IsTrue, map};
+ghost use Rattle.std.specs.Prelude.{◌≡◌, ◌↔◌, ℕ, ◌<◌, ◌≤◌, ◌^◌, ◌∷◌, [], ◌++◌, ◌⊎◌, List, All, IsTrue, map};
 ghost use Rattle.pq_fields.specs.Packet.{rank, width_of};
 ghost use Rattle.pq_model.specs.declared.action.Action.{Action};
 ghost use Rattle.pq_model.specs.declared.action.Action.TheVariants.{Output};
@@ -12,6 +12,7 @@ ghost use Rattle.pq_model.specs.Lawful.{
   IsSettable,
   bucket_place,
 };
+ghost use Rattle.pq_model.specs.SwitchMachine.{all_groups};
 
 use pq_fields::Field;
 use pq_model::Action;
@@ -24,6 +25,9 @@ const IN_PORT: u32 = 0xffff_fff8;
 
 // The port number that stands for the controller.
 const CONTROLLER: u32 = 0xffff_fffd;
+
+// The number that stands for all groups.
+const ALL: u32 = 0xffff_fffc;
 
 // The greatest number of a table.
 const LAST_TABLE: u8 = 254;
@@ -66,6 +70,13 @@ pub fn are_lawful(actions: &[Action]) -> bool
     true
 }
 
+/// Whether an entry may stand in a table of this number.
+pub fn is_table(number: u8) -> bool
+    ensures { IsTrue result ↔ (number ≤ 254) }
+{
+    number <= LAST_TABLE
+}
+
 /// Whether an entry of the table may go on in another: a greater one, if in any.
 pub fn is_goto(table: u8, goto: Option<u8>) -> bool
     ensures { IsTrue result ↔ IsLawfulGoto table goto }
@@ -81,6 +92,13 @@ pub fn is_group_number(number: u32) -> bool
     ensures { IsTrue result ↔ IsGroupNumber number }
 {
     1 <= number && number <= GREATEST
+}
+
+/// Whether the number is that of a group that is removed, or stands for all groups.
+pub fn is_removed(number: u32) -> bool
+    ensures { IsTrue result ↔ (IsGroupNumber number ⊎ (number ≡ all_groups)) }
+{
+    is_group_number(number) || number == ALL
 }
 
 // A field's place in field order.

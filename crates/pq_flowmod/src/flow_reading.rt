@@ -1,0 +1,164 @@
+ghost use Rattle.std.specs.Prelude.{◌≡◌, ℕ, ◌+◌, ◌<◌, ◌≤◌, ◌^◌, ◌++◌, List, [], IfOk, IfSome, IsSomeAnd, length, drop};
+ghost use Rattle.std.specs.declared.option.Option.{Option};
+ghost use Rattle.std.specs.declared.option.Option.TheVariants.{None, Some};
+ghost use Rattle.pq_model.specs.declared.action.Action.{Action};
+ghost use Rattle.pq_model.specs.declared.flow_mod.FlowCommand.TheVariants.{Add, DeleteAll, DeleteStrict};
+ghost use Rattle.pq_model.specs.Lawful.{IsLawfulFlow};
+ghost use Rattle.pq_model.specs.MatchFields.{MatchFields, IsLawfulMatch};
+ghost use Rattle.pq_model.specs.Mods.{FlowValue};
+ghost use Rattle.pq_model.specs.Spelling.{actions_bytes, apply_bytes, flow_body, goto_bytes, match_bytes};
+
+use crate::action_reading::actions_of;
+use crate::rules::{are_lawful, is_goto, is_table};
+use pq_model::{FlowCommand, FlowMod, Match};
+use pq_oxm::{MatchFault, read_match, u16_of, u64_of};
+use std::alloc::{AllocError, Global};
+
+// The type of an instruction that applies actions (OpenFlow 1.3.5, section 7.2.4).
+const APPLY_ACTIONS: u8 = 4;
+
+// The bytes of the actions that the first instruction applies, none where it applies none, and what
+// stands behind it.
+fn applied(bytes: &[u8]) -> Option<(&[u8], &[u8])>
+    ensures { (actions : List Action) (goto : Option ℕ) → length (apply_bytes actions ++ goto_bytes goto) < 2 ^ 16
+        → bytes.now ≡ apply_bytes actions ++ goto_bytes goto
+        → IsSomeAnd result (λ parts. (parts.0.now ≡ actions_bytes actions) × (parts.1.now ≡ goto_bytes goto)) }
+{
+    if bytes.len() < 8 {
+        return Some((&bytes[..0], bytes));
+    }
+    if bytes[1] != APPLY_ACTIONS {
+        return Some((&bytes[..0], bytes));
+    }
+    let size = usize::from(u16::from_be_bytes([bytes[2], bytes[3]]));
+    if size < 8 {
+        return None;
+    }
+    if bytes.len() < size {
+        return None;
+    }
+    Some((&bytes[8..size], &bytes[size..]))
+}
+
+// The table that the last instruction goes to, where there is one.
+fn goto_of(bytes: &[u8]) -> Option<u8>
+    ensures { (goto : Option ℕ) → bytes.now ≡ goto_bytes goto → result ≡ goto }
+{
+    if bytes.len() < 8 {
+        return None;
+    }
+    Some(bytes[4])
+}
+
+// The match that stands behind the forty bytes of numbers, and the byte behind it.
+fn matching_of(alloc: Global, body: &[u8]) -> Result<Option<(Match, usize)>, AllocError>
+    ensures within { IfOk result (λ found. IfSome found (λ x. x.1 ≤ length body.now)) }
+    ensures said { IfOk result (λ found. (m : MatchFields) (more : List ℕ) → IsLawfulMatch m → drop 40 body.now ≡ match_bytes m ++ more
+        → IsSomeAnd found (λ x. (x.0 ≡ m) × (drop x.1 body.now ≡ more))) }
+{
+    match read_match(alloc, body, 40) {
+        Ok(found) => Ok(Some(found)),
+        Err(MatchFault::BadMatch { .. }) => Ok(None),
+        Err(MatchFault::Memory) => Err(AllocError),
+    }
+}
+
+// A message that removes all entries.
+fn clearing(alloc: Global, xid: u32) -> FlowMod
+    ensures lawful { IsLawfulFlow result }
+    ensures said { (f : FlowValue) → IsLawfulFlow f → f.command ≡ DeleteAll → f.xid ≡ xid → result ≡ f }
+{
+    FlowMod {
+        xid,
+        cookie: 0,
+        table: 0xff,
+        command: FlowCommand::DeleteAll,
+        priority: 0,
+        matching: Match::any(),
+        actions: Vec::new(alloc),
+        goto: None,
+    }
+}
+
+// A message that removes the entry of a table, a match and a priority.
+fn removal(alloc: Global, xid: u32, body: &[u8]) -> Result<Option<FlowMod>, AllocError>
+    requires { 40 ≤ length body.now }
+    ensures lawful { IfOk result (λ found. IfSome found IsLawfulFlow) }
+    ensures said { IfOk result (λ found. (f : FlowValue) → IsLawfulFlow f → f.command ≡ DeleteStrict → f.xid ≡ xid
+        → body.now ≡ flow_body f → found ≡ Some f) }
+{
+    let Some((matching, _)) = matching_of(alloc, body)? else {
+        return Ok(None);
+    };
+    let table = body[16];
+    if !is_table(table) {
+        return Ok(None);
+    }
+    Ok(Some(FlowMod {
+        xid,
+        cookie: 0,
+        table,
+        command: FlowCommand::DeleteStrict,
+        priority: u16_of(&body[22..24]),
+        matching,
+        actions: Vec::new(alloc),
+        goto: None,
+    }))
+}
+
+// A message that adds an entry.
+fn addition(alloc: Global, xid: u32, body: &[u8]) -> Result<Option<FlowMod>, AllocError>
+    requires { 40 ≤ length body.now }
+    ensures lawful { IfOk result (λ found. IfSome found IsLawfulFlow) }
+    ensures said { IfOk result (λ found. (f : FlowValue) → IsLawfulFlow f → f.command ≡ Add → f.xid ≡ xid
+        → length (flow_body f) < 2 ^ 16 → body.now ≡ flow_body f → found ≡ Some f) }
+{
+    let Some((matching, end)) = matching_of(alloc, body)? else {
+        return Ok(None);
+    };
+    let Some((spelled, rest)) = applied(&body[end..]) else {
+        return Ok(None);
+    };
+    let Some(actions) = actions_of(alloc, spelled)? else {
+        return Ok(None);
+    };
+    let table = body[16];
+    let goto = goto_of(rest);
+    if !is_table(table) {
+        return Ok(None);
+    }
+    if !are_lawful(&actions) {
+        return Ok(None);
+    }
+    if !is_goto(table, goto) {
+        return Ok(None);
+    }
+    Ok(Some(FlowMod {
+        xid,
+        cookie: u64_of(&body[..8]),
+        table,
+        command: FlowCommand::Add,
+        priority: u16_of(&body[22..24]),
+        matching,
+        actions,
+        goto,
+    }))
+}
+
+/// The lawful flow mod whose spelling the bytes are behind the header (OpenFlow 1.3.5, section 7.3.4.1).
+/// Where they are none's, it may be any or none.
+pub fn flow_of(alloc: Global, xid: u32, body: &[u8]) -> Result<Option<FlowMod>, AllocError>
+    ensures lawful { IfOk result (λ found. IfSome found IsLawfulFlow) }
+    ensures said { IfOk result (λ found. (f : FlowValue) → IsLawfulFlow f → f.xid ≡ xid → length (flow_body f) < 2 ^ 16
+        → body.now ≡ flow_body f → found ≡ Some f) }
+{
+    if body.len() < 40 {
+        return Ok(None);
+    }
+    match body[17] {
+        0 => addition(alloc, xid, body),
+        3 => Ok(Some(clearing(alloc, xid))),
+        4 => removal(alloc, xid, body),
+        _ => Ok(None),
+    }
+}
