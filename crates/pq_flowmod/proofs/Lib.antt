@@ -1,5 +1,6 @@
 pub mod ActionsRead
 pub mod BucketSteps
+pub mod FlowLaws
 pub mod Leading
 pub mod Parts
 pub mod RuleLaws

@@ -4,7 +4,7 @@ use Rattle.std.specs.Prelude.{All}
 use Rattle.std.specs.List.{flat_map}
 use Rattle.std.specs.Int.{w16, w32, w64, to_be_bytes, from_be_bytes}
 use Rattle.std.proofs.lemmas.Nat.{from_be_bytes-to_be_bytes_8}
-use Rattle.std.proofs.lemmas.List.{take_at, take_rest, drop_at, length-append}
+use Rattle.std.proofs.lemmas.List.{take_at, take_rest, drop_at, length-append, length-drop}
 use Rattle.std.proofs.lemmas.List.Elements.{All-cons, All-nil, All-tail}
 use Rattle.std.proofs.lemmas.List.Concat.{flat_map-cons}
 use Rattle.pq_model.specs.declared.action.Action.{Action}
@@ -160,3 +160,9 @@ each_readable [] law short = All-nil IsReadable
 each_readable (b ∷ bs) law short =
     let parts : length (flat_map bucket_bytes (b ∷ bs)) ≡ length (bucket_bytes b) + length (flat_map bucket_bytes bs) = ap length (flat_map-cons bucket_bytes b bs) ∙ length-append (bucket_bytes b) (flat_map bucket_bytes bs) in
     All-cons IsReadable b bs ((law 0 b (omega arith)).each, omega (arith, parts, short)) (each_readable bs (All-tail IsLawfulBucket b bs law) (omega (arith, parts, short)))
+
+-- the instructions of a message are short
+pub instructions_short : (body : List ℕ) (f : FlowValue) → body ≡ flow_body f → length (flow_body f) < 2 ^ 16 → length (apply_bytes f.actions ++ goto_bytes f.goto) < 2 ^ 16
+instructions_short body f is short =
+    let behind : List ℕ = apply_bytes f.actions ++ goto_bytes f.goto in
+    omega (arith, short, ap length is, ap length (flow_parted body f is).rest, length-drop 40 body, length-append (match_bytes f.matching) behind)

@@ -1,17 +1,17 @@
-ghost use Rattle.std.specs.Prelude.{◌≡◌, ℕ, ◌+◌, ◌<◌, ◌≤◌, ◌^◌, ◌++◌, List, [], IfOk, IfSome, IsSomeAnd, length, drop};
+ghost use Rattle.std.specs.Prelude.{◌≡◌, ℕ, ◌+◌, ◌<◌, ◌≤◌, ◌^◌, ◌++◌, List, [], All, IfOk, IfSome, IsSomeAnd, length, drop};
 ghost use Rattle.std.specs.declared.option.Option.{Option};
 ghost use Rattle.std.specs.declared.option.Option.TheVariants.{None, Some};
 ghost use Rattle.pq_model.specs.declared.action.Action.{Action};
 ghost use Rattle.pq_model.specs.declared.flow_mod.FlowCommand.TheVariants.{Add, DeleteAll, DeleteStrict};
-ghost use Rattle.pq_model.specs.Lawful.{IsLawfulFlow};
+ghost use Rattle.pq_model.specs.Lawful.{IsLawfulAction, IsLawfulFlow};
 ghost use Rattle.pq_model.specs.MatchFields.{MatchFields, IsLawfulMatch};
 ghost use Rattle.pq_model.specs.Mods.{FlowValue};
 ghost use Rattle.pq_model.specs.Spelling.{actions_bytes, apply_bytes, flow_body, goto_bytes, match_bytes};
 
 use crate::action_reading::actions_of;
-use crate::rules::{are_lawful, is_goto, is_table};
-use pq_model::{FlowCommand, FlowMod, Match};
-use pq_oxm::{MatchFault, read_match, u16_of, u64_of};
+use crate::rules::{is_addition, is_table};
+use pq_model::{Action, FlowCommand, FlowMod, Match};
+use pq_oxm::{MatchFault, keeps_rules, read_match, u16_of, u64_of};
 use std::alloc::{AllocError, Global};
 
 // The type of an instruction that applies actions (OpenFlow 1.3.5, section 7.2.4).
@@ -50,6 +50,24 @@ fn goto_of(bytes: &[u8]) -> Option<u8>
     Some(bytes[4])
 }
 
+// The actions that an entry applies and the table that it goes to, as its instructions say.
+fn instructions_of(
+    alloc: Global,
+    bytes: &[u8],
+) -> Result<Option<(Vec<Action>, Option<u8>)>, AllocError>
+    ensures { IfOk result (λ found. (actions : List Action) (goto : Option ℕ) → All IsLawfulAction actions
+        → length (apply_bytes actions ++ goto_bytes goto) < 2 ^ 16 → bytes.now ≡ apply_bytes actions ++ goto_bytes goto
+        → IsSomeAnd found (λ x. (x.0.items ≡ actions) × (x.1 ≡ goto))) }
+{
+    let Some(parts) = applied(bytes) else {
+        return Ok(None);
+    };
+    let Some(actions) = actions_of(alloc, parts.0)? else {
+        return Ok(None);
+    };
+    Ok(Some((actions, goto_of(parts.1))))
+}
+
 // The match that stands behind the forty bytes of numbers, and the byte behind it.
 fn matching_of(alloc: Global, body: &[u8]) -> Result<Option<(Match, usize)>, AllocError>
     ensures within { IfOk result (λ found. IfSome found (λ x. x.1 ≤ length body.now)) }
@@ -57,7 +75,10 @@ fn matching_of(alloc: Global, body: &[u8]) -> Result<Option<(Match, usize)>, All
         → IsSomeAnd found (λ x. (x.0 ≡ m) × (drop x.1 body.now ≡ more))) }
 {
     match read_match(alloc, body, 40) {
-        Ok(found) => Ok(Some(found)),
+        Ok(found) => {
+            keeps_rules(found.0);
+            Ok(Some(found))
+        }
         Err(MatchFault::BadMatch { .. }) => Ok(None),
         Err(MatchFault::Memory) => Err(AllocError),
     }
@@ -87,7 +108,7 @@ fn removal(alloc: Global, xid: u32, body: &[u8]) -> Result<Option<FlowMod>, Allo
     ensures said { IfOk result (λ found. (f : FlowValue) → IsLawfulFlow f → f.command ≡ DeleteStrict → f.xid ≡ xid
         → body.now ≡ flow_body f → found ≡ Some f) }
 {
-    let Some((matching, _)) = matching_of(alloc, body)? else {
+    let Some(matching) = matching_of(alloc, body)? else {
         return Ok(None);
     };
     let table = body[16];
@@ -100,7 +121,7 @@ fn removal(alloc: Global, xid: u32, body: &[u8]) -> Result<Option<FlowMod>, Allo
         table,
         command: FlowCommand::DeleteStrict,
         priority: u16_of(&body[22..24]),
-        matching,
+        matching: matching.0,
         actions: Vec::new(alloc),
         goto: None,
     }))
@@ -113,24 +134,14 @@ fn addition(alloc: Global, xid: u32, body: &[u8]) -> Result<Option<FlowMod>, All
     ensures said { IfOk result (λ found. (f : FlowValue) → IsLawfulFlow f → f.command ≡ Add → f.xid ≡ xid
         → length (flow_body f) < 2 ^ 16 → body.now ≡ flow_body f → found ≡ Some f) }
 {
-    let Some((matching, end)) = matching_of(alloc, body)? else {
+    let Some(matching) = matching_of(alloc, body)? else {
         return Ok(None);
     };
-    let Some((spelled, rest)) = applied(&body[end..]) else {
-        return Ok(None);
-    };
-    let Some(actions) = actions_of(alloc, spelled)? else {
+    let Some(instructions) = instructions_of(alloc, &body[matching.1..])? else {
         return Ok(None);
     };
     let table = body[16];
-    let goto = goto_of(rest);
-    if !is_table(table) {
-        return Ok(None);
-    }
-    if !are_lawful(&actions) {
-        return Ok(None);
-    }
-    if !is_goto(table, goto) {
+    if !is_addition(table, &instructions.0, instructions.1) {
         return Ok(None);
     }
     Ok(Some(FlowMod {
@@ -139,9 +150,9 @@ fn addition(alloc: Global, xid: u32, body: &[u8]) -> Result<Option<FlowMod>, All
         table,
         command: FlowCommand::Add,
         priority: u16_of(&body[22..24]),
-        matching,
-        actions,
-        goto,
+        matching: matching.0,
+        actions: instructions.0,
+        goto: instructions.1,
     }))
 }
 

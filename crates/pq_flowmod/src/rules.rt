@@ -44,8 +44,8 @@ fn is_set(field: Field, number: u64) -> bool
     }
 }
 
-/// Whether an action keeps the rules on actions.
-pub fn is_lawful(action: Action) -> bool
+// Whether an action keeps the rules on actions.
+fn is_lawful(action: Action) -> bool
     ensures { IsTrue result ↔ IsLawfulAction action }
 {
     match action {
@@ -58,8 +58,8 @@ pub fn is_lawful(action: Action) -> bool
     }
 }
 
-/// Whether each action keeps the rules on actions.
-pub fn are_lawful(actions: &[Action]) -> bool
+// Whether each action keeps the rules on actions.
+fn are_lawful(actions: &[Action]) -> bool
     ensures { IsTrue result ↔ All IsLawfulAction actions.now }
 {
     for action in actions {
@@ -77,14 +77,27 @@ pub fn is_table(number: u8) -> bool
     number <= LAST_TABLE
 }
 
-/// Whether an entry of the table may go on in another: a greater one, if in any.
-pub fn is_goto(table: u8, goto: Option<u8>) -> bool
+// Whether an entry of the table may go on in another: a greater one, if in any.
+fn is_goto(table: u8, goto: Option<u8>) -> bool
     ensures { IsTrue result ↔ IsLawfulGoto table goto }
 {
     match goto {
         None => true,
         Some(next) => table < next && next <= LAST_TABLE,
     }
+}
+
+/// Whether an entry with these actions that goes on so may be added to the table.
+pub fn is_addition(table: u8, actions: &[Action], goto: Option<u8>) -> bool
+    ensures { IsTrue result ↔ ((table ≤ 254) × All IsLawfulAction actions.now × IsLawfulGoto table goto) }
+{
+    if !is_table(table) {
+        return false;
+    }
+    if !is_goto(table, goto) {
+        return false;
+    }
+    are_lawful(actions)
 }
 
 /// Whether a group may have the number.
@@ -158,8 +171,8 @@ fn end_with_output(actions: &[Action]) -> bool
     matches!(actions, [.., Action::Output(_)])
 }
 
-/// Whether the actions may stand in a bucket.
-pub fn is_bucket(actions: &[Action]) -> bool
+// Whether the actions may stand in a bucket.
+fn is_bucket(actions: &[Action]) -> bool
     ensures { IsTrue result ↔ IsLawfulBucket actions.now }
 {
     if !are_lawful(actions) {
