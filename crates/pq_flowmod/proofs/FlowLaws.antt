@@ -5,10 +5,10 @@ use Rattle.std.specs.Int.{w16, from_be_bytes}
 use Rattle.std.proofs.lemmas.List.{drop_at, drop-drop, take_rest}
 use Rattle.pq_model.specs.declared.action.Action.{Action}
 use Rattle.pq_model.specs.declared.flow_mod.FlowCommand.{FlowCommand}
-use Rattle.pq_model.specs.declared.flow_mod.FlowCommand.TheVariants.{Add as AddFlow, DeleteAll, DeleteStrict}
+use Rattle.pq_model.specs.declared.group_mod.GroupCommand.{GroupCommand}
 use Rattle.pq_model.specs.MatchFields.{MatchFields, IsLawfulMatch}
 use Rattle.pq_model.specs.Mods.{FlowValue}
-use Rattle.pq_model.specs.Spelling.{actions_bytes, apply_bytes, goto_bytes, match_bytes, flow_code}
+use Rattle.pq_model.specs.Spelling.{actions_bytes, apply_bytes, goto_bytes, match_bytes}
 use Rattle.pq_oxm.specs.Standing.{StandsAt}
 use Rattle.pq_oxm.proofs.Places.{followed}
 use Rattle.pq_oxm.proofs.Whole.{one_match}
@@ -52,26 +52,18 @@ match_next body found m end more law other stands ends is =
     let last : end ≡ 40 + length (match_bytes m) = ends ∙ ap (λ (x : MatchFields). 40 + length (match_bytes x)) same in
     (same, ap (λ (k : ℕ). drop k body) last ∙ sym (drop-drop (length (match_bytes m)) 40 body) ∙ ap (drop (length (match_bytes m))) is ∙ drop_at (match_bytes m) more (length (match_bytes m)) refl)
 
--- a number of a command tells it
-pub is_add : (command : FlowCommand) → flow_code command ≡ 0 → command ≡ AddFlow
-is_add AddFlow is = refl
-is_add DeleteAll is = absurd (omega (arith, is))
-is_add DeleteStrict is = absurd (omega (arith, is))
+same_command : (m n : FlowCommand) → Some m ≡ Some n → m ≡ n
+same_command m n same = cc
 
-pub is_delete_all : (command : FlowCommand) → flow_code command ≡ 3 → command ≡ DeleteAll
-is_delete_all AddFlow is = absurd (omega (arith, is))
-is_delete_all DeleteAll is = refl
-is_delete_all DeleteStrict is = absurd (omega (arith, is))
+-- the command that is told
+pub command_is : (command other known : FlowCommand) → Some command ≡ Some other → command ≡ known → other ≡ known
+command_is command other known same is = sym (same_command command other same) ∙ is
 
-pub is_delete_strict : (command : FlowCommand) → flow_code command ≡ 4 → command ≡ DeleteStrict
-is_delete_strict AddFlow is = absurd (omega (arith, is))
-is_delete_strict DeleteAll is = absurd (omega (arith, is))
-is_delete_strict DeleteStrict is = refl
+same_group_command : (m n : GroupCommand) → Some m ≡ Some n → m ≡ n
+same_group_command m n same = cc
 
-pub is_command : (command : FlowCommand) → (flow_code command ≡ 0) ⊎ ((flow_code command ≡ 3) ⊎ (flow_code command ≡ 4))
-is_command AddFlow = inl refl
-is_command DeleteAll = inr (inl refl)
-is_command DeleteStrict = inr (inr refl)
+pub group_command_is : (command other known : GroupCommand) → Some command ≡ Some other → command ≡ known → other ≡ known
+group_command_is command other known same is = sym (same_group_command command other same) ∙ is
 
 pub flow_is : (f : FlowValue) (xid cookie table : ℕ) (command : FlowCommand) (priority : ℕ) (matching : MatchFields) (actions : List Action) (goto : Option ℕ) →
     xid ≡ f.xid → cookie ≡ f.cookie → table ≡ f.table → command ≡ f.command → priority ≡ f.priority → matching ≡ f.matching → actions ≡ f.actions → goto ≡ f.goto →

@@ -1,5 +1,5 @@
 -- The parts of the spellings of messages, and where they stand.
-use Rattle.std.proofs.Common.{◌≡◌, ℕ, ◌+◌, ◌-◌, ◌^◌, ◌<◌, ◌≤◌, List, [], ◌∷◌, ◌++◌, length, get_or, take, drop, replicate, Option, None, Some, refl, sym, ap, subst, ◌∙◌, append_assoc, arith}
+use Rattle.std.proofs.Common.{◌≡◌, ℕ, ◌+◌, ◌-◌, ◌^◌, ◌<◌, ◌≤◌, List, [], ◌∷◌, ◌++◌, length, get_or, take, drop, replicate, Option, None, Some, refl, sym, ap, subst, ◌∙◌, append_assoc, arith, inl, inr}
 use Rattle.std.specs.Prelude.{All}
 use Rattle.std.specs.List.{flat_map}
 use Rattle.std.specs.Int.{w16, w32, w64, to_be_bytes, from_be_bytes}
@@ -11,7 +11,9 @@ use Rattle.pq_model.specs.declared.action.Action.{Action}
 use Rattle.pq_model.specs.declared.message.Message.{Message}
 use Rattle.pq_model.specs.declared.message.Message.TheVariants.{Flow, Group as Grouping, Barrier}
 use Rattle.pq_model.specs.Mods.{FlowValue, GroupValue}
-use Rattle.pq_model.specs.Lawful.{IsLawfulBucket, IsLawfulContent, IsLawfulMessage}
+use Rattle.pq_model.specs.Lawful.{IsLawfulBucket, IsLawfulContent, IsLawfulGroup, IsLawfulGrouping, IsLawfulMessage}
+use Rattle.pq_model.specs.declared.group_mod.GroupCommand.{GroupCommand}
+use Rattle.pq_model.specs.declared.group_mod.GroupCommand.TheVariants.{Add as AddGroup, Modify, Delete}
 use Rattle.pq_model.specs.Spelling.{actions_bytes, apply_bytes, goto_bytes, match_bytes, flow_code, flow_body, bucket_bytes, group_code, group_body, with_header, message_bytes}
 use Rattle.pq_flowmod.specs.Reading.{IsReadable, message_kind, message_xid, message_body}
 use Rattle.pq_oxm.proofs.Numbers.{reads_16, reads_32}
@@ -166,3 +168,15 @@ pub instructions_short : (body : List ℕ) (f : FlowValue) → body ≡ flow_bod
 instructions_short body f is short =
     let behind : List ℕ = apply_bytes f.actions ++ goto_bytes f.goto in
     omega (arith, short, ap length is, ap length (flow_parted body f is).rest, length-drop 40 body, length-append (match_bytes f.matching) behind)
+
+-- the number of a group has 32 bits
+pub group_below : (g : GroupValue) → IsLawfulGroup g → g.group < 2 ^ 32
+group_below g law = by g.command law.command where
+  by : (command : GroupCommand) → IsLawfulGrouping command g → g.group < 2 ^ 32
+  by AddGroup allowed = omega (arith, allowed.0.1)
+  by Modify allowed = omega (arith, allowed.0.1)
+  by Delete allowed = elim allowed.0 [ inl number ↦ omega (arith, number.1) | inr all ↦ omega (arith, all) ]
+
+-- the buckets of a message are short
+pub buckets_short : (body : List ℕ) (g : GroupValue) → body ≡ group_body g → length (group_body g) < 2 ^ 16 → length (flat_map bucket_bytes g.buckets) < 2 ^ 16
+buckets_short body g is short = omega (arith, short, ap length is, ap length (group_parted body g is).rest, length-drop 8 body)

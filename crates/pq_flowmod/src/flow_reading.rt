@@ -2,11 +2,19 @@ ghost use Rattle.std.specs.Prelude.{◌≡◌, ℕ, ◌+◌, ◌<◌, ◌≤◌,
 ghost use Rattle.std.specs.declared.option.Option.{Option};
 ghost use Rattle.std.specs.declared.option.Option.TheVariants.{None, Some};
 ghost use Rattle.pq_model.specs.declared.action.Action.{Action};
+ghost use Rattle.pq_model.specs.declared.flow_mod.FlowCommand.{FlowCommand};
 ghost use Rattle.pq_model.specs.declared.flow_mod.FlowCommand.TheVariants.{Add, DeleteAll, DeleteStrict};
 ghost use Rattle.pq_model.specs.Lawful.{IsLawfulAction, IsLawfulFlow};
 ghost use Rattle.pq_model.specs.MatchFields.{MatchFields, IsLawfulMatch};
 ghost use Rattle.pq_model.specs.Mods.{FlowValue};
-ghost use Rattle.pq_model.specs.Spelling.{actions_bytes, apply_bytes, flow_body, goto_bytes, match_bytes};
+ghost use Rattle.pq_model.specs.Spelling.{
+  actions_bytes,
+  apply_bytes,
+  flow_body,
+  flow_code,
+  goto_bytes,
+  match_bytes,
+};
 
 use crate::action_reading::actions_of;
 use crate::rules::{is_addition, is_table};
@@ -156,6 +164,18 @@ fn addition(alloc: Global, xid: u32, body: &[u8]) -> Result<Option<FlowMod>, All
     }))
 }
 
+// The command of a number (OpenFlow 1.3.5, section 7.3.4.1).
+fn command_of(code: u8) -> Option<FlowCommand>
+    ensures { (command : FlowCommand) → code ≡ flow_code command → result ≡ Some command }
+{
+    match code {
+        0 => Some(FlowCommand::Add),
+        3 => Some(FlowCommand::DeleteAll),
+        4 => Some(FlowCommand::DeleteStrict),
+        _ => None,
+    }
+}
+
 /// The lawful flow mod whose spelling the bytes are behind the header (OpenFlow 1.3.5, section 7.3.4.1).
 /// Where they are none's, it may be any or none.
 pub fn flow_of(alloc: Global, xid: u32, body: &[u8]) -> Result<Option<FlowMod>, AllocError>
@@ -166,10 +186,10 @@ pub fn flow_of(alloc: Global, xid: u32, body: &[u8]) -> Result<Option<FlowMod>, 
     if body.len() < 40 {
         return Ok(None);
     }
-    match body[17] {
-        0 => addition(alloc, xid, body),
-        3 => Ok(Some(clearing(alloc, xid))),
-        4 => removal(alloc, xid, body),
-        _ => Ok(None),
+    match command_of(body[17]) {
+        None => Ok(None),
+        Some(FlowCommand::Add) => addition(alloc, xid, body),
+        Some(FlowCommand::DeleteAll) => Ok(Some(clearing(alloc, xid))),
+        Some(FlowCommand::DeleteStrict) => removal(alloc, xid, body),
     }
 }

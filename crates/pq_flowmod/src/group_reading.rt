@@ -143,7 +143,8 @@ pub fn group_of(alloc: Global, xid: u32, body: &[u8]) -> Result<Option<GroupMod>
     let group = u32_of(&body[4..8]);
     match command_of(body[1]) {
         None => Ok(None),
+        Some(GroupCommand::Add) => filled(alloc, xid, GroupCommand::Add, group, &body[8..]),
+        Some(GroupCommand::Modify) => filled(alloc, xid, GroupCommand::Modify, group, &body[8..]),
         Some(GroupCommand::Delete) => Ok(removal(alloc, xid, group)),
-        Some(command) => filled(alloc, xid, command, group, &body[8..]),
     }
 }
