@@ -1,8 +1,8 @@
 -- Lawful actions that are spelled are read back.
-use Rattle.std.proofs.Common.{◌≡◌, ℕ, suc, ◌+◌, ◌^◌, ◌<◌, ◌≤◌, List, [], ◌∷◌, ◌++◌, length, get_or, take, drop, Option, None, Some, refl, sym, ap, subst, ◌∙◌, append_assoc, arith, inl, inr}
+use Rattle.std.proofs.Common.{◌≡◌, ℕ, ◌-◌, ◌+◌, ◌^◌, ◌<◌, ◌≤◌, List, [], ◌∷◌, ◌++◌, length, get_or, take, drop, Option, None, Some, refl, sym, ap, subst, ◌∙◌, append_assoc, arith, inl, inr}
 use Rattle.std.specs.Prelude.{All}
 use Rattle.std.specs.Int.{w16, w32, to_be_bytes, from_be_bytes}
-use Rattle.std.proofs.lemmas.List.{take_at, drop_at, length-append}
+use Rattle.std.proofs.lemmas.List.{take_at, drop_at, take_rest}
 use Rattle.std.proofs.lemmas.List.Elements.{All-tail}
 use Rattle.std.proofs.lemmas.List.Concat.{flat_map-cons}
 use Rattle.pq_fields.specs.declared.field.Field.TheVariants.{Switch, Port, EthType, IpProto, EthSrc, EthDst, Ipv4Src, Ipv4Dst, TcpSrc, TcpDst, UdpSrc, UdpDst, Ipv6Src, Ipv6Dst}
@@ -68,3 +68,35 @@ action_sized (SetField UdpSrc n) more law = record { told = refl; long = omega a
 action_sized (SetField UdpDst n) more law = record { told = refl; long = omega arith; within = omega arith }
 action_sized (SetField Ipv6Src n) more law = absurd law.0
 action_sized (SetField Ipv6Dst n) more law = absurd law.0
+
+pub action_told : (bytes : List ℕ) (a : Action) (more : List ℕ) → IsLawfulAction a → bytes ≡ action_bytes a ++ more → IsSized bytes (length (action_bytes a))
+action_told bytes a more law is = rw is (action_sized a more law)
+
+-- a spelling has bytes
+pub action_long : (a : Action) → IsLawfulAction a → 0 < length (action_bytes a)
+action_long a law = omega (arith, (action_sized a [] law).long)
+
+same_size : (m n : ℕ) → Some m ≡ Some n → m ≡ n
+same_size m n same = cc
+
+same_action : (a b : Action) → Some a ≡ Some b → a ≡ b
+same_action a b same = cc
+
+-- the action at the front, and what follows it
+pub action_is : (rest : List ℕ) (size : ℕ) (action a : Action) (more : List ℕ) → IsLawfulAction a → rest ≡ action_bytes a ++ more →
+    Some size ≡ Some (length (action_bytes a)) → action_in (take size rest) ≡ Some action →
+    (action ≡ a) × (take (length rest - size) (drop size rest) ≡ more)
+action_is rest size action a more law is told read =
+    let long : length (action_bytes a) ≡ size = sym (same_size _ _ told) in
+    let front : take size rest ≡ action_bytes a = ap (take size) is ∙ take_at (action_bytes a) more size long in
+    let behind : drop size rest ≡ more = ap (drop size) is ∙ drop_at (action_bytes a) more size long in
+    (same_action _ _ (sym read ∙ ap action_in front ∙ action_read a law), take_rest rest size ∙ behind)
+
+-- an action that is not read is not lawful
+pub no_action : (rest : List ℕ) (size : ℕ) (a : Action) (more : List ℕ) → IsLawfulAction a → rest ≡ action_bytes a ++ more →
+    Some size ≡ Some (length (action_bytes a)) → action_in (take size rest) ≡ None → ⊥
+no_action rest size a more law is told read =
+    let long : length (action_bytes a) ≡ size = sym (same_size _ _ told) in
+    let front : take size rest ≡ action_bytes a = ap (take size) is ∙ take_at (action_bytes a) more size long in
+    let same : None ≡ Some a = sym read ∙ ap action_in front ∙ action_read a law in
+    absurd cc

@@ -1,7 +1,8 @@
 -- Reading things that are spelled one after another: what is read so far is the front of every list that the bytes spell.
-use Rattle.std.proofs.Common.{◌≡◌, ℕ, ◌+◌, ◌<◌, List, [], ◌∷◌, ◌++◌, length, refl, sym, ap, subst, ◌∙◌, append_assoc, arith}
+use Rattle.std.proofs.Common.{◌≡◌, ℕ, ◌+◌, ◌<◌, Bool, true, false, eqb, List, [], ◌∷◌, ◌++◌, length, refl, sym, ap, subst, ◌∙◌, append_assoc, arith}
 use Rattle.std.specs.Prelude.{All}
 use Rattle.std.specs.List.{flat_map}
+use Rattle.std.proofs.lemmas.Bool.{eqb-true, eqb-false}
 use Rattle.std.proofs.lemmas.List.{append-nil, length-append}
 use Rattle.std.proofs.lemmas.List.Elements.{All-tail}
 use Rattle.std.proofs.lemmas.List.Concat.{flat_map-cons}
@@ -47,3 +48,10 @@ all_read {A} spelling IsLawful long bytes read rest empty leads whole law is =
     let now = leads whole law is in
     let left : now.0 ≡ [] = nothing_left spelling IsLawful long now.0 now.2 (sym (ap length now.3) ∙ empty) in
     sym (now.1 ∙ ap (λ (l : List A). read ++ l) left ∙ append-nil read)
+
+-- what the test for the end says
+pub some_left : (rest : List ℕ) (b : Bool) → b ≡ eqb (length rest) 0 → b ≡ false → 0 < length rest
+some_left rest b tests said = let more : length rest ≡ 0 → ⊥ = eqb-false (length rest) 0 (sym tests ∙ said) in omega arith
+
+pub none_left : (rest : List ℕ) (b : Bool) → b ≡ eqb (length rest) 0 → b ≡ true → length rest ≡ 0
+none_left rest b tests said = eqb-true (length rest) 0 (sym tests ∙ said)

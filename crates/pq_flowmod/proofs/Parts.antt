@@ -1,17 +1,21 @@
 -- The parts of the spellings of messages, and where they stand.
-use Rattle.std.proofs.Common.{◌≡◌, ℕ, ◌+◌, ◌-◌, ◌^◌, ◌<◌, ◌≤◌, List, [], ◌∷◌, ◌++◌, length, get_or, take, drop, replicate, Option, None, Some, refl, sym, ap, subst, ◌∙◌, append_assoc, arith}
+use Rattle.std.proofs.Common.{◌≡◌, ℕ, ◌+◌, ◌-◌, ◌^◌, ◌<◌, ◌≤◌, List, [], ◌∷◌, ◌++◌, length, get_or, take, drop, replicate, Option, None, Some, refl, sym, ap, subst, ◌∙◌, append_assoc, arith, inl, inr}
 use Rattle.std.specs.Prelude.{All}
 use Rattle.std.specs.List.{flat_map}
 use Rattle.std.specs.Int.{w16, w32, w64, to_be_bytes, from_be_bytes}
 use Rattle.std.proofs.lemmas.Nat.{from_be_bytes-to_be_bytes_8}
-use Rattle.std.proofs.lemmas.List.{take_at, drop_at, length-append}
+use Rattle.std.proofs.lemmas.List.{take_at, take_rest, drop_at, length-append, length-drop}
+use Rattle.std.proofs.lemmas.List.Elements.{All-cons, All-nil, All-tail}
+use Rattle.std.proofs.lemmas.List.Concat.{flat_map-cons}
 use Rattle.pq_model.specs.declared.action.Action.{Action}
 use Rattle.pq_model.specs.declared.message.Message.{Message}
 use Rattle.pq_model.specs.declared.message.Message.TheVariants.{Flow, Group as Grouping, Barrier}
 use Rattle.pq_model.specs.Mods.{FlowValue, GroupValue}
-use Rattle.pq_model.specs.Lawful.{IsLawfulContent, IsLawfulMessage}
+use Rattle.pq_model.specs.Lawful.{IsLawfulBucket, IsLawfulContent, IsLawfulGroup, IsLawfulGrouping, IsLawfulMessage}
+use Rattle.pq_model.specs.declared.group_mod.GroupCommand.{GroupCommand}
+use Rattle.pq_model.specs.declared.group_mod.GroupCommand.TheVariants.{Add as AddGroup, Modify, Delete}
 use Rattle.pq_model.specs.Spelling.{actions_bytes, apply_bytes, goto_bytes, match_bytes, flow_code, flow_body, bucket_bytes, group_code, group_body, with_header, message_bytes}
-use Rattle.pq_flowmod.specs.Reading.{message_kind, message_xid, message_body}
+use Rattle.pq_flowmod.specs.Reading.{IsReadable, message_kind, message_xid, message_body}
 use Rattle.pq_oxm.proofs.Numbers.{reads_16, reads_32}
 
 -- a bucket tells its length, and its actions stand behind its header
@@ -133,3 +137,46 @@ pub message_parted : (bytes : List ℕ) (m : Message) (more : List ℕ) → IsLa
 message_parted bytes m more law is =
     let parts = header_parted bytes m more (message_kind m) (message_xid m) (message_body m) (xid_below m law.content) (subst (λ (bs : List ℕ). length bs < 2 ^ 16) (spelled m) law.short) (is ∙ ap (λ (bs : List ℕ). bs ++ more) (spelled m)) in
     record { kind = parts.0; told = parts.1; xid = parts.2; within = parts.3; body = parts.4; short = parts.5 }
+
+pub bucket_told : (bytes : List ℕ) (actions : List Action) (more : List ℕ) → length (bucket_bytes actions) < 2 ^ 16 → bytes ≡ bucket_bytes actions ++ more → IsBucket bytes (actions_bytes actions) (length (bucket_bytes actions))
+bucket_told bytes actions more short is = rw is (bucket_sized actions more short)
+
+bucket_size : (m n : ℕ) → Some m ≡ Some n → m ≡ n
+bucket_size m n same = cc
+
+-- the actions of the bucket at the front, and what follows it
+pub bucket_next : (rest : List ℕ) (size : ℕ) (actions : List Action) (more : List ℕ) → IsReadable actions → rest ≡ bucket_bytes actions ++ more →
+    Some size ≡ Some (length (bucket_bytes actions)) → (take (size - 16) (drop 16 rest) ≡ actions_bytes actions) × (take (length rest - size) (drop size rest) ≡ more)
+bucket_next rest size actions more law is told =
+    let long : length (bucket_bytes actions) ≡ size = sym (bucket_size _ _ told) in
+    let sized = bucket_told rest actions more law.1 is in
+    (ap (λ (k : ℕ). take (k - 16) (drop 16 rest)) (sym long) ∙ sized.inside, take_rest rest size ∙ ap (drop size) is ∙ drop_at (bucket_bytes actions) more size long)
+
+-- a spelling has bytes
+pub bucket_long : (actions : List Action) → IsReadable actions → 0 < length (bucket_bytes actions)
+bucket_long actions law = omega (arith, (bucket_sized actions [] law.1).long)
+
+-- the buckets of a message can be read
+pub each_readable : (buckets : List (List Action)) → All IsLawfulBucket buckets → length (flat_map bucket_bytes buckets) < 2 ^ 16 → All IsReadable buckets
+each_readable [] law short = All-nil IsReadable
+each_readable (b ∷ bs) law short =
+    let parts : length (flat_map bucket_bytes (b ∷ bs)) ≡ length (bucket_bytes b) + length (flat_map bucket_bytes bs) = ap length (flat_map-cons bucket_bytes b bs) ∙ length-append (bucket_bytes b) (flat_map bucket_bytes bs) in
+    All-cons IsReadable b bs ((law 0 b (omega arith)).each, omega (arith, parts, short)) (each_readable bs (All-tail IsLawfulBucket b bs law) (omega (arith, parts, short)))
+
+-- the instructions of a message are short
+pub instructions_short : (body : List ℕ) (f : FlowValue) → body ≡ flow_body f → length (flow_body f) < 2 ^ 16 → length (apply_bytes f.actions ++ goto_bytes f.goto) < 2 ^ 16
+instructions_short body f is short =
+    let behind : List ℕ = apply_bytes f.actions ++ goto_bytes f.goto in
+    omega (arith, short, ap length is, ap length (flow_parted body f is).rest, length-drop 40 body, length-append (match_bytes f.matching) behind)
+
+-- the number of a group has 32 bits
+pub group_below : (g : GroupValue) → IsLawfulGroup g → g.group < 2 ^ 32
+group_below g law = by g.command law.command where
+  by : (command : GroupCommand) → IsLawfulGrouping command g → g.group < 2 ^ 32
+  by AddGroup allowed = omega (arith, allowed.0.1)
+  by Modify allowed = omega (arith, allowed.0.1)
+  by Delete allowed = elim allowed.0 [ inl number ↦ omega (arith, number.1) | inr all ↦ omega (arith, all) ]
+
+-- the buckets of a message are short
+pub buckets_short : (body : List ℕ) (g : GroupValue) → body ≡ group_body g → length (group_body g) < 2 ^ 16 → length (flat_map bucket_bytes g.buckets) < 2 ^ 16
+buckets_short body g is short = omega (arith, short, ap length is, ap length (group_parted body g is).rest, length-drop 8 body)

@@ -1,5 +1,5 @@
 -- What the bytes of an action say; whether they are spelled as they must be is not asked here.
-use Rattle.std.specs.Prelude.{ℕ, List, [], length, get_or, take, drop, nat_lt, ◌==◌, if◌then◌else◌}
+use Rattle.std.specs.Prelude.{ℕ, ◌^◌, ◌<◌, All, List, [], length, get_or, take, drop, nat_lt, ◌==◌, if◌then◌else◌}
 use Rattle.std.specs.declared.option.Option.{Option}
 use Rattle.std.specs.declared.option.Option.TheVariants.{None, Some}
 use Rattle.std.specs.Int.{w16, w32, from_be_bytes}
@@ -8,7 +8,8 @@ use Rattle.pq_model.specs.declared.action.Action.{Action}
 use Rattle.pq_model.specs.declared.action.Action.TheVariants.{Output, PushVlan, PopVlan, Group, SetVlan, SetField}
 use Rattle.pq_model.specs.declared.message.Message.{Message}
 use Rattle.pq_model.specs.declared.message.Message.TheVariants.{Flow, Group as Grouping, Barrier}
-use Rattle.pq_model.specs.Spelling.{flow_body, group_body}
+use Rattle.pq_model.specs.Spelling.{bucket_bytes, flow_body, group_body}
+use Rattle.pq_model.specs.Lawful.{IsLawfulAction}
 use Rattle.pq_oxm.specs.Reading.{mac_number}
 
 -- the bytes of a number within an action
@@ -56,3 +57,7 @@ abbrev pub message_body : Message → List ℕ
 message_body (Flow f) = flow_body f
 message_body (Grouping g) = group_body g
 message_body (Barrier xid) = []
+
+-- a bucket that can be read: its actions are lawful, and its length fits the two bytes that state it
+abbrev pub IsReadable : List Action → Type 0
+IsReadable actions = All IsLawfulAction actions × (length (bucket_bytes actions) < 2 ^ 16)

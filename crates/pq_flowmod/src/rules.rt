@@ -1,9 +1,10 @@
-ghost use Rattle.std.specs.Prelude.{◌≡◌, ◌↔◌, ℕ, ◌<◌, ◌^◌, ◌∷◌, [], ◌++◌, List, All, IsTrue, map};
+ghost use Rattle.std.specs.Prelude.{◌≡◌, ◌↔◌, ℕ, ◌<◌, ◌≤◌, ◌^◌, ◌∷◌, [], ◌++◌, ◌⊎◌, List, All, IsTrue, map};
 ghost use Rattle.pq_fields.specs.Packet.{rank, width_of};
 ghost use Rattle.pq_model.specs.declared.action.Action.{Action};
 ghost use Rattle.pq_model.specs.declared.action.Action.TheVariants.{Output};
 ghost use Rattle.pq_model.specs.Lawful.{
   Ascends,
+  HasBuckets,
   IsGroupNumber,
   IsLawfulAction,
   IsLawfulBucket,
@@ -11,6 +12,7 @@ ghost use Rattle.pq_model.specs.Lawful.{
   IsSettable,
   bucket_place,
 };
+ghost use Rattle.pq_model.specs.SwitchMachine.{all_groups};
 
 use pq_fields::Field;
 use pq_model::Action;
@@ -23,6 +25,9 @@ const IN_PORT: u32 = 0xffff_fff8;
 
 // The port number that stands for the controller.
 const CONTROLLER: u32 = 0xffff_fffd;
+
+// The number that stands for all groups.
+const ALL: u32 = 0xffff_fffc;
 
 // The greatest number of a table.
 const LAST_TABLE: u8 = 254;
@@ -39,8 +44,8 @@ fn is_set(field: Field, number: u64) -> bool
     }
 }
 
-/// Whether an action keeps the rules on actions.
-pub fn is_lawful(action: Action) -> bool
+// Whether an action keeps the rules on actions.
+fn is_lawful(action: Action) -> bool
     ensures { IsTrue result ↔ IsLawfulAction action }
 {
     match action {
@@ -53,8 +58,8 @@ pub fn is_lawful(action: Action) -> bool
     }
 }
 
-/// Whether each action keeps the rules on actions.
-pub fn are_lawful(actions: &[Action]) -> bool
+// Whether each action keeps the rules on actions.
+fn are_lawful(actions: &[Action]) -> bool
     ensures { IsTrue result ↔ All IsLawfulAction actions.now }
 {
     for action in actions {
@@ -65,8 +70,15 @@ pub fn are_lawful(actions: &[Action]) -> bool
     true
 }
 
-/// Whether an entry of the table may go on in another: a greater one, if in any.
-pub fn is_goto(table: u8, goto: Option<u8>) -> bool
+/// Whether an entry may stand in a table of this number.
+pub fn is_table(number: u8) -> bool
+    ensures { IsTrue result ↔ (number ≤ 254) }
+{
+    number <= LAST_TABLE
+}
+
+// Whether an entry of the table may go on in another: a greater one, if in any.
+fn is_goto(table: u8, goto: Option<u8>) -> bool
     ensures { IsTrue result ↔ IsLawfulGoto table goto }
 {
     match goto {
@@ -75,11 +87,31 @@ pub fn is_goto(table: u8, goto: Option<u8>) -> bool
     }
 }
 
+/// Whether an entry with these actions that goes on so may be added to the table.
+pub fn is_addition(table: u8, actions: &[Action], goto: Option<u8>) -> bool
+    ensures { IsTrue result ↔ ((table ≤ 254) × All IsLawfulAction actions.now × IsLawfulGoto table goto) }
+{
+    if !is_table(table) {
+        return false;
+    }
+    if !is_goto(table, goto) {
+        return false;
+    }
+    are_lawful(actions)
+}
+
 /// Whether a group may have the number.
 pub fn is_group_number(number: u32) -> bool
     ensures { IsTrue result ↔ IsGroupNumber number }
 {
     1 <= number && number <= GREATEST
+}
+
+/// Whether the number is that of a group that is removed, or stands for all groups.
+pub fn is_removed(number: u32) -> bool
+    ensures { IsTrue result ↔ (IsGroupNumber number ⊎ (number ≡ all_groups)) }
+{
+    is_group_number(number) || number == ALL
 }
 
 // A field's place in field order.
@@ -139,8 +171,8 @@ fn end_with_output(actions: &[Action]) -> bool
     matches!(actions, [.., Action::Output(_)])
 }
 
-/// Whether the actions may stand in a bucket.
-pub fn is_bucket(actions: &[Action]) -> bool
+// Whether the actions may stand in a bucket.
+fn is_bucket(actions: &[Action]) -> bool
     ensures { IsTrue result ↔ IsLawfulBucket actions.now }
 {
     if !are_lawful(actions) {
@@ -152,8 +184,8 @@ pub fn is_bucket(actions: &[Action]) -> bool
     end_with_output(actions)
 }
 
-/// Whether there is a bucket, and each one's actions may stand in a bucket.
-pub fn are_buckets(buckets: &[Vec<Action>]) -> bool
+// Whether each bucket's actions may stand in a bucket.
+fn each_is_bucket(buckets: &[Vec<Action>]) -> bool
     ensures { IsTrue result ↔ All IsLawfulBucket (map (λ b. b.items) buckets.now) }
 {
     for bucket in buckets {
@@ -162,4 +194,14 @@ pub fn are_buckets(buckets: &[Vec<Action>]) -> bool
         }
     }
     true
+}
+
+/// Whether there is a bucket, and each one's actions may stand in a bucket.
+pub fn are_buckets(buckets: &[Vec<Action>]) -> bool
+    ensures { IsTrue result ↔ HasBuckets (map (λ b. b.items) buckets.now) }
+{
+    if buckets.is_empty() {
+        return false;
+    }
+    each_is_bucket(buckets)
 }

@@ -1,5 +1,5 @@
 ghost use Rattle.std.specs.Prelude.{◌≡◌};
-ghost use Rattle.pq_model.specs.MatchFields.{agrees, agrees_masked, covers, vlan_word};
+ghost use Rattle.pq_model.specs.MatchFields.{agrees, agrees_masked, covers, empty_match, vlan_word};
 
 use crate::matching::Match;
 use pq_fields::Packet;
@@ -75,6 +75,28 @@ fn agrees_ipv6(stated: Option<(u128, u128)>, number: u128) -> bool
 }
 
 impl Match {
+    /// The match that states no field, and so covers every packet.
+    pub fn any() -> Match
+        ensures { result ≡ empty_match }
+    {
+        Match {
+            in_port: None,
+            vlan: None,
+            eth_type: None,
+            ip_proto: None,
+            eth_src: None,
+            eth_dst: None,
+            ipv4_src: None,
+            ipv4_dst: None,
+            tcp_src: None,
+            tcp_dst: None,
+            udp_src: None,
+            udp_dst: None,
+            ipv6_src: None,
+            ipv6_dst: None,
+        }
+    }
+
     /// Whether each stated field agrees with the packet and its VLAN header, if it has one (OpenFlow 1.3.5,
     /// section 5.3). By the prerequisites of a match the packet then has each stated field.
     #[tactic(auto, unfolding(crate::specs::MatchFields::covers))]

@@ -14,7 +14,7 @@ mod stated;
 #[cfg(test)]
 mod tests;
 
-pub use bytes::{padding, write_length, write_zeros};
+pub use bytes::{mac_of, padding, u16_of, u32_of, u64_of, write_length, write_zeros};
 pub use matching::{keeps_rules, write_match};
 pub use oxm::write_oxm;
 pub use pq_model::Match;

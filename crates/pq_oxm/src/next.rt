@@ -1,4 +1,4 @@
-ghost use Rattle.std.specs.Prelude.{◌≡◌, ◌<◌, ◌≤◌, length};
+ghost use Rattle.std.specs.Prelude.{◌≡◌, ◌<◌, ◌≤◌};
 ghost use Rattle.std.specs.Int.{w16, w32, w128, from_be_bytes};
 ghost use Rattle.pq_model.specs.Spelling.{ones128, ones32};
 ghost use Rattle.pq_oxm.specs.Reading.{
@@ -8,6 +8,8 @@ ghost use Rattle.pq_oxm.specs.Reading.{
   mac_number,
   number_field,
 };
+
+use crate::bytes::{mac_of, u16_of, u32_of, u128_of};
 
 // Whether an OXM field of class `OPENFLOW_BASIC` with this third byte, which names it and tells of a
 // mask, stands at the front with a payload of so many bytes (OpenFlow 1.3.5, section 7.2.3.2).
@@ -39,19 +41,10 @@ pub fn next_u16(field: u8, bytes: &[u8]) -> (Option<u16>, &[u8])
     ensures { (result.0, result.1.now) ≡ number_field field 2 (from_be_bytes w16) bytes.now }
 {
     if is_field(field * 2, 2, bytes) {
-        let value = &bytes[4..6];
-        (Some(u16::from_be_bytes([value[0], value[1]])), &bytes[6..])
+        (Some(u16_of(&bytes[4..6])), &bytes[6..])
     } else {
         (None, bytes)
     }
-}
-
-/// The number of four bytes.
-fn u32_of(value: &[u8]) -> u32
-    requires { length value.now ≡ 4 }
-    ensures { result ≡ from_be_bytes w32 value.now }
-{
-    u32::from_be_bytes([value[0], value[1], value[2], value[3]])
 }
 
 /// The number of a field of four bytes that stands at the front, and what stands behind it.
@@ -74,9 +67,7 @@ pub fn next_mac(field: u8, bytes: &[u8]) -> (Option<u64>, &[u8])
     ensures { (result.0, result.1.now) ≡ number_field field 6 mac_number bytes.now }
 {
     if is_field(field * 2, 6, bytes) {
-        let v = &bytes[4..10];
-        let number = u64::from_be_bytes([0, 0, v[0], v[1], v[2], v[3], v[4], v[5]]);
-        (Some(number), &bytes[10..])
+        (Some(mac_of(&bytes[4..10])), &bytes[10..])
     } else {
         (None, bytes)
     }
@@ -98,17 +89,6 @@ pub fn next_ipv4(field: u8, bytes: &[u8]) -> (Option<(u32, u32)>, &[u8])
     } else {
         (None, bytes)
     }
-}
-
-/// The number of sixteen bytes.
-fn u128_of(value: &[u8]) -> u128
-    requires { length value.now ≡ 16 }
-    ensures { result ≡ from_be_bytes w128 value.now }
-{
-    u128::from_be_bytes([
-        value[0], value[1], value[2], value[3], value[4], value[5], value[6], value[7], value[8],
-        value[9], value[10], value[11], value[12], value[13], value[14], value[15],
-    ])
 }
 
 /// The IPv6 address of a field that stands at the front with its mask, which is all ones where none

@@ -1,7 +1,7 @@
 use Rattle.std.proofs.Common.{take}
 use Rattle.std.specs.Prelude.{All}
 use Rattle.pq_model.specs.Lawful.{IsLawfulBucket}
-use Rattle.pq_flowmod.proofs.rules.are_buckets.Given as goal
+use Rattle.pq_flowmod.proofs.rules.each_is_bucket.Given as goal
 
 -- the buckets so far are lawful
 abbrev pub invariant-loop-bucket : goal.invariant-loop-bucket
