@@ -11,6 +11,8 @@ mod net;
 mod opening;
 mod sorting;
 mod state;
+#[cfg(test)]
+mod tests;
 mod wiring;
 
 pub use entry::Entry;
