@@ -3,3 +3,4 @@ pub mod WorkedStates
 pub mod Statements
 pub mod Places
 pub mod Readings
+pub mod WorkedSchedules

@@ -1,7 +1,7 @@
 -- A `hop` or a `lose` line has one place.
 use Rattle.std.proofs.Common.{◌≡◌, ℕ, Bool, true, false, cond, List, [], ◌∷◌, eqb, refl}
 use Rattle.std.specs.Prelude.{None}
-use Rattle.std.specs.List.{slice_split, onto_first}
+use Rattle.std.specs.List.{onto_first}
 use Rattle.pq_term.specs.Groups.{parts}
 use Rattle.pq_schedule.specs.Lines.{place_in}
 

@@ -1,13 +1,10 @@
 -- The events of a text, read line after line, and that a text is read in one way.
-use Rattle.std.proofs.Common.{◌≡◌, ℕ, ◌+◌, ◌-◌, ◌≤◌, ◌<◌, List, [], ◌∷◌, ◌++◌, length, suc, refl, sym, ap, subst, ◌∙◌, append-nil, append_assoc, arith}
-use Rattle.std.specs.Prelude.{◌≢◌, Option, Some, None, unwrap_or}
+use Rattle.std.proofs.Common.{◌≡◌, ℕ, ◌-◌, ◌≤◌, ◌<◌, List, [], ◌∷◌, ◌++◌, length, refl, sym, ap, subst, ◌∙◌, append-nil, append_assoc, arith}
+use Rattle.std.specs.Prelude.{◌≢◌, Some, unwrap_or}
 use Rattle.std.proofs.lemmas.Option.{none-some}
-use Rattle.std.specs.Str.{byte}
 use Rattle.std.proofs.lemmas.List.{length-append}
-use Rattle.pq_term.specs.Groups.{before_separator, behind_separator}
 use Rattle.pq_model.specs.declared.event.Event.{Event}
 use Rattle.pq_model.specs.Events.{IsEvent, IsSchedule}
-use Rattle.pq_schedule.specs.Lines.{event_of}
 use Rattle.pq_schedule.specs.Schedules.{event_limit, BeginsWith, AreEvents, IsScheduleText, FirstFault, IsTooLong}
 
 -- no event begins the text

@@ -1,7 +1,7 @@
 -- Statements read word after word are the statements of all words.
 use Rattle.std.proofs.Common.{◌≡◌, ℕ, ◌+◌, Bool, true, false, List, [], ◌∷◌, suc, leb, refl, ap, ◌∙◌, arith}
 use Rattle.std.proofs.Math.Dec.{leb-zero}
-use Rattle.std.specs.Prelude.{fold, ◌&&◌, cond, if◌then◌else◌, option_and_then, option_map, Option, Some, None}
+use Rattle.std.specs.Prelude.{fold, ◌&&◌, if◌then◌else◌, option_and_then, option_map, Option, Some, None}
 use Rattle.pq_model.specs.Tagged.{TaggedPacket}
 use Rattle.pq_schedule.specs.declared.key.Key.{Key}
 use Rattle.pq_schedule.specs.declared.injection.Stated.{Stated as Partial}
@@ -34,7 +34,7 @@ under_is x None value = refl
 under_is x (Some key) None = refl
 under_is x (Some key) (Some value) = on (key_number key value) where
   on : (number : Option ℕ) → (if leb x.next (place_of key) then option_map {U = Partial} (λ p. record { packet = p; next = place_of key + 1 }) (option_map (λ n. with_key key n x.packet) number) else None)
-    ≡ option_and_then (stated_next x) (option_map {U = Statement} (λ n. record { key = key; number = n }) number)
+      ≡ option_and_then (stated_next x) (option_map {U = Statement} (λ n. record { key = key; number = n }) number)
   on None = neither (leb x.next (place_of key))
   on (Some n) = refl
 
@@ -42,7 +42,7 @@ under_is x (Some key) (Some value) = on (key_number key value) where
 packet_step : (x : Partial) (s : Statement) (ss : List Statement) → option_and_then (λ y. packet_from y ss) (stated_next x s) ≡ packet_from x (s ∷ ss)
 packet_step x s ss = by (leb x.next (place_of s.key)) where
   by : (b : Bool) → option_and_then (λ y. packet_from y ss) (if b then Some (record { packet = with_statement x.packet s; next = place_of s.key + 1 }) else None)
-    ≡ (if (b && ascend_from (place_of s.key + 1) ss) then Some (fold with_statement x.packet (s ∷ ss)) else None)
+      ≡ (if (b && ascend_from (place_of s.key + 1) ss) then Some (fold with_statement x.packet (s ∷ ss)) else None)
   by true = refl
   by false = refl
 

@@ -1,5 +1,5 @@
 -- Schedules: lines that are events, each ended by a line feed.
-use Rattle.std.specs.Prelude.{◌≡◌, ◌≢◌, ℕ, ◌+◌, ◌≤◌, List, [], ◌∷◌, length, Option, Some, None}
+use Rattle.std.specs.Prelude.{◌≡◌, ◌≢◌, ℕ, ◌+◌, ◌≤◌, List, [], ◌∷◌, length, Some}
 use Rattle.std.specs.Str.{byte}
 use Rattle.pq_term.specs.Groups.{before_separator, behind_separator}
 use Rattle.pq_model.specs.declared.event.Event.{Event}

@@ -13,7 +13,9 @@ const LINE_LIMIT: usize = 1024;
 
 /// The verbs that lines begin with.
 const INJECT: &[u8] = b"inject";
+
 const HOP: &[u8] = b"hop";
+
 const LOSE: &[u8] = b"lose";
 
 /// The place that the words behind `hop` or `lose` name: one number.

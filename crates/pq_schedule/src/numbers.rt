@@ -16,7 +16,11 @@ pub(crate) fn write_decimal(n: u64, into: &mut Vec<u8>) -> Result<(), AllocError
 }
 
 /// Appends numbers in decimal digits, with a separator between each two.
-pub(crate) fn write_decimals(separator: u8, numbers: &[u64], into: &mut Vec<u8>) -> Result<(), AllocError>
+pub(crate) fn write_decimals(
+    separator: u8,
+    numbers: &[u64],
+    into: &mut Vec<u8>,
+) -> Result<(), AllocError>
     ensures { OnOk result (into.new.items ≡ into.old.items ++ join_by decimal (separator ∷ []) numbers.now) }
 {
     let [first, rest @ ..] = numbers else {

@@ -28,7 +28,12 @@ const FURTHER_FIELDS: [Field; 13] = [
 ];
 
 /// Appends the number that the packet has in a field.
-fn write_number(alloc: Global, field: Field, x: &Packet, into: &mut Vec<u8>) -> Result<(), AllocError>
+fn write_number(
+    alloc: Global,
+    field: Field,
+    x: &Packet,
+    into: &mut Vec<u8>,
+) -> Result<(), AllocError>
     ensures { OnOk result (into.new.items ≡ into.old.items ++ text_in (form_of field) (number_in field x.now)) }
 {
     match field {
@@ -41,7 +46,12 @@ fn write_number(alloc: Global, field: Field, x: &Packet, into: &mut Vec<u8>) -> 
 }
 
 /// Appends a field's name, `=`, and the packet's number in it.
-fn write_field(alloc: Global, field: Field, x: &Packet, into: &mut Vec<u8>) -> Result<(), AllocError>
+fn write_field(
+    alloc: Global,
+    field: Field,
+    x: &Packet,
+    into: &mut Vec<u8>,
+) -> Result<(), AllocError>
     ensures { OnOk result (into.new.items ≡ into.old.items ++ field_text x.now field) }
 {
     into.extend_from_slice(field_name(field))?;
@@ -50,7 +60,12 @@ fn write_field(alloc: Global, field: Field, x: &Packet, into: &mut Vec<u8>) -> R
 }
 
 /// Appends a space and the field for each of the fields that the packet has.
-fn write_further(alloc: Global, fields: &[Field], x: &Packet, into: &mut Vec<u8>) -> Result<(), AllocError>
+fn write_further(
+    alloc: Global,
+    fields: &[Field],
+    x: &Packet,
+    into: &mut Vec<u8>,
+) -> Result<(), AllocError>
     ensures { OnOk result (into.new.items ≡ into.old.items ++ flat_map (λ f. codes " " ++ field_text x.now f) (filter (λ f. has_field f x.now) fields.now)) }
 {
     for field in fields {

@@ -91,7 +91,13 @@ pub fn write_delivered(alloc: Global, x: &Tagged, into: &mut Vec<u8>) -> Result<
 
 /// Appends the line of a bucket's entry: `bucket NAME [VALUES] PACKET` with the query's name and the values of the
 /// label joined by `,`. Where memory runs out `into` is as before.
-pub fn write_bucket(alloc: Global, name: &[u8], label: &[u64], x: &Packet, into: &mut Vec<u8>) -> Result<(), AllocError>
+pub fn write_bucket(
+    alloc: Global,
+    name: &[u8],
+    label: &[u64],
+    x: &Packet,
+    into: &mut Vec<u8>,
+) -> Result<(), AllocError>
     ensures ok { OnOk result (into.new.items ≡ into.old.items ++ bucket_text name.now label.now x.now) }
     ensures err { OnErr result (into.new.items ≡ into.old.items) }
 {

@@ -28,7 +28,8 @@ fn has_upper_case(group: &[u8]) -> bool
 fn are_shortest(text: &[u8]) -> bool
     ensures { result ≡ list_all is_shortest (parts 58 text.now) }
 {
-    text.split(|byte| *byte == b':').all(|group| is_shortest(group))
+    text.split(|byte| *byte == b':')
+        .all(|group| is_shortest(group))
 }
 
 /// The number of an IPv6 address whose groups are lower-case digits without leading zeros.

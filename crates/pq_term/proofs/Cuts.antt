@@ -1,5 +1,5 @@
 -- The first part of a text, up to a separator.
-use Rattle.std.proofs.Common.{◌≡◌, ℕ, ◌+◌, ◌-◌, ◌<◌, Bool, true, false, cond, List, [], ◌∷◌, length, take, drop, eqb, ltb, refl, sym, ap, subst, ◌∙◌, arith}
+use Rattle.std.proofs.Common.{◌≡◌, ℕ, ◌+◌, ◌-◌, Bool, true, false, cond, List, [], ◌∷◌, length, take, drop, eqb, ltb, refl, sym, ap, subst, ◌∙◌, arith}
 use Rattle.std.specs.Prelude.{Option, Some, None, MatchOption, position}
 use Rattle.std.specs.List.{position_or_len}
 use Rattle.std.proofs.lemmas.Bool.{ltb-true, ltb-false}
@@ -16,6 +16,7 @@ first_part : (separator : ℕ) (bs : List ℕ) → FirstPart separator bs (posit
 first_part separator bs = by (ltb first (length bs)) refl where
   first : ℕ
   first = position_or_len (λ b. eqb b separator) bs
+
   by : (found : Bool) → ltb first (length bs) ≡ found → FirstPart separator bs (cond found (Some first) None)
   by true is = slice_split_first (λ b. eqb b separator) bs 0 (ltb-true _ _ is)
   by false is = slice_split_none (λ b. eqb b separator) bs (λ k d within. fails_before_first (λ b. eqb b separator) bs k d (omega (arith, within, ltb-false first (length bs) is)))

@@ -1,5 +1,5 @@
 -- Numbers that groups of digits spell.
-use Rattle.std.proofs.Common.{◌≡◌, ℕ, ◌+◌, ◌-◌, ◌*◌, ◌^◌, ◌<◌, ◌≤◌, true, List, [], ◌∷◌, length, suc, refl, sym, ap, subst, ◌∙◌, arith}
+use Rattle.std.proofs.Common.{◌≡◌, ℕ, ◌+◌, ◌-◌, ◌*◌, ◌^◌, ◌<◌, ◌≤◌, true, List, [], ◌∷◌, length, suc, refl, sym, subst, arith}
 use Rattle.std.specs.Prelude.{fold, leb, ◌==◌, ◌&&◌}
 use Rattle.std.specs.Str.{byte}
 use Rattle.std.specs.List.{list_all}
@@ -29,12 +29,12 @@ pub record IsValueBefore (weight base : ℕ) (all left : List (List ℕ)) (value
 -- no group is counted yet
 pub value_begins : (weight base : ℕ) (all : List (List ℕ)) → spell_digits weight base all ≡ true → IsValueBefore weight base all all 0
 value_begins weight base all small =
-  let none : length all - length all ≡ 0 = omega arith in record {
-  small = small;
-  within = omega arith;
-  below = subst (λ k. 0 < weight ^ k) (sym none) (omega (arith, pow-zero weight));
-  whole = refl;
-}
+    let none : length all - length all ≡ 0 = omega arith in record {
+      small = small;
+      within = omega arith;
+      below = subst (λ k. 0 < weight ^ k) (sym none) (omega (arith, pow-zero weight));
+      whole = refl;
+    }
 
 -- the next group
 value_goes_on : (weight base : ℕ) (all : List (List ℕ)) (group : List ℕ) (left : List (List ℕ)) (value : ℕ) → weight ^ length all ≤ 2 ^ 128 → IsValueBefore weight base all (group ∷ left) value →
@@ -45,13 +45,16 @@ value_goes_on weight base all group left value few before =
     let next = below_next weight (length all - suc (length left)) value (value_of base group) before.below digit in
     let one : suc (length all - suc (length left)) ≡ length all - length left = omega (arith, before.within) in
     let below : value * weight + value_of base group < weight ^ (length all - length left) = subst (λ k. value * weight + value_of base group < weight ^ k) one next in
-    let power : weight ^ (length all - length left) ≤ weight ^ length all = pow-le-pow_right (omega (arith, digit)) (omega arith) in
-    (record {
-      small = parts.1;
-      within = omega (arith, before.within);
-      below = below;
-      whole = before.whole;
-    }, digit, omega (arith, below, power, few))
+    let power : weight ^ (length all - length left) ≤ weight ^ length all = pow-le-pow_right (omega (arith, digit)) (omega arith) in (
+      record {
+        small = parts.1;
+        within = omega (arith, before.within);
+        below = below;
+        whole = before.whole;
+      },
+      digit,
+      omega (arith, below, power, few),
+    )
 
 -- the same, where the groups left are given by an equation
 pub value_steps : (weight base : ℕ) (all now : List (List ℕ)) (group : List ℕ) (left : List (List ℕ)) (value : ℕ) → weight ^ length all ≤ 2 ^ 128 → now ≡ group ∷ left → IsValueBefore weight base all now value →

@@ -152,3 +152,29 @@ fn tells_names(rt: HostRuntime) {
         assert_eq!(rt; is_name(text.as_bytes()), name, "{text}");
     }
 }
+
+#[test]
+fn reads_addresses(rt: HostRuntime) {
+    assert_eq!(rt; mac_value(b"00:1b:21:3C:9d:F8"), Some(0x001b_213c_9df8));
+    assert_eq!(rt; mac_value(b"00:1b:21:3C:9d"), None);
+    assert_eq!(rt; ipv4_value(b"192.0.2.1"), Some(0xc000_0201));
+    assert_eq!(rt; ipv4_value(b"192.0.2.1/32"), None);
+    assert_eq!(rt;
+        ipv6_value(b"2001:DB8:0:0:0:0:0:1"),
+        Some(0x2001_0db8_0000_0000_0000_0000_0000_0001)
+    );
+    assert_eq!(rt; ipv6_value(b"2001:db8:0:0:0:0:0:1/128"), None);
+}
+
+#[test]
+fn cuts_a_text(rt: HostRuntime) {
+    let text: &[u8] = b"hop 0 1";
+    let (first, behind) = cut_at(b' ', text);
+    assert_eq!(rt; first, b"hop".as_slice());
+    assert_eq!(rt; behind, Some(b"0 1".as_slice()));
+    let (all, nothing) = cut_at(b'=', text);
+    assert_eq!(rt; all, text);
+    assert_eq!(rt; nothing, None);
+    assert_eq!(rt; decimal_value(4095, b"4095"), Some(4095));
+    assert_eq!(rt; decimal_value(4095, b"4096"), None);
+}
