@@ -1,0 +1,4 @@
+pub mod Grammar
+pub mod Sentences
+pub mod Tables
+pub mod Ahead
