@@ -1,1 +1,4 @@
 pub mod Right
+pub mod Ahead
+pub mod Lives
+pub mod State

@@ -19,6 +19,10 @@ abbrev pub next_class : List Lexeme → Option Class
 next_class [] = None
 next_class (x ∷ xs) = Some x.class
 
+-- what comes next, as a number
+abbrev pub look : List Lexeme → ℕ
+look xs = ahead (next_class xs)
+
 -- the number is that of one of the classes
 abbrev pub has : List Class → ℕ → Bool
 has classes k = list_any (λ c. number c == k) classes
@@ -80,14 +84,10 @@ is_followed sort (Leave ∷ ss) = is_followed sort ss
 is_followed sort (Close ∷ ss) = is_followed sort ss
 is_followed sort (Part part ∷ ss) = implies (λ k. is_open sort k ss) (follows part) && is_followed sort ss
 
--- each part weighs less than the bound
-abbrev pub are_below : ℕ → List Symbol → Bool
-are_below bound [] = true
-are_below bound (Token role class ∷ ss) = are_below bound ss
-are_below bound (Opening role class ∷ ss) = are_below bound ss
-are_below bound (Leave ∷ ss) = are_below bound ss
-are_below bound (Close ∷ ss) = are_below bound ss
-are_below bound (Part sort ∷ ss) = nat_lt (weight sort) bound && are_below bound ss
+-- a part weighs less than the bound
+abbrev pub is_below : ℕ → Symbol → Bool
+is_below bound (Part sort) = nat_lt (weight sort) bound
+is_below bound _ = true
 
 -- the tables are right for the sort: they tell at each token which alternative is to be taken, if any, and the weights fall
 abbrev pub is_right : Sort → Bool
@@ -96,4 +96,4 @@ is_right sort =
     && list_all (is_followed sort) (alternatives sort)
     && all_below 48 (λ k. at_most_one (is_open sort k) (alternatives sort))
     && list_all (λ a. nat_lt (pending a) (weight sort)) (alternatives sort)
-    && list_any (are_below (weight sort)) (alternatives sort)
+    && list_any (list_all (is_below (weight sort))) (alternatives sort)
