@@ -1,4 +1,6 @@
 pub mod Right
-pub mod Ahead
+pub mod Choices
 pub mod Lives
 pub mod State
+pub mod Faults
+pub mod Numbers

@@ -14,7 +14,7 @@ use Rattle.pq_grammar.specs.Grammar.{alternatives}
 use Rattle.pq_grammar.specs.Sentences.{Derives}
 use Rattle.pq_grammar.specs.Tables.{weight}
 use Rattle.pq_grammar.specs.Ahead.{is_below}
-use Rattle.pq_grammar.proofs.Ahead.{light}
+use Rattle.pq_grammar.proofs.Choices.{light}
 
 -- the symbols derive something, however many brackets are open
 abbrev pub Lives : List Symbol → Type 0

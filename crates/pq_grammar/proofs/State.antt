@@ -13,23 +13,8 @@ use Rattle.pq_grammar.specs.Grammar.{alternatives}
 use Rattle.pq_grammar.specs.Sentences.{IsOneOf, Derives, Completes, tokens, AllShallow}
 use Rattle.pq_grammar.specs.Ahead.{look, has, is_open, chosen}
 use Rattle.pq_grammar.specs.Tables.{follow}
-use Rattle.pq_grammar.proofs.Ahead.{Fits, fits_part, takes, found_is_one}
-
--- the marks go on after those so far with what the symbols derive, whose tokens are these
-pub record Continues (out : List Mark) (ss : List Symbol) (depth : ℕ) (xs : List Lexeme) (ms : List Mark) : Type 0 where
-  pub steps : ℕ
-  pub more : List Mark
-  pub whole : ms ≡ out ++ more
-  pub spelled : tokens more ≡ xs
-  pub derived : Derives steps ss depth more
-
--- these marks were read, and what the symbols derive completes them to sentences, and to all those whose next token is of the class of the next one here
-pub record IsState (start : Sort) (xs : List Lexeme) (out : List Mark) (ss : List Symbol) (depth : ℕ) : Type 0 where
-  pub shallow : AllShallow out
-  pub bounded : depth ≤ 100
-  pub fits : Fits ss
-  pub forward : (n : ℕ) (ms : List Mark) → Derives n ss depth ms → Completes start (out ++ ms)
-  pub backward : (ms : List Mark) → Completes start ms → (rest : List Lexeme) → tokens ms ≡ tokens out ++ rest → look rest ≡ look xs → Continues out ss depth rest ms
+use Rattle.pq_grammar.specs.Reading.{Fits, Continues, IsState}
+use Rattle.pq_grammar.proofs.Choices.{fits_part, takes, found_is_one}
 
 -- the tokens of marks, one list after another
 pub tokens_append : (ms ns : List Mark) → tokens (ms ++ ns) ≡ tokens ms ++ tokens ns
@@ -55,8 +40,8 @@ begin start xs = record {
 
 -- a symbol is read as a token: what begins with it derives marks that begin with the token's
 pub record Reads (s : Symbol) (role : Role) (class : Class) (before after : ℕ) : Type 0 where
-  builds : (n : ℕ) (ss : List Symbol) (x : Lexeme) (ms : List Mark) → x.class ≡ class → Derives n ss after ms → Derives (suc n) (s ∷ ss) before (TokenMark role x after ∷ ms)
-  inverts : (n : ℕ) (ss : List Symbol) (ms : List Mark) → Derives n (s ∷ ss) before ms → (m : ℕ) × (x : Lexeme) × (rest : List Mark) × (ms ≡ TokenMark role x after ∷ rest) × (x.class ≡ class) × Derives m ss after rest
+  pub builds : (n : ℕ) (ss : List Symbol) (x : Lexeme) (ms : List Mark) → x.class ≡ class → Derives n ss after ms → Derives (suc n) (s ∷ ss) before (TokenMark role x after ∷ ms)
+  pub inverts : (n : ℕ) (ss : List Symbol) (ms : List Mark) → Derives n (s ∷ ss) before ms → (m : ℕ) × (x : Lexeme) × (rest : List Mark) × (ms ≡ TokenMark role x after ∷ rest) × (x.class ≡ class) × Derives m ss after rest
 
 -- a token's
 pub reads_token : (role : Role) (class : Class) (depth : ℕ) → Reads (Token role class) role class depth depth
@@ -108,3 +93,61 @@ read_step start x xs out s role class before after ss reads is low state = recor
         let front : y ∷ tokens more ≡ x ∷ rest = subst (λ ns. tokens ns ≡ x ∷ rest) is_mark c.spelled in
         let same : y ≡ x = cc in
         record { steps = n; more = more; whole = one_more out (TokenMark role x after) more ms (c.whole ∙ ap (λ ns. out ++ ns) (is_mark ∙ ap (λ z. TokenMark role z after ∷ more) same)); spelled = cc; derived = derived }
+
+-- a bracket is no longer open
+pub leave_step : (start : Sort) (xs : List Lexeme) (out : List Mark) (ss : List Symbol) (depth : ℕ) → IsState start xs out (Leave ∷ ss) depth → IsState start xs out ss (depth - 1)
+leave_step start xs out ss depth state = record {
+  shallow = state.shallow;
+  bounded = omega (arith, state.bounded);
+  fits = state.fits;
+  forward = λ n ms derived. state.forward (suc n) ms derived;
+  backward = λ ms whole rest spelled ahead. goes_on ms rest (state.backward ms whole rest spelled ahead);
+}
+  where
+    inverted : (n : ℕ) (ms : List Mark) → Derives n (Leave ∷ ss) depth ms → (m : ℕ) × Derives m ss (depth - 1) ms
+    inverted zero ms derived = absurd derived
+    inverted (suc n) ms derived = (n, derived)
+
+    goes_on : (ms : List Mark) (rest : List Lexeme) → Continues out (Leave ∷ ss) depth rest ms → Continues out ss (depth - 1) rest ms
+    goes_on ms rest c = let d = inverted c.steps c.more c.derived in record { steps = d.0; more = c.more; whole = c.whole; spelled = c.spelled; derived = d.1 }
+
+-- a tree ends
+pub close_step : (start : Sort) (xs : List Lexeme) (out : List Mark) (ss : List Symbol) (depth : ℕ) → IsState start xs out (Close ∷ ss) depth → IsState start xs (out ++ CloseMark ∷ []) ss depth
+close_step start xs out ss depth state = record {
+  shallow = shallow_append out (CloseMark ∷ []) state.shallow tt;
+  bounded = state.bounded;
+  fits = state.fits;
+  forward = λ n ms derived. subst (Completes start) (sym (append_assoc out (CloseMark ∷ []) ms)) (state.forward (suc n) (CloseMark ∷ ms) (ms, refl, derived));
+  backward = λ ms whole rest spelled ahead. goes_on ms rest (state.backward ms whole rest (spelled ∙ ap (λ ys. ys ++ rest) (tokens_append out (CloseMark ∷ []) ∙ append-nil (tokens out))) ahead);
+}
+  where
+    inverted : (n : ℕ) (ms : List Mark) → Derives n (Close ∷ ss) depth ms → (m : ℕ) × (rest : List Mark) × (ms ≡ CloseMark ∷ rest) × Derives m ss depth rest
+    inverted zero ms derived = absurd derived
+    inverted (suc n) ms (rest, is, derived) = (n, rest, is, derived)
+
+    goes_on : (ms : List Mark) (rest : List Lexeme) → Continues out (Close ∷ ss) depth rest ms → Continues (out ++ CloseMark ∷ []) ss depth rest ms
+    goes_on ms rest c =
+        let (n, more, is, derived) = inverted c.steps c.more c.derived in
+        record { steps = n; more = more; whole = one_more out CloseMark more ms (c.whole ∙ ap (λ ns. out ++ ns) is); spelled = subst (λ ns. tokens ns ≡ rest) is c.spelled; derived = derived }
+
+-- an alternative stands for its sort
+pub part_step : (start : Sort) (xs : List Lexeme) (out : List Mark) (sort : Sort) (a ss : List Symbol) (depth : ℕ) → chosen sort (look xs) ≡ Some a → IsState start xs out (Part sort ∷ ss) depth → IsState start xs out (a ++ ss) depth
+part_step start xs out sort a ss depth found state = record {
+  shallow = state.shallow;
+  bounded = state.bounded;
+  fits = fits_part sort a ss among state.fits;
+  forward = λ n ms derived. state.forward (suc n) ms (a, among, derived);
+  backward = λ ms whole rest spelled ahead. goes_on ms rest ahead (state.backward ms whole rest spelled ahead);
+}
+  where
+    among : IsOneOf a (alternatives sort)
+    among = found_is_one (is_open sort (look xs)) a (alternatives sort) found
+
+    taken : (n : ℕ) (ms : List Mark) → look (tokens ms) ≡ look xs → Derives n (Part sort ∷ ss) depth ms → (m : ℕ) × Derives m (a ++ ss) depth ms
+    taken zero ms ahead derived = absurd derived
+    taken (suc n) ms ahead (b, among, derived) = (n, subst (λ c. Derives n (c ++ ss) depth ms) (takes n sort a b ss depth ms state.fits (ap (chosen sort) ahead ∙ found) among derived) derived)
+
+    goes_on : (ms : List Mark) (rest : List Lexeme) → look rest ≡ look xs → Continues out (Part sort ∷ ss) depth rest ms → Continues out (a ++ ss) depth rest ms
+    goes_on ms rest ahead c =
+        let d = taken c.steps c.more (ap look c.spelled ∙ ahead) c.derived in
+        record { steps = d.0; more = c.more; whole = c.whole; spelled = c.spelled; derived = d.1 }

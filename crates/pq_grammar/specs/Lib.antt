@@ -2,3 +2,4 @@ pub mod Grammar
 pub mod Sentences
 pub mod Tables
 pub mod Ahead
+pub mod Reading

@@ -1,15 +1,20 @@
 //! The grammar of documents and of edits, and the parser of their tokens.
 #![tactic(auto)]
 
+mod ahead;
 mod class;
+mod fault;
 mod grammar;
 mod mark;
+mod parser;
 mod sort;
 mod symbol;
 mod tables;
 
 pub use class::Class;
+pub use fault::SentenceFault;
 pub use grammar::alternatives;
+pub use parser::read_marks;
 pub use mark::{Lexeme, Mark};
 pub use sort::Sort;
 pub use symbol::{Role, Symbol};

@@ -14,6 +14,7 @@ use Rattle.pq_grammar.specs.Grammar.{alternatives}
 use Rattle.pq_grammar.specs.Sentences.{IsOneOf, Derives, tokens}
 use Rattle.pq_grammar.specs.Tables.{number, may_be_empty, first, follow, weight}
 use Rattle.pq_grammar.specs.Ahead.{ahead, next_class, look, has, follows, may_begin, is_open, chosen, pending, all_below, implies, at_most_one, is_first, is_followed, is_below, is_right}
+use Rattle.pq_grammar.specs.Reading.{can, Fits}
 use Rattle.pq_grammar.proofs.Right.{right}
 
 -- a test that passes below a bound passes at each number below it
@@ -130,10 +131,6 @@ first_covers sort a k true among below is =
     let parts = and_parts (implies (may_begin false a) (may_begin false (Part sort ∷ []))) (implies (may_begin true a) (may_begin true (Part sort ∷ []))) (all_at (is_first sort) a (alternatives sort) (told sort).begins among) in
     implies_at (may_begin true a) (may_begin true (Part sort ∷ [])) k parts.1 below is
 
--- the symbols may stand before what comes next, and before nothing else
-abbrev pub can : List Symbol → ℕ → Bool
-can ss k = may_begin (k == 47) ss k
-
 -- what is derived begins with what may come next
 pub begins : (n : ℕ) (ss : List Symbol) (depth : ℕ) (ms : List Mark) → Derives n ss depth ms → can ss (look (tokens ms)) ≡ true
 begins n [] depth ms is = subst (λ ns. can [] (look (tokens ns)) ≡ true) (sym is) refl
@@ -145,15 +142,6 @@ begins (suc n) (Close ∷ ss) depth ms (rest, is, derived) = subst (λ ns. can s
 begins (suc n) (Part sort ∷ ss) depth ms (a, among, derived) =
     let k = look (tokens ms) in
     first_covers sort a k (can ss k) among (ahead_below (next_class (tokens ms))) (subst (λ b. b ≡ true) (begin_append (k == 47) a ss k) (begins n (a ++ ss) depth ms derived))
-
--- what follows each phrase among the symbols may follow it
-abbrev pub Fits : List Symbol → Type 0
-Fits [] = Unit {0}
-Fits (Token role class ∷ ss) = Fits ss
-Fits (Opening role class ∷ ss) = Fits ss
-Fits (Leave ∷ ss) = Fits ss
-Fits (Close ∷ ss) = Fits ss
-Fits (Part sort ∷ ss) = ((k : ℕ) → k < 48 → can ss k ≡ true → follows sort k ≡ true) × Fits ss
 
 -- so it does where an alternative stands for its sort
 fits_append : (sort : Sort) (a rest : List Symbol) → is_followed sort a ≡ true → ((k : ℕ) → k < 48 → can rest k ≡ true → follows sort k ≡ true) → Fits rest → Fits (a ++ rest)
