@@ -116,10 +116,10 @@ begin_more b c (Close ∷ ss) k more is = begin_more b c ss k more is
 begin_more b c (Part sort ∷ ss) k more is =
     let more_may = may_be_empty sort && may_begin c ss k in
     elim (or_cases (has (first sort) k) (may_be_empty sort && may_begin b ss k) is) [
-      inl here ↦ or_left (has (first sort) k) more_may here
-    | inr later ↦
-        let parts = and_parts (may_be_empty sort) (may_begin b ss k) later in
-        or_right (has (first sort) k) more_may (and_from (may_be_empty sort) (may_begin c ss k) parts.0 (begin_more b c ss k more parts.1))
+      | inl here ↦ or_left (has (first sort) k) more_may here
+      | inr later ↦
+          let parts = and_parts (may_be_empty sort) (may_begin b ss k) later in
+          or_right (has (first sort) k) more_may (and_from (may_be_empty sort) (may_begin c ss k) parts.0 (begin_more b c ss k more parts.1))
     ]
 
 -- an alternative begins with what its sort may begin with
@@ -178,9 +178,9 @@ takes_none n sort b ss depth ms fits found among derived = none_passes (is_open 
 some_alternative : (test : List Symbol → Bool) (bs : List (List Symbol)) → list_any test bs ≡ true → (a : List Symbol) × IsOneOf a bs × (test a ≡ true)
 some_alternative test [] any = cc
 some_alternative test (b ∷ bs) any = elim (or_cases (test b) (list_any test bs) any) [
-      inl here ↦ (b, inl refl, here)
-    | inr later ↦ let rest = some_alternative test bs later in (rest.0, inr rest.1, rest.2)
-    ]
+  | inl here ↦ (b, inl refl, here)
+  | inr later ↦ let rest = some_alternative test bs later in (rest.0, inr rest.1, rest.2)
+]
 
 -- of each sort
 pub light : (sort : Sort) → (a : List Symbol) × IsOneOf a (alternatives sort) × (list_all (is_below (weight sort)) a ≡ true)

@@ -37,8 +37,8 @@ good_at start xs place out ss depth at =
 longer : (start : Sort) (xs : List Lexeme) (place : ℕ) (out : List Mark) (ss : List Symbol) (depth : ℕ) (x : Lexeme) → IsPlace start xs place out ss depth → IsNext xs place x → (p : IsPrefix start (take (place + 1) xs)) → Continues out ss depth (x ∷ tokens p.after) (p.before ++ p.after)
 longer start xs place out ss depth x at next p =
     at.state.backward (p.before ++ p.after) p.derived (x ∷ tokens p.after)
-      (tokens_append p.before p.after ∙ ap (λ ys. ys ++ tokens p.after) (p.spelled ∙ next.read ∙ ap (λ ys. ys ++ x ∷ []) (sym at.spelled)) ∙ append_assoc (tokens out) (x ∷ []) (tokens p.after))
-      (ap look (sym next.rest))
+    (tokens_append p.before p.after ∙ ap (λ ys. ys ++ tokens p.after) (p.spelled ∙ next.read ∙ ap (λ ys. ys ++ x ∷ []) (sym at.spelled)) ∙ append_assoc (tokens out) (x ∷ []) (tokens p.after))
+    (ap look (sym next.rest))
 
 -- a sentence goes on with nothing
 whole_goes_on : (start : Sort) (xs : List Lexeme) (place : ℕ) (out : List Mark) (ss : List Symbol) (depth : ℕ) (ms : List Mark) → IsPlace start xs place out ss depth → place ≡ length xs → IsSentence start xs ms → Continues out ss depth [] ms

@@ -4,3 +4,4 @@ pub mod Lives
 pub mod State
 pub mod Faults
 pub mod Numbers
+pub mod Steps

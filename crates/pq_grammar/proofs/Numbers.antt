@@ -16,7 +16,7 @@ class_at SwitchWord = refl
 class_at _ = refl
 
 -- classes of one number are one
-numbers_tell : (a b : Class) → number a ≡ number b → a ≡ b
+pub numbers_tell : (a b : Class) → number a ≡ number b → a ≡ b
 numbers_tell a b same = sym (class_at a) ∙ ap (λ n. get_or classes n Name) same ∙ class_at b
 
 -- one class, one number; and otherwise two

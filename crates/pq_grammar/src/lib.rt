@@ -14,7 +14,7 @@ mod tables;
 pub use class::Class;
 pub use fault::SentenceFault;
 pub use grammar::alternatives;
-pub use parser::read_marks;
 pub use mark::{Lexeme, Mark};
+pub use parser::read_marks;
 pub use sort::Sort;
 pub use symbol::{Role, Symbol};

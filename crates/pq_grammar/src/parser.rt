@@ -40,11 +40,12 @@ pub(crate) struct Expected {
 }
 
 /// Pushes the symbols, the first one last.
-fn push_reversed(stack: &mut Vec<Symbol>, symbols: &[Symbol]) -> Result<(), AllocError>
-    ensures { OnOk result (stack.new.items ≡ stack.old.items ++ reverse symbols.now) }
+fn push_reversed(stack: &mut Vec<Symbol>, symbols: &[Symbol]) -> Result<(), SentenceFault>
+    ensures err { IfErr result (λ e. e ≡ SentenceFault.Memory) }
+    ensures items { OnOk result (stack.new.items ≡ stack.old.items ++ reverse symbols.now) }
 {
     for symbol in symbols.iter().rev() {
-        stack.push(*symbol)?;
+        stack.push(*symbol).map_err(|_| SentenceFault::Memory)?;
     }
     Ok(())
 }
@@ -87,25 +88,40 @@ impl Parser {
         let Some(alternative) = chosen(sort, self.next_class(lexemes)) else {
             return Err(SentenceFault::Syntax { index: self.at });
         };
-        push_reversed(&mut self.stack, alternative).map_err(|_| SentenceFault::Memory)
+        push_reversed(&mut self.stack, alternative)?;
+        Ok(())
     }
 
     /// Works off a symbol that was taken off the stack. Where it is read as a token, that is the one that is expected,
     /// and nothing is done.
-    fn pass(&mut self, lexemes: &[Lexeme], symbol: Symbol) -> Result<Option<Expected>, SentenceFault>
+    fn pass(
+        &mut self,
+        lexemes: &[Lexeme],
+        symbol: Symbol,
+    ) -> Result<Option<Expected>, SentenceFault>
         requires { IsAt lexemes.now self.old (symbol ∷ reverse self.old.stack.items) }
         ensures place { IfOk result (λ e. HasPassed lexemes.now symbol self.old self.new e) }
         ensures err { IfErr result (IsCause self.old.start lexemes.now) }
     {
         match symbol {
-            Symbol::Token(role, class) => Ok(Some(Expected { role, class, depth: self.depth })),
-            Symbol::Opening(role, class) => Ok(Some(Expected { role, class, depth: self.depth + 1 })),
+            Symbol::Token(role, class) => Ok(Some(Expected {
+                role,
+                class,
+                depth: self.depth,
+            })),
+            Symbol::Opening(role, class) => Ok(Some(Expected {
+                role,
+                class,
+                depth: self.depth + 1,
+            })),
             Symbol::Leave => {
                 self.depth = self.depth.saturating_sub(1);
                 Ok(None)
             }
             Symbol::Close => {
-                self.marks.push(Mark::Close).map_err(|_| SentenceFault::Memory)?;
+                self.marks
+                    .push(Mark::Close)
+                    .map_err(|_| SentenceFault::Memory)?;
                 Ok(None)
             }
             Symbol::Part(sort) => {
@@ -158,7 +174,11 @@ impl Parser {
 /// `Syntax` comes exactly where the tokens are no sentence, with their first fault. At most 100 of `(`, `[`, `not` and
 /// `~` are open at once; whether tokens are a prefix of a sentence is judged by the grammar without this limit, except
 /// that no prefix ends with the token that would be the 101st.
-pub fn read_marks(alloc: Global, start: Sort, lexemes: &[Lexeme]) -> Result<Vec<Mark>, SentenceFault>
+pub fn read_marks(
+    alloc: Global,
+    start: Sort,
+    lexemes: &[Lexeme],
+) -> Result<Vec<Mark>, SentenceFault>
     ensures ok { IfOk result (λ ms. IsSentence start lexemes.now ms.items) }
     ensures only { IfOk result (λ ms. (others : List Mark) → IsSentence start lexemes.now others → others ≡ ms.items) }
     ensures err { IfErr result (IsCause start lexemes.now) }
