@@ -3,3 +3,4 @@ pub mod Sentences
 pub mod Tables
 pub mod Ahead
 pub mod Reading
+pub mod Classes

@@ -3,6 +3,7 @@
 
 mod ahead;
 mod class;
+mod classes;
 mod fault;
 mod grammar;
 mod mark;
@@ -12,6 +13,7 @@ mod symbol;
 mod tables;
 
 pub use class::Class;
+pub use classes::{class_of, lexemes_of};
 pub use fault::SentenceFault;
 pub use grammar::alternatives;
 pub use mark::{Lexeme, Mark};
