@@ -143,6 +143,10 @@ begins (suc n) (Part sort ∷ ss) depth ms (a, among, derived) =
     let k = look (tokens ms) in
     first_covers sort a k (can ss k) among (ahead_below (next_class (tokens ms))) (subst (λ b. b ≡ true) (begin_append (k == 47) a ss k) (begins n (a ++ ss) depth ms derived))
 
+-- the end may follow each phrase
+pub fits_alone : (sort : Sort) → Fits (Part sort ∷ [])
+fits_alone sort = ((λ k below may. or_left (k == 47) (has (follow sort) k) may), tt)
+
 -- so it does where an alternative stands for its sort
 fits_append : (sort : Sort) (a rest : List Symbol) → is_followed sort a ≡ true → ((k : ℕ) → k < 48 → can rest k ≡ true → follows sort k ≡ true) → Fits rest → Fits (a ++ rest)
 fits_append sort [] rest all after fits = fits
@@ -173,6 +177,14 @@ takes n sort a b ss depth ms fits found among derived =
 -- where no alternative was chosen, there is no derivation
 pub takes_none : (n : ℕ) (sort : Sort) (b ss : List Symbol) (depth : ℕ) (ms : List Mark) → Fits (Part sort ∷ ss) → chosen sort (look (tokens ms)) ≡ None → IsOneOf b (alternatives sort) → Derives n (b ++ ss) depth ms → ⊥
 takes_none n sort b ss depth ms fits found among derived = none_passes (is_open sort (look (tokens ms))) b (alternatives sort) found among (opens n sort b ss depth ms fits derived)
+
+-- two derivations before which the same comes next take the same alternative
+pub same_taken : (n m : ℕ) (sort : Sort) (a b ss : List Symbol) (depth : ℕ) (ms ns : List Mark) → Fits (Part sort ∷ ss) → look (tokens ns) ≡ look (tokens ms) → IsOneOf a (alternatives sort) → IsOneOf b (alternatives sort) → Derives n (a ++ ss) depth ms → Derives m (b ++ ss) depth ns → b ≡ a
+same_taken n m sort a b ss depth ms ns fits same first second left right = by (chosen sort (look (tokens ms))) refl
+  where
+    by : (o : Option (List Symbol)) → chosen sort (look (tokens ms)) ≡ o → b ≡ a
+    by None is = absurd (takes_none n sort a ss depth ms fits is first left)
+    by (Some c) is = takes m sort c b ss depth ns fits (ap (chosen sort) same ∙ is) second right ∙ sym (takes n sort c a ss depth ms fits is first left)
 
 -- some alternative of light parts there is
 some_alternative : (test : List Symbol → Bool) (bs : List (List Symbol)) → list_any test bs ≡ true → (a : List Symbol) × IsOneOf a bs × (test a ≡ true)

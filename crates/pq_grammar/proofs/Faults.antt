@@ -114,9 +114,3 @@ finished start xs place out depth at end = record {
   spelled = at.spelled ∙ take_all place xs end;
   shallow = at.state.shallow;
 }
-
--- the only one with these tokens
-pub only : (start : Sort) (xs : List Lexeme) (place : ℕ) (out : List Mark) (depth : ℕ) → IsPlace start xs place out [] depth → length xs ≤ place → (ms : List Mark) → IsSentence start xs ms → ms ≡ out
-only start xs place out depth at end ms sentence =
-    let c = whole_goes_on start xs place out [] depth ms at (omega (arith, at.within, end)) sentence in
-    c.whole ∙ ap (λ ns. out ++ ns) c.derived ∙ append-nil out

@@ -5,3 +5,4 @@ pub mod State
 pub mod Faults
 pub mod Numbers
 pub mod Steps
+pub mod OneTree

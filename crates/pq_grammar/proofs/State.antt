@@ -1,6 +1,5 @@
 -- A place in the reading of a sentence, and the steps from one to the next.
 use Rattle.std.proofs.Common.{◌≡◌, ℕ, zero, suc, ◌+◌, ◌-◌, ◌<◌, ◌≤◌, ◌==◌, Bool, true, List, [], ◌∷◌, ◌++◌, Option, Some, None, refl, sym, ◌∙◌, ap, subst, inl, inr, append-nil, append_assoc, arith}
-use Rattle.std.proofs.lemmas.Bool.{or_left}
 use Rattle.pq_grammar.specs.declared.class.Class.{Class}
 use Rattle.pq_grammar.specs.declared.sort.Sort.{Sort}
 use Rattle.pq_grammar.specs.declared.symbol.Role.{Role}
@@ -11,10 +10,9 @@ use Rattle.pq_grammar.specs.declared.mark.Mark.{Mark}
 use Rattle.pq_grammar.specs.declared.mark.Mark.TheVariants.{Token as TokenMark, Close as CloseMark}
 use Rattle.pq_grammar.specs.Grammar.{alternatives}
 use Rattle.pq_grammar.specs.Sentences.{IsOneOf, Derives, Completes, tokens, AllShallow}
-use Rattle.pq_grammar.specs.Ahead.{look, has, is_open, chosen}
-use Rattle.pq_grammar.specs.Tables.{follow}
+use Rattle.pq_grammar.specs.Ahead.{look, is_open, chosen}
 use Rattle.pq_grammar.specs.Reading.{Fits, Continues, IsState}
-use Rattle.pq_grammar.proofs.Choices.{fits_part, takes, found_is_one}
+use Rattle.pq_grammar.proofs.Choices.{fits_alone, fits_part, takes, found_is_one}
 
 -- the tokens of marks, one list after another
 pub tokens_append : (ms ns : List Mark) → tokens (ms ++ ns) ≡ tokens ms ++ tokens ns
@@ -33,7 +31,7 @@ pub begin : (start : Sort) (xs : List Lexeme) → IsState start xs [] (Part star
 begin start xs = record {
   shallow = tt;
   bounded = omega arith;
-  fits = ((λ k below may. or_left (k == 47) (has (follow start) k) may), tt);
+  fits = fits_alone start;
   forward = λ n ms derived. (n, derived);
   backward = λ ms whole rest spelled ahead. record { steps = whole.0; more = ms; whole = refl; spelled = spelled; derived = whole.1 };
 }

@@ -24,7 +24,7 @@ use Rattle.pq_grammar.proofs.Choices.{found_is_one, pending_falls}
 use Rattle.pq_grammar.proofs.Lives.{some_lexeme}
 use Rattle.pq_grammar.proofs.Numbers.{numbers_tell, no_class}
 use Rattle.pq_grammar.proofs.State.{begin, Reads, reads_token, reads_opening, read_step, leave_step, close_step, part_step, tokens_append}
-use Rattle.pq_grammar.proofs.Faults.{IsNext, stuck, cannot, IsStuck, none_chosen, too_deep, finished, only}
+use Rattle.pq_grammar.proofs.Faults.{IsNext, stuck, cannot, IsStuck, none_chosen, too_deep, finished}
 
 -- the beginning
 pub begins_place : (start : Sort) (xs : List Lexeme) (out : List Mark) (stack : List Symbol) → out ≡ [] → stack ≡ Part start ∷ [] → IsPlace start xs 0 out (reverse stack) 0
@@ -136,10 +136,6 @@ is_end xs start old new e none is expected =
 -- the marks are a sentence there, if all tokens were read
 pub ends_sentence : (xs : List Lexeme) (start : Sort) (old new : Parser) (e : Option Expected) → e ≡ None → old.start ≡ start → IsExpected xs old new e → length xs ≤ new.at → IsSentence start xs new.marks.items
 ends_sentence xs start old new e none is expected all = finished start xs new.at new.marks.items new.depth (is_end xs start old new e none is expected).place all
-
--- the only one
-pub ends_only : (xs : List Lexeme) (start : Sort) (old new : Parser) (e : Option Expected) → e ≡ None → old.start ≡ start → IsExpected xs old new e → length xs ≤ new.at → (ms : List Mark) → IsSentence start xs ms → ms ≡ new.marks.items
-ends_only xs start old new e none is expected all = only start xs new.at new.marks.items new.depth (is_end xs start old new e none is expected).place all
 
 -- and there is the first fault otherwise
 pub ends_early : (xs : List Lexeme) (start : Sort) (old new : Parser) (e : Option Expected) → e ≡ None → old.start ≡ start → IsExpected xs old new e → new.at < length xs → IsFirstFault start xs new.at

@@ -17,6 +17,9 @@ pub use classes::{class_of, lexemes_of};
 pub use fault::SentenceFault;
 pub use grammar::alternatives;
 pub use mark::{Lexeme, Mark};
-pub use parser::read_marks;
+pub use parser::{has_one_tree, read_marks};
 pub use sort::Sort;
 pub use symbol::{Role, Symbol};
+
+#[cfg(test)]
+mod tests;

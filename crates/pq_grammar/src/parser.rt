@@ -169,7 +169,7 @@ impl Parser {
     }
 }
 
-/// The tokens as a sentence of the start sort, with its tree: the only list of marks that is one with these tokens.
+/// The tokens as a sentence of the start sort, with its tree.
 ///
 /// `Syntax` comes exactly where the tokens are no sentence, with their first fault. At most 100 of `(`, `[`, `not` and
 /// `~` are open at once; whether tokens are a prefix of a sentence is judged by the grammar without this limit, except
@@ -180,7 +180,6 @@ pub fn read_marks(
     lexemes: &[Lexeme],
 ) -> Result<Vec<Mark>, SentenceFault>
     ensures ok { IfOk result (λ ms. IsSentence start lexemes.now ms.items) }
-    ensures only { IfOk result (λ ms. (others : List Mark) → IsSentence start lexemes.now others → others ≡ ms.items) }
     ensures err { IfErr result (IsCause start lexemes.now) }
 {
     let mut parser = Parser::begin(alloc, start).map_err(|_| SentenceFault::Memory)?;
@@ -192,3 +191,8 @@ pub fn read_marks(
     }
     Ok(parser.marks)
 }
+
+/// A sentence has one tree: two lists of marks that are a sentence of the start sort with the same tokens are one list.
+pub fn has_one_tree()
+    ensures { (start : Sort) (xs : List Lexeme) (ms ns : List Mark) → IsSentence start xs ms → IsSentence start xs ns → ms ≡ ns }
+{}
