@@ -8,12 +8,11 @@ use Rattle.pq_grammar.specs.declared.class.Class.TheVariants.{SwitchWord}
 use Rattle.pq_grammar.specs.declared.sort.Sort.{Sort}
 use Rattle.pq_grammar.specs.declared.symbol.Symbol.{Symbol}
 use Rattle.pq_grammar.specs.declared.symbol.Symbol.TheVariants.{Token, Opening, Leave, Close, Part}
-use Rattle.pq_grammar.specs.declared.mark.Lexeme.{Lexeme}
 use Rattle.pq_grammar.specs.declared.mark.Mark.{Mark}
 use Rattle.pq_grammar.specs.Grammar.{alternatives}
 use Rattle.pq_grammar.specs.Sentences.{IsOneOf, Derives, tokens}
 use Rattle.pq_grammar.specs.Tables.{number, may_be_empty, first, follow, weight}
-use Rattle.pq_grammar.specs.Ahead.{ahead, next_class, look, has, follows, may_begin, is_open, chosen, pending, all_below, implies, at_most_one, is_first, is_followed, is_below, is_right}
+use Rattle.pq_grammar.specs.Ahead.{ahead, next_class, look, has, follows, may_begin, is_open, chosen, pending, all_below, implies, at_most_one, is_first, is_followed, is_below}
 use Rattle.pq_grammar.specs.Reading.{can, Fits}
 use Rattle.pq_grammar.proofs.Right.{right}
 

@@ -1,22 +1,21 @@
 -- Where the reading of a sentence ends: at its first fault, or at its end.
-use Rattle.std.proofs.Common.{◌≡◌, ℕ, zero, suc, ◌+◌, ◌-◌, ◌<◌, ◌≤◌, ◌==◌, Bool, true, List, [], ◌∷◌, ◌++◌, Option, Some, None, length, take, drop, get_or, refl, sym, ◌∙◌, ap, subst, append-nil, append_assoc, eqb-true, arith}
-use Rattle.std.proofs.lemmas.List.{drop_more, take_more, drop_all, take_all, length-take-le}
+use Rattle.std.proofs.Common.{◌≡◌, ℕ, zero, suc, ◌+◌, ◌<◌, ◌≤◌, true, List, [], ◌∷◌, ◌++◌, None, length, take, drop, get_or, refl, sym, ◌∙◌, ap, subst, append-nil, append_assoc, arith}
+use Rattle.std.proofs.lemmas.List.{drop_more, take_more, drop_all, take_all}
 use Rattle.pq_grammar.specs.declared.class.Class.{Class}
 use Rattle.pq_grammar.specs.declared.class.Class.TheVariants.{Name}
 use Rattle.pq_grammar.specs.declared.sort.Sort.{Sort}
 use Rattle.pq_grammar.specs.declared.symbol.Role.{Role}
 use Rattle.pq_grammar.specs.declared.symbol.Symbol.{Symbol}
-use Rattle.pq_grammar.specs.declared.symbol.Symbol.TheVariants.{Token, Opening, Leave, Close, Part}
+use Rattle.pq_grammar.specs.declared.symbol.Symbol.TheVariants.{Opening, Part}
 use Rattle.pq_grammar.specs.declared.mark.Lexeme.{Lexeme}
 use Rattle.pq_grammar.specs.declared.mark.Mark.{Mark}
 use Rattle.pq_grammar.specs.declared.mark.Mark.TheVariants.{Token as TokenMark, Close as CloseMark}
-use Rattle.pq_grammar.specs.Sentences.{Derives, Completes, tokens, AllShallow, IsSentence, IsPrefix, IsFirstFault, IsOneOf}
-use Rattle.pq_grammar.specs.Grammar.{alternatives}
+use Rattle.pq_grammar.specs.Sentences.{Derives, Completes, tokens, AllShallow, IsSentence, IsPrefix, IsFirstFault}
 use Rattle.pq_grammar.specs.Ahead.{look, chosen}
 use Rattle.pq_grammar.specs.Reading.{can, Continues, IsState, IsPlace}
 use Rattle.pq_grammar.proofs.Choices.{begins, takes_none}
 use Rattle.pq_grammar.proofs.Lives.{lives, some_lexeme}
-use Rattle.pq_grammar.proofs.State.{tokens_append, Reads, reads_opening}
+use Rattle.pq_grammar.proofs.State.{tokens_append, reads_opening}
 
 -- the token at a place
 pub record IsNext (xs : List Lexeme) (place : ℕ) (x : Lexeme) : Type 0 where

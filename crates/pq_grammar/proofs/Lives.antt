@@ -1,5 +1,5 @@
 -- Each list of symbols derives something.
-use Rattle.std.proofs.Common.{◌≡◌, ℕ, zero, suc, ◌+◌, ◌-◌, ◌<◌, ◌≤◌, Bool, true, List, [], ◌∷◌, ◌++◌, refl, ltb-true, lt-ltb, arith}
+use Rattle.std.proofs.Common.{◌≡◌, ℕ, zero, suc, ◌+◌, ◌-◌, ◌<◌, true, List, [], ◌∷◌, ◌++◌, refl, ltb-true, arith}
 use Rattle.std.specs.List.{list_all}
 use Rattle.std.proofs.lemmas.Bool.{and_parts}
 use Rattle.pq_term.specs.declared.token.Kind.TheVariants.{Word}
@@ -10,7 +10,6 @@ use Rattle.pq_grammar.specs.declared.symbol.Symbol.TheVariants.{Token, Opening, 
 use Rattle.pq_grammar.specs.declared.mark.Lexeme.{Lexeme}
 use Rattle.pq_grammar.specs.declared.mark.Mark.{Mark}
 use Rattle.pq_grammar.specs.declared.mark.Mark.TheVariants.{Token as TokenMark, Close as CloseMark}
-use Rattle.pq_grammar.specs.Grammar.{alternatives}
 use Rattle.pq_grammar.specs.Sentences.{Derives}
 use Rattle.pq_grammar.specs.Tables.{weight}
 use Rattle.pq_grammar.specs.Ahead.{is_below}

@@ -1,13 +1,10 @@
 -- The parser's steps, from place to place.
-use Rattle.std.proofs.Common.{◌≡◌, ◌==◌, ◌+◌, ℕ, ◌-◌, ◌<◌, ◌≤◌, zero, suc, List, [], ◌∷◌, ◌++◌, Option, Some, None, length, take, drop, reverse, get_or, refl, sym, ◌∙◌, ap, subst, append-nil, arith, Bor}
-use Rattle.std.specs.Option.{option_map, is_some}
+use Rattle.std.proofs.Common.{◌≡◌, ◌==◌, ◌+◌, ℕ, ◌-◌, ◌<◌, ◌≤◌, List, [], ◌∷◌, ◌++◌, Option, Some, None, length, take, drop, reverse, get_or, refl, sym, ◌∙◌, ap, subst, append-nil, arith, Bor}
 use Rattle.std.specs.Slice.{IsItemAt}
 use Rattle.std.proofs.lemmas.Bool.{eqb-false, eqb-true}
 use Rattle.std.proofs.lemmas.List.{reverse-append, reverse-reverse, drop_all, take_more, drop_more}
-use Rattle.pq_grammar.specs.declared.class.Class.{Class}
 use Rattle.pq_grammar.specs.declared.class.Class.TheVariants.{Name}
 use Rattle.pq_grammar.specs.declared.sort.Sort.{Sort}
-use Rattle.pq_grammar.specs.declared.symbol.Role.{Role}
 use Rattle.pq_grammar.specs.declared.symbol.Symbol.{Symbol}
 use Rattle.pq_grammar.specs.declared.symbol.Symbol.TheVariants.{Token, Opening, Leave, Close, Part}
 use Rattle.pq_grammar.specs.declared.mark.Lexeme.{Lexeme}
@@ -16,9 +13,9 @@ use Rattle.pq_grammar.specs.declared.mark.Mark.TheVariants.{Token as TokenMark, 
 use Rattle.pq_grammar.specs.declared.parser.Expected.{Expected}
 use Rattle.pq_grammar.specs.declared.parser.Parser.{Parser}
 use Rattle.pq_grammar.specs.Grammar.{alternatives}
-use Rattle.pq_grammar.specs.Sentences.{Derives, tokens, IsFirstFault, IsSentence}
+use Rattle.pq_grammar.specs.Sentences.{tokens, IsFirstFault, IsSentence}
 use Rattle.pq_grammar.specs.Tables.{number, weight}
-use Rattle.pq_grammar.specs.Ahead.{look, next_class, ahead, chosen, is_open, pending}
+use Rattle.pq_grammar.specs.Ahead.{look, chosen, is_open, pending}
 use Rattle.pq_grammar.specs.Reading.{IsPlace, IsState, Expects, IsExpected}
 use Rattle.pq_grammar.proofs.Choices.{found_is_one, pending_falls}
 use Rattle.pq_grammar.proofs.Lives.{some_lexeme}

@@ -1,8 +1,6 @@
 -- The sentences of the grammar, with their trees, and the first fault of tokens that are none.
 use Rattle.std.specs.Prelude.{◌≡◌, ℕ, zero, suc, ◌+◌, ◌-◌, ◌<◌, ◌≤◌, ◌⊎◌, List, [], ◌∷◌, ◌++◌, length, take}
-use Rattle.pq_grammar.specs.declared.class.Class.{Class}
 use Rattle.pq_grammar.specs.declared.sort.Sort.{Sort}
-use Rattle.pq_grammar.specs.declared.symbol.Role.{Role}
 use Rattle.pq_grammar.specs.declared.symbol.Symbol.{Symbol}
 use Rattle.pq_grammar.specs.declared.symbol.Symbol.TheVariants.{Token, Opening, Leave, Close, Part}
 use Rattle.pq_grammar.specs.declared.mark.Lexeme.{Lexeme}
