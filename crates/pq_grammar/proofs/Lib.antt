@@ -6,3 +6,4 @@ pub mod Faults
 pub mod Numbers
 pub mod Steps
 pub mod OneTree
+pub mod Classified

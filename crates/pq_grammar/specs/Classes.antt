@@ -38,3 +38,26 @@ class_of bytes t = class_of_text t.kind (text_of bytes t)
 -- a token of the text with its class
 abbrev pub lexeme_of : List ℕ → Token → Lexeme
 lexeme_of bytes t = record { class = class_of bytes t; token = t }
+
+-- the kind of the tokens of a class
+abbrev pub kind_of : Class → Kind
+kind_of Number = NumberKind
+kind_of Mac = MacKind
+kind_of Ipv4 = Ipv4Kind
+kind_of Ipv4Prefix = Ipv4PrefixKind
+kind_of Ipv6 = Ipv6Kind
+kind_of Equals = Symbol
+kind_of Semicolon = Symbol
+kind_of Comma = Symbol
+kind_of Left = Symbol
+kind_of Right = Symbol
+kind_of LeftBracket = Symbol
+kind_of RightBracket = Symbol
+kind_of Plus = Symbol
+kind_of Then = Symbol
+kind_of Caret = Symbol
+kind_of Bar = Symbol
+kind_of Ampersand = Symbol
+kind_of Tilde = Symbol
+kind_of Star = Symbol
+kind_of _ = Word

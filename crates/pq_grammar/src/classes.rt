@@ -3,7 +3,7 @@ ghost use Rattle.std.specs.Prelude.{◌≡◌, ◌+◌, ◌≤◌, ◌↔◌, Al
 ghost use Rattle.pq_term.specs.Tokens.{text_of};
 ghost use Rattle.pq_term.specs.Division.{LiesWithin};
 ghost use Rattle.pq_term.specs.Names.{is_reserved};
-ghost use Rattle.pq_grammar.specs.Classes.{class_in, class_of_text, class_of, lexeme_of};
+ghost use Rattle.pq_grammar.specs.Classes.{class_in, class_of_text, class_of, kind_of, lexeme_of};
 
 use crate::class::Class;
 use crate::mark::Lexeme;
@@ -86,10 +86,14 @@ fn class_of_text(kind: Kind, text: &[u8]) -> Class
     }
 }
 
-/// The class of a token of the text: which reserved word or symbol it is, or else its kind.
+/// The class of a token of the text: which reserved word or symbol it is, or else its kind. A word is a name where it is
+/// not reserved.
+#[tactic(auto, using(crate::proofs::Classified::has_kind))]
 pub fn class_of(bytes: &[u8], token: &Token) -> Class
     requires { token.now.at + token.now.len ≤ length bytes.now }
-    ensures { result ≡ class_of bytes.now token.now }
+    ensures value { result ≡ class_of bytes.now token.now }
+    ensures kind { kind_of result ≡ token.now.kind }
+    ensures name { token.now.kind ≡ Kind.Word → ((result ≡ Class.Name) ↔ (is_reserved (text_of bytes.now token.now) ≡ false)) }
 {
     class_of_text(token.kind, token.text(bytes))
 }
