@@ -5,15 +5,14 @@ ghost use Rattle.std.specs.List.{join_by};
 ghost use Rattle.pq_schedule.specs.Values.{text_in, two_digits};
 ghost use Rattle.pq_schedule.specs.Values.Form.{Ipv4, Ipv6, Mac};
 
-use itoa::Buffer;
 use std::alloc::{AllocError, Global};
 
 /// Appends a number in decimal digits.
 pub(crate) fn write_decimal(n: u64, into: &mut Vec<u8>) -> Result<(), AllocError>
     ensures { OnOk result (into.new.items ≡ into.old.items ++ decimal n) }
 {
-    let mut buffer = Buffer::new();
-    into.extend_from_slice(buffer.format(n).as_bytes())
+    let digits = n.to_string(*into.allocator())?;
+    into.extend_from_slice(digits.as_bytes())
 }
 
 /// Appends numbers in decimal digits, with a separator between each two.
