@@ -18,10 +18,6 @@ pub record IsReadBefore (text : List ℕ) (events : List Event) (rest : List ℕ
   pub lawful : IsSchedule events
   pub divided : (more : List Event) (last : List ℕ) → AreEvents rest more last → AreEvents text (events ++ more) last
 
--- nothing is read yet
-pub read_begins : (text : List ℕ) → IsReadBefore text [] text
-read_begins text = record { few = omega arith; within = omega arith; lawful = tt; divided = λ more last are. are }
-
 -- these are the events up to the rest
 ends_here : (text : List ℕ) (events : List Event) (rest : List ℕ) → IsReadBefore text events rest → AreEvents text events rest
 ends_here text events rest before = subst (λ es. AreEvents text es rest) (append-nil events) (before.divided [] rest refl)
@@ -95,14 +91,17 @@ longest text (x ∷ xs) (y ∷ ys) r s stuck first second =
     let left : first.0 ≡ second.0 = same_text first.0 second.0 (sym first.1.1 ∙ second.1.1) in
     omega (arith, longest first.0 xs ys r s stuck first.2 (subst (λ t. AreEvents t ys s) (sym left) second.2))
 
+-- a text has one list of events
 pub one_schedule : (text : List ℕ) (xs ys : List Event) → IsScheduleText text xs → IsScheduleText text ys → xs ≡ ys
 one_schedule text xs ys first second = (one_reading text xs ys [] [] nothing_begins nothing_begins first.0 second.0).0
 
+-- its first line that is no event is at one place
 pub one_fault : (text : List ℕ) (p q : ℕ) → FirstFault text p → FirstFault text q → p ≡ q
 one_fault text p q first second =
     let same = one_reading text first.events second.events first.rest second.rest first.fault second.fault first.before second.before in
     omega (arith, first.begins, second.begins, ap length same.1)
 
+-- no text has two of the three: events, a line that is none, too many events
 pub schedule_or_fault : (text : List ℕ) (xs : List Event) (p : ℕ) → IsScheduleText text xs → FirstFault text p → ⊥
 schedule_or_fault text xs p schedule fault = fault.more (sym (one_reading text xs fault.events [] fault.rest nothing_begins fault.fault schedule.0 fault.before).1)
 

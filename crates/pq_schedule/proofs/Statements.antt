@@ -21,6 +21,7 @@ packet_from x ss = if ascend_from x.next ss then Some (fold with_statement x.pac
 abbrev stated_next : Partial → Statement → Option Partial
 stated_next x s = if leb x.next (place_of s.key) then Some (record { packet = with_statement x.packet s; next = place_of s.key + 1 }) else None
 
+-- without a number nothing is stated
 abbrev nothing : Option Partial
 nothing = None
 
@@ -57,6 +58,7 @@ words_step x (Some s) None = none (stated_next x s) where
   none None = refl
   none (Some y) = refl
 
+-- word after word
 stated_from : (x : Partial) (words : List (List ℕ)) → stated_all x words ≡ option_and_then (packet_from x) (statements_of words)
 stated_from x [] = refl
 stated_from x (word ∷ words) = ap (λ f. option_and_then f (stated_by x word)) (λ i y. stated_from y words i) ∙ ap (option_and_then (λ y. option_and_then (packet_from y) (statements_of words))) (under_is x _ _) ∙ words_step x (statement_of word) (statements_of words)

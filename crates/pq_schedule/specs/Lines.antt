@@ -25,6 +25,7 @@ abbrev pub place_of : Key → ℕ
 place_of Vlan = 0
 place_of (Header f) = rank f
 
+-- the name under which a number is stated
 abbrev pub key_name : Key → List ℕ
 key_name Vlan = codes "vlan"
 key_name (Header f) = field_name f
@@ -43,6 +44,7 @@ pub record Statement : Type 0 where
   pub key : Key
   pub number : ℕ
 
+-- a number under a key, where the text states one
 abbrev pub statement_with : Option Key → Option (List ℕ) → Option Statement
 statement_with None value = None
 statement_with (Some key) None = None
@@ -72,6 +74,7 @@ abbrev pub with_key : Key → ℕ → TaggedPacket → TaggedPacket
 with_key Vlan n x = record x { vlan = Some n }
 with_key (Header f) n x = record x { packet = with_number f n x.packet }
 
+-- the packet with one more statement
 abbrev pub with_statement : TaggedPacket → Statement → TaggedPacket
 with_statement x s = with_key s.key s.number x
 
@@ -83,6 +86,7 @@ with_statements x statements = if ascend statements then Some (fold with_stateme
 abbrev pub port_of : List ℕ → Option ℕ
 port_of word = if bytes_eq word (codes "0") then None else decimal_of 0xffffff00 word
 
+-- a packet whose switch and port are stated, with what else is stated of it
 abbrev pub injected_at : Option ℕ → Option ℕ → Option (List Statement) → Option TaggedPacket
 injected_at None port statements = None
 injected_at (Some switch) None statements = None
@@ -100,6 +104,7 @@ place_in [] = None
 place_in (word ∷ []) = decimal_of (2 ^ 64 - 1) word
 place_in (word ∷ next ∷ words) = None
 
+-- the event that a verb and the words behind it are
 abbrev pub event_in : List (List ℕ) → Option Event
 event_in [] = None
 event_in (verb ∷ words) =

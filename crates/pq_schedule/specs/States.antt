@@ -26,6 +26,7 @@ abbrev pub tag_text : Option ℕ → List ℕ
 tag_text None = codes "none"
 tag_text (Some t) = decimal t
 
+-- the line of a packet in flight
 abbrev pub flight_line : TaggedPacket → List ℕ
 flight_line x = codes "flight tag=" ++ tag_text x.vlan ++ codes " " ++ packet_text x.packet ++ codes "\n"
 
@@ -34,6 +35,7 @@ abbrev pub left_vlan : Option ℕ → List ℕ
 left_vlan None = []
 left_vlan (Some t) = codes " vlan=" ++ decimal t
 
+-- the line of a delivered packet
 abbrev pub delivered_line : TaggedPacket → List ℕ
 delivered_line x = codes "delivered " ++ packet_text x.packet ++ left_vlan x.vlan ++ codes "\n"
 
@@ -45,6 +47,7 @@ query_name names query = get_or names query []
 abbrev pub bucket_text : List ℕ → List ℕ → Numbers → List ℕ
 bucket_text name label x = codes "bucket " ++ name ++ codes " [" ++ join_by decimal (codes ",") label ++ codes "] " ++ packet_text x ++ codes "\n"
 
+-- the line of a bucket's entry
 abbrev pub bucket_line : List (List ℕ) → BucketEntry → List ℕ
 bucket_line names e = bucket_text (query_name names e.pair.query) e.pair.label e.packet
 

@@ -79,7 +79,9 @@ fn with_number(packet: Tagged, key: Key, text: &[u8]) -> Option<Tagged>
 /// The packet with what the words state of it; `None` where a word is no statement, or the keys do not ascend.
 #[tactic(auto, using(crate::proofs::Statements::stated_is))]
 fn with_words(packet: Tagged, words: Option<&[u8]>) -> Option<Tagged>
-    ensures { result ≡ option_and_then (with_statements packet) (statements_of (parts_in (byte " ") (option_copied words.entry))) }
+    ensures { result
+        ≡ option_and_then (with_statements packet)
+        (statements_of (parts_in (byte " ") (option_copied words.entry))) }
 {
     let mut stated = Stated { packet, next: 0 };
     let mut left = words;

@@ -5,7 +5,7 @@ ghost use Rattle.std.specs.List.{join_by};
 ghost use Rattle.pq_schedule.specs.Values.{text_in, two_digits};
 ghost use Rattle.pq_schedule.specs.Values.Form.{Ipv4, Ipv6, Mac};
 
-use std::alloc::{AllocError, Global};
+use std::alloc::AllocError;
 
 /// Appends a number in decimal digits.
 pub(crate) fn write_decimal(n: u64, into: &mut Vec<u8>) -> Result<(), AllocError>
@@ -21,7 +21,8 @@ pub(crate) fn write_decimals(
     numbers: &[u64],
     into: &mut Vec<u8>,
 ) -> Result<(), AllocError>
-    ensures { OnOk result (into.new.items ≡ into.old.items ++ join_by decimal (separator ∷ []) numbers.now) }
+    ensures { OnOk result (into.new.items
+        ≡ into.old.items ++ join_by decimal (separator ∷ []) numbers.now) }
 {
     let [first, rest @ ..] = numbers else {
         return Ok(());
@@ -55,7 +56,8 @@ fn write_two_digits(byte: u8, into: &mut Vec<u8>) -> Result<(), AllocError>
 
 /// Appends two hexadecimal digits for each byte, joined by `:`.
 fn write_pairs(bytes: &[u8], into: &mut Vec<u8>) -> Result<(), AllocError>
-    ensures { OnOk result (into.new.items ≡ into.old.items ++ join_by two_digits (codes ":") bytes.now) }
+    ensures { OnOk result (into.new.items
+        ≡ into.old.items ++ join_by two_digits (codes ":") bytes.now) }
 {
     let [first, rest @ ..] = bytes else {
         return Ok(());
@@ -69,23 +71,25 @@ fn write_pairs(bytes: &[u8], into: &mut Vec<u8>) -> Result<(), AllocError>
 }
 
 /// Appends hexadecimal digits without leading zeros.
-fn write_hexadecimal(alloc: Global, n: u16, into: &mut Vec<u8>) -> Result<(), AllocError>
+fn write_hexadecimal(n: u16, into: &mut Vec<u8>) -> Result<(), AllocError>
     ensures { OnOk result (into.new.items ≡ into.old.items ++ digits 16 false n) }
 {
-    into.extend_from_slice(format!(in alloc; "{n:x}")?.as_bytes())
+    let digits = format!(in *into.allocator(); "{n:x}")?;
+    into.extend_from_slice(digits.as_bytes())
 }
 
 /// Appends hexadecimal digits without leading zeros for each segment, joined by `:`.
-fn write_segments(alloc: Global, segments: &[u16], into: &mut Vec<u8>) -> Result<(), AllocError>
-    ensures { OnOk result (into.new.items ≡ into.old.items ++ join_by (digits 16 false) (codes ":") segments.now) }
+fn write_segments(segments: &[u16], into: &mut Vec<u8>) -> Result<(), AllocError>
+    ensures { OnOk result (into.new.items
+        ≡ into.old.items ++ join_by (digits 16 false) (codes ":") segments.now) }
 {
     let [first, rest @ ..] = segments else {
         return Ok(());
     };
-    write_hexadecimal(alloc, *first, into)?;
+    write_hexadecimal(*first, into)?;
     for segment in rest {
         into.push(b':')?;
-        write_hexadecimal(alloc, *segment, into)?;
+        write_hexadecimal(*segment, into)?;
     }
     Ok(())
 }
@@ -136,7 +140,7 @@ pub(crate) fn write_ipv4(n: u64, into: &mut Vec<u8>) -> Result<(), AllocError>
 }
 
 /// Appends an IPv6 address: eight groups of lower-case hexadecimal digits without leading zeros, joined by `:`.
-pub(crate) fn write_ipv6(alloc: Global, n: u128, into: &mut Vec<u8>) -> Result<(), AllocError>
+pub(crate) fn write_ipv6(n: u128, into: &mut Vec<u8>) -> Result<(), AllocError>
     ensures { OnOk result (into.new.items ≡ into.old.items ++ text_in Ipv6 n) }
 {
     let segments = [
@@ -149,5 +153,5 @@ pub(crate) fn write_ipv6(alloc: Global, n: u128, into: &mut Vec<u8>) -> Result<(
         segment_at(16, n),
         segment_at(0, n),
     ];
-    write_segments(alloc, &segments, into)
+    write_segments(&segments, into)
 }

@@ -8,7 +8,7 @@ ghost use Rattle.pq_schedule.specs.Values.{form_of, text_in};
 use crate::names::field_name;
 use crate::numbers::{write_decimal, write_ipv4, write_ipv6, write_mac};
 use pq_fields::{Field, Packet, has};
-use std::alloc::{AllocError, Global};
+use std::alloc::AllocError;
 
 /// The fields behind the first, in field order.
 const FURTHER_FIELDS: [Field; 13] = [
@@ -28,50 +28,38 @@ const FURTHER_FIELDS: [Field; 13] = [
 ];
 
 /// Appends the number that the packet has in a field.
-fn write_number(
-    alloc: Global,
-    field: Field,
-    x: &Packet,
-    into: &mut Vec<u8>,
-) -> Result<(), AllocError>
-    ensures { OnOk result (into.new.items ≡ into.old.items ++ text_in (form_of field) (number_in field x.now)) }
+fn write_number(field: Field, x: &Packet, into: &mut Vec<u8>) -> Result<(), AllocError>
+    ensures { OnOk result (into.new.items
+        ≡ into.old.items ++ text_in (form_of field) (number_in field x.now)) }
 {
     match field {
         Field::EthSrc | Field::EthDst => write_mac(x.get(field), into),
         Field::Ipv4Src | Field::Ipv4Dst => write_ipv4(x.get(field), into),
-        Field::Ipv6Src => write_ipv6(alloc, x.ipv6_src, into),
-        Field::Ipv6Dst => write_ipv6(alloc, x.ipv6_dst, into),
+        Field::Ipv6Src => write_ipv6(x.ipv6_src, into),
+        Field::Ipv6Dst => write_ipv6(x.ipv6_dst, into),
         _ => write_decimal(x.get(field), into),
     }
 }
 
 /// Appends a field's name, `=`, and the packet's number in it.
-fn write_field(
-    alloc: Global,
-    field: Field,
-    x: &Packet,
-    into: &mut Vec<u8>,
-) -> Result<(), AllocError>
+fn write_field(field: Field, x: &Packet, into: &mut Vec<u8>) -> Result<(), AllocError>
     ensures { OnOk result (into.new.items ≡ into.old.items ++ field_text x.now field) }
 {
     into.extend_from_slice(field_name(field))?;
     into.push(b'=')?;
-    write_number(alloc, field, x, into)
+    write_number(field, x, into)
 }
 
 /// Appends a space and the field for each of the fields that the packet has.
-fn write_further(
-    alloc: Global,
-    fields: &[Field],
-    x: &Packet,
-    into: &mut Vec<u8>,
-) -> Result<(), AllocError>
-    ensures { OnOk result (into.new.items ≡ into.old.items ++ flat_map (λ f. codes " " ++ field_text x.now f) (filter (λ f. has_field f x.now) fields.now)) }
+fn write_further(fields: &[Field], x: &Packet, into: &mut Vec<u8>) -> Result<(), AllocError>
+    ensures { OnOk result (into.new.items
+        ≡ into.old.items
+        ++ flat_map (λ f. codes " " ++ field_text x.now f) (filter (λ f. has_field f x.now) fields.now)) }
 {
     for field in fields {
         if has(*field, x) {
             into.push(b' ')?;
-            write_field(alloc, *field, x, into)?;
+            write_field(*field, x, into)?;
         }
     }
     Ok(())
@@ -79,9 +67,9 @@ fn write_further(
 
 /// Appends the fields that the packet has, in field order, joined by one space.
 #[tactic(auto, unfolding(crate::specs::States::packet_text))]
-pub(crate) fn write_packet(alloc: Global, x: &Packet, into: &mut Vec<u8>) -> Result<(), AllocError>
+pub(crate) fn write_packet(x: &Packet, into: &mut Vec<u8>) -> Result<(), AllocError>
     ensures { OnOk result (into.new.items ≡ into.old.items ++ packet_text x.now) }
 {
-    write_field(alloc, Field::Switch, x, into)?;
-    write_further(alloc, &FURTHER_FIELDS, x, into)
+    write_field(Field::Switch, x, into)?;
+    write_further(&FURTHER_FIELDS, x, into)
 }

@@ -59,9 +59,12 @@ pub fn read_schedule(alloc: Global, text: &[u8]) -> Result<Vec<Event>, ScheduleF
 /// What a text is answered is settled by the text, but for memory: it has at most one list of events, or a first
 /// line that is no event at one place, or too many events, and never two of the three. It does nothing when it runs.
 pub fn a_text_is_read_one_way()
-    ensures schedule { (text : List ℕ) (xs ys : List Event) → IsScheduleText text xs → IsScheduleText text ys → xs ≡ ys }
+    ensures schedule { (text : List ℕ) (xs ys : List Event)
+        → IsScheduleText text xs → IsScheduleText text ys → xs ≡ ys }
     ensures fault { (text : List ℕ) (p q : ℕ) → FirstFault text p → FirstFault text q → p ≡ q }
-    ensures schedule_or_fault { (text : List ℕ) (xs : List Event) (p : ℕ) → IsScheduleText text xs → FirstFault text p → ⊥ }
-    ensures schedule_or_full { (text : List ℕ) (xs : List Event) → IsScheduleText text xs → IsTooLong text → ⊥ }
+    ensures schedule_or_fault { (text : List ℕ) (xs : List Event) (p : ℕ)
+        → IsScheduleText text xs → FirstFault text p → ⊥ }
+    ensures schedule_or_full { (text : List ℕ) (xs : List Event)
+        → IsScheduleText text xs → IsTooLong text → ⊥ }
     ensures fault_or_full { (text : List ℕ) (p : ℕ) → FirstFault text p → IsTooLong text → ⊥ }
 {}

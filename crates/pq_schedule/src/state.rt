@@ -40,7 +40,7 @@ fn flight_line(alloc: Global, x: &Tagged) -> Result<Vec<u8>, AllocError>
     let mut line = Vec::from_slice(alloc, b"flight tag=")?;
     write_tag(x.vlan, &mut line)?;
     line.push(b' ')?;
-    write_packet(alloc, &x.packet, &mut line)?;
+    write_packet(&x.packet, &mut line)?;
     line.push(b'\n')?;
     Ok(line)
 }
@@ -49,7 +49,7 @@ fn delivered_line(alloc: Global, x: &Tagged) -> Result<Vec<u8>, AllocError>
     ensures { IfOk result (λ line. line.items ≡ delivered_line x.now) }
 {
     let mut line = Vec::from_slice(alloc, b"delivered ")?;
-    write_packet(alloc, &x.packet, &mut line)?;
+    write_packet(&x.packet, &mut line)?;
     write_left_vlan(x.vlan, &mut line)?;
     line.push(b'\n')?;
     Ok(line)
@@ -63,7 +63,7 @@ fn bucket_line(alloc: Global, name: &[u8], label: &[u64], x: &Packet) -> Result<
     line.extend_from_slice(b" [")?;
     write_decimals(b',', label, &mut line)?;
     line.extend_from_slice(b"] ")?;
-    write_packet(alloc, x, &mut line)?;
+    write_packet(x, &mut line)?;
     line.push(b'\n')?;
     Ok(line)
 }

@@ -26,16 +26,6 @@ pub record IsValueBefore (weight base : ℕ) (all left : List (List ℕ)) (value
   pub below : value < weight ^ (length all - length left)
   pub whole : fold (λ so_far group. so_far * weight + value_of base group) value left ≡ groups_value weight base all
 
--- no group is counted yet
-pub value_begins : (weight base : ℕ) (all : List (List ℕ)) → spell_digits weight base all ≡ true → IsValueBefore weight base all all 0
-value_begins weight base all small =
-    let none : length all - length all ≡ 0 = omega arith in record {
-      small = small;
-      within = omega arith;
-      below = subst (λ k. 0 < weight ^ k) (sym none) (omega (arith, pow-zero weight));
-      whole = refl;
-    }
-
 -- the next group
 value_goes_on : (weight base : ℕ) (all : List (List ℕ)) (group : List ℕ) (left : List (List ℕ)) (value : ℕ) → weight ^ length all ≤ 2 ^ 128 → IsValueBefore weight base all (group ∷ left) value →
     IsValueBefore weight base all left (value * weight + value_of base group) × (value_of base group < weight) × (value * weight + value_of base group < 2 ^ 128)
