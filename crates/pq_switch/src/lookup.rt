@@ -1,6 +1,8 @@
-ghost use Rattle.std.specs.Prelude.{◌≡◌};
+ghost use Rattle.std.specs.Prelude.{◌≡◌, ℕ};
+ghost use Rattle.std.specs.List.{AllByRecursion};
 ghost use Rattle.std.specs.Option.{option_copied};
-ghost use Rattle.pq_switch.specs.Choice.{best_of, comes_before, counts, preferred};
+ghost use Rattle.pq_switch.specs.Added.{IsKept};
+ghost use Rattle.pq_switch.specs.Choice.{best_of, comes_before, counts, is_beaten, preferred};
 ghost use Rattle.pq_switch.specs.Ranges.{range_of};
 
 use crate::entry::Slot;
@@ -18,6 +20,7 @@ pub(crate) fn best_in<'a>(
     x: &Tagged,
     mut best: Option<&'a Slot>,
 ) -> Option<&'a Slot>
+    requires { (next : ℕ) × AllByRecursion (IsKept next) slots.now.entries }
     ensures { option_copied result ≡ best_of table x.now (range_of table in_port vlan slots.now.entries) (option_copied best.entry) }
 {
     let first = Place {
@@ -32,9 +35,27 @@ pub(crate) fn best_in<'a>(
         ..first
     };
     for (_, slot) in slots.range(first..last) {
+        // The priorities fall from here on.
+        if is_beaten(slot, best) {
+            return best;
+        }
         best = preferred(table, x, slot, best);
     }
     best
+}
+
+// Whether the best so far has a higher priority than the entry.
+fn is_beaten(slot: &Slot, best: Option<&Slot>) -> bool
+    ensures { result ≡ is_beaten slot.now (option_copied best.entry) }
+{
+    match best {
+        Some(other) => {
+            let entry = &slot.entry;
+            let compared = &other.entry;
+            entry.priority < compared.priority
+        }
+        None => false,
+    }
 }
 
 // The better one of an entry and the best so far.
