@@ -6,7 +6,10 @@ mod action;
 mod flow;
 mod group;
 mod message;
+mod rules;
 mod set_field;
+#[cfg(test)]
+mod tests;
 
 pub use message::write_message;
 pub use pq_model::{Action, FlowCommand, FlowMod, GroupCommand, GroupMod, Message};

@@ -8,13 +8,16 @@ use pq_model::Message;
 use pq_oxm::write_length;
 use std::alloc::{AllocError, Global};
 
-// The version of OpenFlow 1.3, and message types (OpenFlow 1.3.5, section 7.1).
+// The version of OpenFlow 1.3 (OpenFlow 1.3.5, section 7.1).
 const VERSION: u8 = 0x04;
 
+// The type of a message that changes flow entries.
 const FLOW_MOD: u8 = 14;
 
+// The type of a message that changes a group.
 const GROUP_MOD: u8 = 15;
 
+// The type of a message that keeps what comes before it from what comes after.
 const BARRIER_REQUEST: u8 = 20;
 
 // A message with its header: version, type, length of the whole message, and transaction id.

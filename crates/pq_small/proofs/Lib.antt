@@ -1,3 +1,14 @@
+pub mod Filled
 pub mod Implements
 pub mod Installed
+pub mod Places
+pub mod Ports
+pub mod Rules
+pub mod Spelled
+pub mod Told
+pub mod Tokens
+pub mod Forms
+pub mod Ascending
+pub mod LawfulPorts
+pub mod LawfulInstall
 pub mod Worked

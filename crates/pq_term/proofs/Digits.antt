@@ -25,7 +25,7 @@ too_big base so_far digits i positive more left big fits =
     big (omega (arith, split, value_grows base (so_far * base + digit_value (get_or digits i 0)) (drop (suc i) digits) positive, fits))
 
 -- each hexadecimal digit multiplies the bound by sixteen
-hexadecimal_below : (so_far : ℕ) (digits : List ℕ) → list_all (is_digit 16) digits ≡ true → value_after 16 so_far digits < (so_far + 1) * 16 ^ length digits
+pub hexadecimal_below : (so_far : ℕ) (digits : List ℕ) → list_all (is_digit 16) digits ≡ true → value_after 16 so_far digits < (so_far + 1) * 16 ^ length digits
 hexadecimal_below so_far [] all = omega arith
 hexadecimal_below so_far (b ∷ bs) all =
     let parts = and_parts (is_digit 16 b) (list_all (is_digit 16) bs) all in

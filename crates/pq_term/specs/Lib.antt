@@ -1,7 +1,9 @@
 pub mod Bytes
 pub mod Numbers
+pub mod Stored
 pub mod Groups
 pub mod Forms
 pub mod Tokens
 pub mod Division
 pub mod Names
+pub mod Addresses

@@ -46,3 +46,7 @@ number_of bs =
     if is_decimal (2 ^ 64 - 1) bs then Some (value_of 10 bs)
     else (if is_hexadecimal bs then Some (value_of 16 (drop 2 bs))
     else None)
+
+-- the value of a decimal number without leading zeros, where the text is one and at most this one
+abbrev pub decimal_of : ℕ → List ℕ → Option ℕ
+decimal_of most bs = if is_decimal most bs then Some (value_of 10 bs) else None

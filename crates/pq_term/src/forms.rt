@@ -29,21 +29,21 @@ pub(crate) fn is_word(text: &[u8]) -> bool
 }
 
 /// Whether the text is a MAC address.
-fn is_mac(text: &[u8]) -> bool
+pub(crate) fn is_mac(text: &[u8]) -> bool
     ensures { result ≡ is_mac text.now }
 {
     are_groups(b':', 6, Group::Hex(2, 2), text)
 }
 
 /// Whether the text is an IPv4 address.
-fn is_ipv4(text: &[u8]) -> bool
+pub(crate) fn is_ipv4(text: &[u8]) -> bool
     ensures { result ≡ is_ipv4 text.now }
 {
     are_groups(b'.', 4, Group::Decimal(255), text)
 }
 
 /// Whether the text is an IPv6 address with all of its groups.
-fn is_ipv6_address(text: &[u8]) -> bool
+pub(crate) fn is_ipv6_address(text: &[u8]) -> bool
     ensures { result ≡ is_ipv6_address text.now }
 {
     are_groups(b':', 8, Group::Hex(1, 4), text)

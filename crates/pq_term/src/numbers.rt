@@ -1,7 +1,7 @@
 //! Numbers, as digits spell them.
-ghost use Rattle.std.specs.Prelude.{◌≡◌, ◌+◌, ◌-◌, ◌*◌, ◌^◌, ◌<◌, SomeIff, if◌then◌else◌};
+ghost use Rattle.std.specs.Prelude.{◌≡◌, ◌+◌, ◌-◌, ◌*◌, ◌^◌, ◌<◌, ◌≤◌, SomeIff, IfSome, if◌then◌else◌};
 ghost use Rattle.std.specs.List.{list_all};
-ghost use Rattle.pq_term.specs.Numbers.{digit_value, is_digit, value_of, is_decimal, is_plain, is_hex, number_of};
+ghost use Rattle.pq_term.specs.Numbers.{digit_value, is_digit, value_of, is_decimal, is_plain, is_hex, number_of, decimal_of};
 
 /// The value of a hexadecimal digit in either case, 0 to 15.
 fn digit_value(byte: u8) -> u64
@@ -38,7 +38,7 @@ fn with_digit(value: u64, base: u64, digit: u64) -> Option<u64>
 }
 
 /// The value of digits of a base, unless it is beyond a `u64`.
-fn value_of(base: u64, digits: &[u8]) -> Option<u64>
+pub(crate) fn value_of(base: u64, digits: &[u8]) -> Option<u64>
     requires { 0 < base }
     ensures { SomeIff result (value_of base digits.now < 2 ^ 64) (value_of base digits.now) }
 {
@@ -71,6 +71,17 @@ fn decimal(text: &[u8]) -> Option<u64>
         value_of(10, text)
     } else {
         None
+    }
+}
+
+/// The value of a decimal number without leading zeros, where the text is one and at most this one.
+pub fn decimal_value(most: u64, text: &[u8]) -> Option<u64>
+    ensures value { result ≡ decimal_of most text.now }
+    ensures within { IfSome result (λ n. n ≤ most) }
+{
+    match decimal(text) {
+        Some(value) if value <= most => Some(value),
+        _ => None,
     }
 }
 

@@ -1,0 +1,4 @@
+pub mod WorkedLines
+pub mod WorkedStates
+pub mod Statements
+pub mod Places

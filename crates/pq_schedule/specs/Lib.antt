@@ -1,0 +1,5 @@
+pub mod Values
+pub mod Lines
+pub mod Stated
+pub mod Schedules
+pub mod States

@@ -1,0 +1,94 @@
+-- The names of fields, and how their numbers are written: in schedules, and of packets that are printed.
+use Rattle.std.specs.Prelude.{ℕ, ◌+◌, ◌-◌, ◌/◌, ◌%◌, ◌^◌, Bool, false, not, ◌&&◌, ◌||◌, if◌then◌else◌, List, [], ◌∷◌, map, length, ◌==◌, codes, decimal, Option, None}
+use Rattle.std.specs.Int.{w32, to_be_bytes}
+use Rattle.std.specs.Fmt.{digits, digit_glyph}
+use Rattle.std.specs.Char.{is_ascii_uppercase}
+use Rattle.std.specs.List.{list_all, list_any, join_by}
+use Rattle.std.specs.Str.{byte}
+use Rattle.pq_term.specs.Numbers.{decimal_of}
+use Rattle.pq_term.specs.Groups.{parts}
+use Rattle.pq_term.specs.Addresses.{mac_of, ipv4_of, ipv6_of}
+use Rattle.pq_fields.specs.declared.field.Field.{Field}
+use Rattle.pq_fields.specs.declared.field.Field.TheVariants.{Switch, Port, EthType, IpProto, EthSrc, EthDst, Ipv4Src, Ipv4Dst, TcpSrc, TcpDst, UdpSrc, UdpDst, Ipv6Src, Ipv6Dst}
+use Rattle.pq_fields.specs.Packet.{width_of}
+use Rattle.pq_model.specs.Spelling.{mac_bytes}
+
+-- how a number is written: by decimal digits without leading zeros, or as an address
+pub data Form : Type 0 where
+  Decimal : Form
+  Mac : Form
+  Ipv4 : Form
+  Ipv6 : Form
+
+-- the name of a field
+abbrev pub field_name : Field → List ℕ
+field_name Switch = codes "switch"
+field_name Port = codes "port"
+field_name EthType = codes "eth_type"
+field_name IpProto = codes "ip_proto"
+field_name EthSrc = codes "eth_src"
+field_name EthDst = codes "eth_dst"
+field_name Ipv4Src = codes "ipv4_src"
+field_name Ipv4Dst = codes "ipv4_dst"
+field_name TcpSrc = codes "tcp_src"
+field_name TcpDst = codes "tcp_dst"
+field_name UdpSrc = codes "udp_src"
+field_name UdpDst = codes "udp_dst"
+field_name Ipv6Src = codes "ipv6_src"
+field_name Ipv6Dst = codes "ipv6_dst"
+
+-- how a field's numbers are written
+abbrev pub form_of : Field → Form
+form_of Switch = Decimal
+form_of Port = Decimal
+form_of EthType = Decimal
+form_of IpProto = Decimal
+form_of EthSrc = Mac
+form_of EthDst = Mac
+form_of Ipv4Src = Ipv4
+form_of Ipv4Dst = Ipv4
+form_of TcpSrc = Decimal
+form_of TcpDst = Decimal
+form_of UdpSrc = Decimal
+form_of UdpDst = Decimal
+form_of Ipv6Src = Ipv6
+form_of Ipv6Dst = Ipv6
+
+-- Reading.
+
+-- no letter is upper case, and only `0` itself begins with a zero
+abbrev pub is_shortest : List ℕ → Bool
+is_shortest [] = false
+is_shortest (b ∷ bs) = not (list_any is_ascii_uppercase (b ∷ bs)) && (not (b == byte "0") || length bs == 0)
+
+-- the number of an IPv6 address whose groups are lower-case digits without leading zeros
+abbrev pub short_ipv6_of : List ℕ → Option ℕ
+short_ipv6_of text = if list_all is_shortest (parts (byte ":") text) then ipv6_of text else None
+
+-- the number that a text states in a form; a decimal number has at most so many bits
+abbrev pub number_from : Form → ℕ → List ℕ → Option ℕ
+number_from Decimal bits text = decimal_of (2 ^ bits - 1) text
+number_from Mac bits text = mac_of text
+number_from Ipv4 bits text = ipv4_of text
+number_from Ipv6 bits text = short_ipv6_of text
+
+-- the number that a text states for a field
+abbrev pub field_number : Field → List ℕ → Option ℕ
+field_number f text = number_from (form_of f) (width_of f) text
+
+-- Printing.
+
+-- two lower-case hexadecimal digits
+abbrev pub two_digits : ℕ → List ℕ
+two_digits n = digit_glyph false (n / 16) ∷ digit_glyph false (n % 16) ∷ []
+
+-- the eight groups of sixteen bits of an IPv6 address, the highest first
+abbrev pub segments : ℕ → List ℕ
+segments n = map (λ place. n / 2 ^ place % 2 ^ 16) (112 ∷ 96 ∷ 80 ∷ 64 ∷ 48 ∷ 32 ∷ 16 ∷ 0 ∷ [])
+
+-- the text of a number in a form
+abbrev pub text_in : Form → ℕ → List ℕ
+text_in Decimal n = decimal n
+text_in Mac n = join_by two_digits (codes ":") (mac_bytes n)
+text_in Ipv4 n = join_by decimal (codes ".") (to_be_bytes w32 n)
+text_in Ipv6 n = join_by (digits 16 false) (codes ":") (segments n)
