@@ -1,5 +1,5 @@
 -- In a range of places the priorities fall.
-use Rattle.std.proofs.Common.{◌≡◌, ℕ, ◌-◌, ◌<◌, ◌≤◌, Bool, true, false, not, cond, ◌==◌, ◌&&◌, nat_lt, List, [], ◌∷◌, refl, sym, ap, subst, ◌∙◌, arith}
+use Rattle.std.proofs.Common.{◌≡◌, ℕ, ◌-◌, ◌<◌, ◌≤◌, Bool, true, false, not, cond, ◌==◌, ◌&&◌, List, [], ◌∷◌, refl, sym, ap, ◌∙◌, arith}
 use Rattle.std.proofs.lemmas.Bool.{true≢false}
 use Rattle.std.proofs.lemmas.Bool.Decides.{nat_tests}
 use Rattle.std.specs.declared.cmp.Ordering.{Ordering}
@@ -15,8 +15,7 @@ use Rattle.std.specs.Ordering.{is_eq, is_le, nat_cmp, ordering_then}
 use Rattle.pq_model.specs.Tagged.{TaggedPacket}
 use Rattle.pq_switch.specs.Added.{IsKept, place_in}
 use Rattle.pq_switch.specs.Choice.{best_of, comes_before, counts, is_beaten}
-use Rattle.pq_switch.specs.Places.{first_place, headers_cmp, last_place, place_cmp}
-use Rattle.pq_switch.specs.Ranges.{range_of}
+use Rattle.pq_switch.specs.Places.{headers_cmp, place_cmp}
 use Rattle.pq_switch.specs.declared.entry.Slot.{Slot}
 use Rattle.pq_switch.specs.declared.place.Place.{Place}
 use Rattle.pq_switch.proofs.Places.{both_equal, number_total, same_numbers}
@@ -72,8 +71,8 @@ module _ (n : ℕ) (in_port vlan : Option ℕ) where
       let b = shaped q k in
       let rest = ordering_then (nat_cmp p.down q.down) (headers_cmp p.headers q.headers) in
       no_more p.down q.down (headers_cmp p.headers q.headers) (sym (ordered n in_port vlan (nat_cmp p.table q.table) (option_cmp nat_cmp p.in_port q.in_port) (option_cmp nat_cmp p.vlan q.vlan)
-        (sym (nat_cmp_total.congr n p.table q.table a.table) ∙ b.table) (sym (number_total.congr in_port p.in_port q.in_port a.port) ∙ b.port) (sym (number_total.congr vlan p.vlan q.vlan a.word) ∙ b.word)
-        (nat_cmp p.down q.down) (headers_cmp p.headers q.headers)) ∙ less)
+      (sym (nat_cmp_total.congr n p.table q.table a.table) ∙ b.table) (sym (number_total.congr in_port p.in_port q.in_port a.port) ∙ b.port) (sym (number_total.congr vlan p.vlan q.vlan a.word) ∙ b.word)
+      (nat_cmp p.down q.down) (headers_cmp p.headers q.headers)) ∙ less)
 
 down_of : (next : ℕ) (r : Place × Slot) → IsKept next r → 0x10000 - r.1.entry.priority ≡ r.0.down
 down_of next r kept =

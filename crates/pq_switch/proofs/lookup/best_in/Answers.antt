@@ -1,4 +1,4 @@
-use Rattle.std.proofs.Common.{◌≡◌, ◌∷◌, ap, sym, subst, ◌∙◌}
+use Rattle.std.proofs.Common.{◌≡◌, ap, sym, subst, ◌∙◌}
 use Rattle.std.proofs.lemmas.Map.Iter.{rest_more}
 use Rattle.std.specs.declared.ops.Bound.TheVariants.{Included, Excluded}
 use Rattle.std.specs.BTreeMap.Range.{entries_between}
@@ -14,7 +14,7 @@ pub loop-slot-init : goal.loop-slot-init
 loop-slot-init c =
     let es = c.args.slots.now.entries in
     let whole : c.into_iter-slot-iterator.result ≡ entries_between place_cmp (Included (first_place c.args.table c.args.in_port c.args.vlan)) (Excluded (last_place c.args.table c.args.in_port c.args.vlan)) es =
-        c.into_iter-slot-iterator.ensures.into_iter_gives ∙ c.range-slot-items.ensures.between tt in
+    c.into_iter-slot-iterator.ensures.into_iter_gives ∙ c.range-slot-items.ensures.between tt in
     record {
       best = ap (λ l. best_of c.args.table c.args.x.now (values_of l) (option_copied c.args.best)) whole;
       falls = subst (λ l. Falls (values_of l)) (sym whole) (falls c.requires.0 c.args.table c.args.in_port c.args.vlan es c.requires.1 c.range-slot-items.ensures.ordered);
