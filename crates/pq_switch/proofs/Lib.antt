@@ -1,5 +1,6 @@
 pub mod Buckets
 pub mod Choice
+pub mod Falling
 pub mod Kept
 pub mod Lookups
 pub mod Passing

@@ -35,7 +35,7 @@ place_cmp_total =
     then_total (on_total (λ p. p.table) nat_cmp_total) (then_total (on_total (λ p. p.in_port) number_total)
     (then_total (on_total (λ p. p.vlan) number_total) (then_total (on_total (λ p. p.down) nat_cmp_total) (on_total (λ p. p.headers) headers_total))))
 
-both_equal : (r s : Ordering) → is_eq (ordering_then r s) ≡ is_eq r && is_eq s
+pub both_equal : (r s : Ordering) → is_eq (ordering_then r s) ≡ is_eq r && is_eq s
 both_equal Less s = refl
 both_equal Equal s = refl
 both_equal Greater s = refl
@@ -59,7 +59,7 @@ abbrev tests : List Ordering → List Bool
 tests [] = []
 tests (r ∷ rs) = is_eq r ∷ tests rs
 
-same_numbers : (a b : ℕ) → is_eq (nat_cmp a b) ≡ (a == b)
+pub same_numbers : (a b : ℕ) → is_eq (nat_cmp a b) ≡ (a == b)
 same_numbers a b = grind (arith, nat_tests)
 
 stated : (a b : Option ℕ) → is_eq (option_cmp nat_cmp a b) ≡ same_number a b

@@ -26,10 +26,10 @@ use Rattle.pq_switch.proofs.Choice.{IsIn, best-all, best-among, best-is_taken, i
 use Rattle.pq_switch.proofs.Places.{joined, number_total, place_cmp_total}
 
 module _ (n : ℕ) (in_port vlan : Option ℕ) where
-  abbrev lies : Place → Bool
+  abbrev pub lies : Place → Bool
   lies q = range_contains place_cmp (Included (first_place n in_port vlan)) (Excluded (last_place n in_port vlan)) q
 
-  ordered : (r s t : Ordering) → r ≡ Equal → s ≡ Equal → t ≡ Equal → (u v : Ordering) → ordering_then r (ordering_then s (ordering_then t (ordering_then u v))) ≡ ordering_then u v
+  pub ordered : (r s t : Ordering) → r ≡ Equal → s ≡ Equal → t ≡ Equal → (u v : Ordering) → ordering_then r (ordering_then s (ordering_then t (ordering_then u v))) ≡ ordering_then u v
   ordered r s t a b c u v = λ i. ordering_then (a i) (ordering_then (b i) (ordering_then (c i) (ordering_then u v)))
 
   by_down : (down d : ℕ) (h : Headers) → place_cmp (record { table = n; in_port = in_port; vlan = vlan; down = down; headers = no_headers }) (record { table = n; in_port = in_port; vlan = vlan; down = d; headers = h }) ≡ ordering_then (nat_cmp down d) (headers_cmp no_headers h)

@@ -1,5 +1,5 @@
 -- Which of several entries a packet takes.
-use Rattle.std.specs.Prelude.{ℕ, Bool, List, [], ◌∷◌, nat_lt, ◌==◌, ◌&&◌, ◌||◌, if◌then◌else◌}
+use Rattle.std.specs.Prelude.{ℕ, Bool, false, List, [], ◌∷◌, nat_lt, ◌==◌, ◌&&◌, ◌||◌, if◌then◌else◌}
 use Rattle.std.specs.declared.option.Option.{Option}
 use Rattle.std.specs.declared.option.Option.TheVariants.{None, Some}
 use Rattle.pq_model.specs.MatchFields.{covers}
@@ -13,6 +13,11 @@ counts n x s = (s.entry.table == n) && covers s.entry.matching x
 -- whether the first has the higher priority, or the same and was added earlier
 abbrev pub comes_before : Slot → Slot → Bool
 comes_before s t = nat_lt t.entry.priority s.entry.priority || ((t.entry.priority == s.entry.priority) && nat_lt s.sequence t.sequence)
+
+-- whether the best so far has a higher priority than the entry
+abbrev pub is_beaten : Slot → Option Slot → Bool
+is_beaten s None = false
+is_beaten s (Some best) = nat_lt s.entry.priority best.entry.priority
 
 -- the better one of an entry and the best so far
 abbrev pub preferred : ℕ → TaggedPacket → Slot → Option Slot → Option Slot

@@ -1,6 +1,5 @@
 pub mod Added
 pub mod Choice
-pub mod Layers
 pub mod Places
 pub mod Ranges
 pub mod SentOrder

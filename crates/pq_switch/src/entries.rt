@@ -6,8 +6,7 @@ ghost use Rattle.pq_model.specs.SwitchMachine.{entry_of, groups_named, is_placed
 
 use crate::entry::{Entry, Slot};
 use crate::groups::Groups;
-use crate::lookup::best_in;
-use crate::matching::vlan_word;
+use crate::lookup::{best_in, vlan_word};
 use crate::place::Place;
 use pq_model::{FlowMod, Tagged};
 use std::alloc::{AllocError, Global};

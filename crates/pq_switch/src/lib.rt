@@ -7,13 +7,11 @@ mod entries;
 mod entry;
 mod groups;
 mod lookup;
-mod matching;
 mod place;
 mod sending;
 mod sorting;
 mod tables;
 
-pub use matching::{covers, same_match};
 pub use pq_model::{Sent, Tagged};
 pub use sending::hop;
 pub use tables::Tables;

@@ -1,10 +1,12 @@
-ghost use Rattle.std.specs.Prelude.{◌≡◌};
+ghost use Rattle.std.specs.Prelude.{◌≡◌, ℕ};
+ghost use Rattle.std.specs.List.{AllByRecursion};
 ghost use Rattle.std.specs.Option.{option_copied};
-ghost use Rattle.pq_switch.specs.Choice.{best_of, comes_before, counts, preferred};
+ghost use Rattle.pq_model.specs.MatchFields.{vlan_word};
+ghost use Rattle.pq_switch.specs.Added.{IsKept};
+ghost use Rattle.pq_switch.specs.Choice.{best_of, comes_before, counts, is_beaten, preferred};
 ghost use Rattle.pq_switch.specs.Ranges.{range_of};
 
 use crate::entry::Slot;
-use crate::matching::covers;
 use crate::place::{Headers, Place};
 use pq_model::Tagged;
 use std::collections::BTreeMap;
@@ -18,6 +20,7 @@ pub(crate) fn best_in<'a>(
     x: &Tagged,
     mut best: Option<&'a Slot>,
 ) -> Option<&'a Slot>
+    requires { (next : ℕ) × AllByRecursion (IsKept next) slots.now.entries }
     ensures { option_copied result ≡ best_of table x.now (range_of table in_port vlan slots.now.entries) (option_copied best.entry) }
 {
     let first = Place {
@@ -32,9 +35,27 @@ pub(crate) fn best_in<'a>(
         ..first
     };
     for (_, slot) in slots.range(first..last) {
+        // The priorities fall from here on.
+        if is_beaten(slot, best) {
+            return best;
+        }
         best = preferred(table, x, slot, best);
     }
     best
+}
+
+// Whether the best so far has a higher priority than the entry.
+fn is_beaten(slot: &Slot, best: Option<&Slot>) -> bool
+    ensures { result ≡ is_beaten slot.now (option_copied best.entry) }
+{
+    match best {
+        Some(other) => {
+            let entry = &slot.entry;
+            let compared = &other.entry;
+            entry.priority < compared.priority
+        }
+        None => false,
+    }
 }
 
 // The better one of an entry and the best so far.
@@ -50,12 +71,22 @@ fn preferred<'a>(table: u8, x: &Tagged, slot: &'a Slot, best: Option<&'a Slot>) 
     }
 }
 
+/// The VLAN_VID word of a packet: 0 without a header (OpenFlow 1.3.5, section 7.2.3.7).
+pub(crate) fn vlan_word(x: &Tagged) -> u64
+    ensures { result ≡ vlan_word x.now.vlan }
+{
+    match x.vlan {
+        Some(number) => 0x1000 + u64::from(number),
+        None => 0,
+    }
+}
+
 // Whether the entry stands in the table and covers the packet.
 fn counts(table: u8, x: &Tagged, slot: &Slot) -> bool
     ensures { result ≡ counts table x.now slot.now }
 {
     let entry = &slot.entry;
-    entry.table == table && covers(&entry.matching, x)
+    entry.table == table && entry.matching.covers(&x.packet, x.vlan)
 }
 
 // Whether the first has the higher priority, or the same and was added earlier.

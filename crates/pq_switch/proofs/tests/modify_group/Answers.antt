@@ -1,4 +1,4 @@
-use Rattle.std.specs.Prelude.{List, [], ◌∷◌, All}
+use Rattle.std.specs.Prelude.{List, [], ◌∷◌}
 use Rattle.std.proofs.Common.{rules, arith, refl, inl}
 use Rattle.std.proofs.lemmas.List.Elements.{All-nil, All-cons}
 use Rattle.pq_model.specs.declared.action.Action.{Action}
