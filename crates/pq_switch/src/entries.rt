@@ -6,7 +6,7 @@ ghost use Rattle.pq_model.specs.SwitchMachine.{entry_of, groups_named, is_placed
 
 use crate::entry::{Entry, Slot};
 use crate::groups::Groups;
-use crate::lookup::{best_in, vlan_word};
+use crate::lookup::{best_in, entry_in, vlan_word};
 use crate::place::Place;
 use pq_model::{FlowMod, Tagged};
 use std::alloc::{AllocError, Global};
@@ -57,10 +57,8 @@ impl Entries {
         let best = best_in(&self.slots, table, port, word, x, None);
         let best = best_in(&self.slots, table, port, None, x, best);
         let best = best_in(&self.slots, table, None, word, x, best);
-        match best_in(&self.slots, table, None, None, x, best) {
-            Some(slot) => Some(&slot.entry),
-            None => None,
-        }
+        let best = best_in(&self.slots, table, None, None, x, best);
+        entry_in(best)
     }
 
     /// Puts an entry last, in place of the one with its table, match and priority.

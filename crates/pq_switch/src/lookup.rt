@@ -1,17 +1,18 @@
 ghost use Rattle.std.specs.Prelude.{◌≡◌, ℕ};
 ghost use Rattle.std.specs.List.{AllByRecursion};
-ghost use Rattle.std.specs.Option.{option_copied};
+ghost use Rattle.std.specs.Option.{option_copied, option_map};
 ghost use Rattle.pq_model.specs.MatchFields.{vlan_word};
 ghost use Rattle.pq_switch.specs.Added.{IsKept};
 ghost use Rattle.pq_switch.specs.Choice.{best_of, comes_before, counts, is_beaten, preferred};
 ghost use Rattle.pq_switch.specs.Ranges.{range_of};
 
-use crate::entry::Slot;
+use crate::entry::{Entry, Slot};
 use crate::place::{Headers, Place};
 use pq_model::Tagged;
 use std::collections::BTreeMap;
 
-/// The best of the covering entries of a table whose matches state this arriving port and this VLAN word, and the best so far.
+/// The best of the covering entries of a table whose matches state this arriving port and this VLAN word, and the
+/// best so far.
 pub(crate) fn best_in<'a>(
     slots: &'a BTreeMap<Place, Slot>,
     table: u8,
@@ -42,6 +43,16 @@ pub(crate) fn best_in<'a>(
         best = preferred(table, x, slot, best);
     }
     best
+}
+
+/// The entry of what was found.
+pub(crate) fn entry_in<'a>(found: Option<&'a Slot>) -> Option<&'a Entry>
+    ensures { option_copied result ≡ option_map (λ s. s.entry) (option_copied found.entry) }
+{
+    match found {
+        Some(slot) => Some(&slot.entry),
+        None => None,
+    }
 }
 
 // Whether the best so far has a higher priority than the entry.
