@@ -10,11 +10,13 @@ use Rattle.pq_model.specs.SwitchMachine.{to_ports, to_controller}
 use Rattle.pq_model.specs.TablesMachine.{Report, carried, carried_all, collected_at, delivered_of}
 use Rattle.pq_net.specs.Hops.{carries, delivers, collects}
 
+-- what each copy puts in flight
 pub carries-all : (t : Topology) (sent : List Sent) → flat_map (carries t) sent ≡ carried_all t (to_ports sent)
 carries-all t [] = refl
 carries-all t (Port x ∷ sent) = ap (λ l. carried x (peer t x.packet.switch x.packet.port) ++ l) (carries-all t sent)
 carries-all t (Controller x ∷ sent) = carries-all t sent
 
+-- what each copy delivers
 pub delivers-all : (t : Topology) (sent : List Sent) → flat_map (delivers t) sent ≡ delivered_of t (to_ports sent)
 delivers-all t [] = refl
 delivers-all t (Port x ∷ sent) = ap (λ l. (if is_edge t x.packet.switch x.packet.port then x ∷ [] else []) ++ l) (delivers-all t sent) ∙ by (is_edge t x.packet.switch x.packet.port)
@@ -24,6 +26,7 @@ delivers-all t (Port x ∷ sent) = ap (λ l. (if is_edge t x.packet.switch x.pac
     by false = refl
 delivers-all t (Controller x ∷ sent) = delivers-all t sent
 
+-- what each copy puts into buckets, before it is sorted
 pub collects-all : (report : Report) (sent : List Sent) → flat_map (collects report) sent ≡ flat_map (λ y. collected_at report y.packet y.vlan) (to_controller sent)
 collects-all report [] = refl
 collects-all report (Port x ∷ sent) = collects-all report sent

@@ -8,17 +8,21 @@ use Rattle.std.specs.declared.cmp.Ordering.TheVariants.{Less, Equal, Greater}
 use Rattle.pq_fields.specs.Packet.{numbers}
 use Rattle.pq_model.specs.Buckets.{BucketEntry, entry_numbers}
 
+-- the first that differs decides, however comparisons are grouped
 joined : (r s t : Ordering) → ordering_then r (ordering_then s t) ≡ ordering_then (ordering_then r s) t
 joined Less s t = refl
 joined Equal s t = refl
 joined Greater s t = refl
 
+-- the end of a label stands below each value
 nil_first : (b : ℕ) → nat_cmp 0 (b + 1) ≡ Less
 nil_first b = grind (arith, nat_tests)
 
+-- each value stands above the end of a label
 nil_last : (a : ℕ) → nat_cmp (a + 1) 0 ≡ Greater
 nil_last a = grind (arith, nat_tests)
 
+-- values compare as they do when each is one more
 raised : (a b : ℕ) → nat_cmp (a + 1) (b + 1) ≡ nat_cmp a b
 raised a b = grind (arith, nat_tests)
 
@@ -34,6 +38,7 @@ labels-decide (x ∷ xs) (y ∷ ys) us vs =
 label_first : (label rest : List ℕ) → (map (λ v. v + 1) label ++ 0 ∷ []) ++ rest ≡ map (λ v. v + 1) label ++ 0 ∷ rest
 label_first label rest = append_assoc (map (λ v. v + 1) label) (0 ∷ []) rest
 
+-- the comparison of all numbers, part by part
 pub entries-compare : (e f : BucketEntry) → slice_cmp nat_cmp (entry_numbers e) (entry_numbers f) ≡ ordering_then (ordering_then (nat_cmp e.pair.query f.pair.query) (slice_cmp nat_cmp e.pair.label f.pair.label)) (slice_cmp nat_cmp (numbers e.packet) (numbers f.packet))
 entries-compare e f =
     (λ i. ordering_then (nat_cmp e.pair.query f.pair.query) (slice_cmp nat_cmp (label_first e.pair.label (numbers e.packet) i) (label_first f.pair.label (numbers f.packet) i)))

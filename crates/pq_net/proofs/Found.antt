@@ -13,6 +13,7 @@ use Rattle.pq_net.specs.Network.{tables_in}
 use Rattle.pq_net.specs.Searches.{IsAt, IsNowhere}
 use Rattle.pq_net.proofs.Searched.{rises_above}
 
+-- the row that was found has the instances of its tag
 pub row_found : (rows : Report) (tag i : ℕ) (r : Row) → Ascends (map (λ row. row.tag) rows) → IsAt (λ row. row.tag) rows tag i → pairs_of rows tag ≡ (get_or rows i r).pairs
 row_found [] tag i r up at = grind (arith, at.0)
 row_found (row ∷ rows) tag zero r up at = grind (arith, nat_tests, at.1 row)
@@ -23,6 +24,7 @@ row_found (row ∷ rows) tag (suc i) r up at =
     let differs : row.tag < tag = omega (arith, above, at.1 row) in
     grind (arith, nat_tests, later, differs)
 
+-- where no row has the tag it has no instances
 pub row_absent : (rows : Report) (tag : ℕ) → IsNowhere (λ row. row.tag) rows tag → pairs_of rows tag ≡ []
 row_absent [] tag none = refl
 row_absent (row ∷ rows) tag none =
@@ -30,6 +32,7 @@ row_absent (row ∷ rows) tag none =
     let differs : row.tag ≢ tag = none 0 row (omega arith) in
     grind (arith, nat_tests, rest, differs)
 
+-- at the place of the switch that was found stand its tables
 pub switch_found : (ss : List Switch) (tables : List Tables) (d i : ℕ) (t : Tables) → Ascends (map (λ s. s.datapath) ss) → length tables ≡ length ss → IsAt (λ s. s.datapath) ss d i → tables_in ss tables d ≡ get_or tables i t
 switch_found [] tables d i t up listed at = grind (arith, at.0)
 switch_found (s ∷ ss) [] d i t up listed at = grind (arith, listed)
@@ -41,6 +44,7 @@ switch_found (s ∷ ss) (u ∷ tables) d (suc i) t up listed at =
     let differs : s.datapath < d = omega (arith, above, at.1 s) in
     grind (arith, nat_tests, later, differs)
 
+-- where no switch has the number its tables are empty
 pub switch_absent : (ss : List Switch) (tables : List Tables) (d : ℕ) → IsNowhere (λ s. s.datapath) ss d → tables_in ss tables d ≡ no_tables
 switch_absent [] tables d none = refl
 switch_absent (x ∷ ss) [] d none = refl

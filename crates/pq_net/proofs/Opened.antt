@@ -20,6 +20,7 @@ tables-messages (s ∷ ss) (ms ∷ lists) d = by (s.datapath == d) (tables-messa
     by true rest = refl
     by false rest = rest
 
+-- the opened network sends as its install says
 pub opened_sends : (i : Install) → sender_of (opened i) ≡ installed_sender i
 opened_sends i = λ j x. sends (tables-messages i.topology.switches i.messages x.packet.switch j) x
 
@@ -28,5 +29,6 @@ run-state : (n : Network) (events : List Event) → (after_all n events).state �
 run-state n [] = refl
 run-state n (e ∷ events) = run-state (after n e) events
 
+-- a run of the opened network is the run by the senders of its install
 pub opened_runs : (i : Install) (events : List Event) → (after_all (opened i) events).state ≡ run_sending i.topology i.report (installed_sender i) nothing_sent events
 opened_runs i events = run-state (opened i) events ∙ ap (λ send. run_sending i.topology i.report send nothing_sent events) (opened_sends i)

@@ -1,7 +1,6 @@
 -- What one hop adds, copy by copy.
-use Rattle.std.specs.Prelude.{List, [], ◌∷◌, ◌++◌, if◌then◌else◌}
+use Rattle.std.specs.Prelude.{ℕ, List, [], ◌∷◌, ◌++◌, if◌then◌else◌}
 use Rattle.std.specs.List.{remove}
-use Rattle.std.specs.Prelude.{ℕ}
 use Rattle.pq_model.specs.declared.tagged.Sent.{Sent}
 use Rattle.pq_model.specs.declared.tagged.Sent.TheVariants.{Port, Controller}
 use Rattle.pq_model.specs.Tagged.{TaggedPacket}

@@ -14,6 +14,7 @@ pub record Network : Type 0 where
   pub tables : List Tables
   pub state : TablesState
 
+-- the same, in a list of switches and the list of their tables
 abbrev pub tables_in : List Switch → List Tables → ℕ → Tables
 tables_in [] tables d = no_tables
 tables_in (s ∷ ss) [] d = no_tables

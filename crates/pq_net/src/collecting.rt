@@ -35,7 +35,8 @@ fn add_entries(
     packet: Packet,
     entries: &mut Vec<Entry>,
 ) -> Result<(), AllocError>
-    ensures { OnOk result (entries.new.items ≡ entries.old.items ++ map (λ i. record { pair = i; packet = packet }) pairs.now) }
+    ensures { OnOk result (entries.new.items
+        ≡ entries.old.items ++ map (λ i. record { pair = i; packet = packet }) pairs.now) }
 {
     for pair in pairs {
         let pair = same_pair(alloc, pair)?;

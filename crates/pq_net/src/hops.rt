@@ -13,7 +13,7 @@ use pq_model::{Sent, Tagged};
 use std::alloc::{AllocError, Global};
 
 /// What the copies of one hop put in flight, deliver and put into buckets.
-pub(crate) fn added(
+pub(crate) fn additions(
     alloc: Global,
     wiring: &Wiring,
     report: &[ReportRow],

@@ -8,5 +8,6 @@ ghost use Rattle.pq_net.specs.Network.{after_all, installed_sender, opened, send
 /// ones, and after a schedule the network's state is the one that these ways of sending lead to.
 pub fn opened_networks_send_by_their_messages()
     ensures sender { (i : Install) → sender_of (opened i) ≡ installed_sender i }
-    ensures state { (i : Install) (events : List Event) → (after_all (opened i) events).state ≡ run_sending i.topology i.report (installed_sender i) nothing_sent events }
+    ensures state { (i : Install) (events : List Event) → (after_all (opened i) events).state
+        ≡ run_sending i.topology i.report (installed_sender i) nothing_sent events }
 {}

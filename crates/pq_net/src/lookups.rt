@@ -29,7 +29,8 @@ pub(crate) fn pairs_of(report: &[ReportRow], tag: u16) -> &[Instance]
 // Where the row with this tag stands.
 fn row_at(report: &[ReportRow], tag: u16) -> Option<usize>
     requires { Ascends (map (λ row. row.tag) report.now) }
-    ensures { MatchOption result (IsNowhere (λ row. row.tag) report.now tag) (IsAt (λ row. row.tag) report.now tag) }
+    ensures { MatchOption result (IsNowhere (λ row. row.tag) report.now tag)
+        (IsAt (λ row. row.tag) report.now tag) }
 {
     report
         .binary_search_by_key(
@@ -42,14 +43,15 @@ fn row_at(report: &[ReportRow], tag: u16) -> Option<usize>
 }
 
 /// The copies that the packet's switch sends for it; none where there is no such switch.
-pub(crate) fn sent(
+pub(crate) fn copies_of(
     alloc: Global,
     wiring: &Wiring,
     tables: &[Tables],
     x: &Tagged,
 ) -> Result<Vec<Sent>, AllocError>
     requires { length tables.now ≡ length wiring.now.switches }
-    ensures { IfOk result (λ sent. sent.items ≡ sends (tables_in wiring.now.switches tables.now x.now.packet.switch) x.now) }
+    ensures { let own = tables_in wiring.now.switches tables.now x.now.packet.switch in
+        IfOk result (λ sent. sent.items ≡ sends own x.now) }
 {
     match switch_at(wiring, x.packet.switch) {
         Some(index) => hop(alloc, &tables[index], x),
@@ -60,7 +62,8 @@ pub(crate) fn sent(
 // Where the switch with this datapath number stands.
 fn switch_at(wiring: &Wiring, datapath: u64) -> Option<usize>
     ensures ascending { Ascends (map (λ s. s.datapath) wiring.now.switches) }
-    ensures place { MatchOption result (IsNowhere (λ s. s.datapath) wiring.now.switches datapath) (IsAt (λ s. s.datapath) wiring.now.switches datapath) }
+    ensures place { MatchOption result (IsNowhere (λ s. s.datapath) wiring.now.switches datapath)
+        (IsAt (λ s. s.datapath) wiring.now.switches datapath) }
 {
     wiring
         .switches()

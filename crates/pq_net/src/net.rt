@@ -5,8 +5,8 @@ ghost use Rattle.pq_model.specs.TablesMachine.{hops_sending, injects_sending};
 ghost use Rattle.pq_net.specs.Network.{after, opened, sender_of};
 
 use crate::entry::Entry;
-use crate::hops::{added, port_of};
-use crate::lookups::sent;
+use crate::hops::{additions, port_of};
+use crate::lookups::copies_of;
 use crate::opening::all_tables;
 use crate::state::State;
 use crate::wiring::Wiring;
@@ -41,7 +41,20 @@ impl Model for Net {
 
     ghost Value = { Network };
 
-    ghost coded = { code_by (TopologyValue × (List (List ℕ) × (Report × (List TablesValue × TablesState)))) (coded× wirings.the_row.coded (coded× (coded_list (coded_list coded_ℕ)) (coded× (coded_list rows.the_row.coded) (coded× (coded_list switches.the_row.coded) states.the_row.coded)))) (λ n. (n.topology, (n.queries, (n.report, (n.tables, n.state))))) (λ p. record { topology = p.0; queries = p.1.0; report = p.1.1.0; tables = p.1.1.1.0; state = p.1.1.1.1 }) (λ _. refl) };
+    ghost coded = { code_by
+        (TopologyValue × (List (List ℕ) × (Report × (List TablesValue × TablesState))))
+        (coded× wirings.the_row.coded (coded× (coded_list (coded_list coded_ℕ))
+        (coded× (coded_list rows.the_row.coded)
+        (coded× (coded_list switches.the_row.coded) states.the_row.coded))))
+        (λ n. (n.topology, (n.queries, (n.report, (n.tables, n.state)))))
+        (λ p. record {
+          topology = p.0;
+          queries = p.1.0;
+          report = p.1.1.0;
+          tables = p.1.1.1.0;
+          state = p.1.1.1.1;
+        })
+        (λ _. refl) };
 
     ghost use Rattle.pq_net.specs.Stored.{stored_network, IsSearchable};
 
@@ -113,7 +126,8 @@ impl Net {
     }
 
     fn inject(&mut self, x: Tagged) -> Result<(), AllocError>
-        ensures ok { OnOk result (self.new ≡ record self.old { state = injects_sending self.old.topology self.old.state x }) }
+        ensures ok { OnOk result (self.new
+            ≡ record self.old { state = injects_sending self.old.topology self.old.state x }) }
         ensures err { OnErr result (self.new ≡ self.old) }
     {
         if !self.wiring.is_edge(x.packet.switch, port_of(x.packet)) {
@@ -124,20 +138,25 @@ impl Net {
     }
 
     fn hop(&mut self, alloc: Global, place: u64) -> Result<(), AllocError>
-        ensures ok { OnOk result (self.new ≡ record self.old { state = hops_sending self.old.topology self.old.report (sender_of self.old) self.old.state place (slice_get self.old.state.flight place) }) }
+        ensures ok { let moving = slice_get self.old.state.flight place in
+            let send = sender_of self.old in
+            OnOk result (self.new ≡ record self.old {
+              state = hops_sending self.old.topology self.old.report send self.old.state place moving;
+            }) }
         ensures err { OnErr result (self.new ≡ self.old) }
     {
         let place = place as usize;
         let Some(x) = self.state.flight.get(place) else {
             return Ok(());
         };
-        let sent = sent(alloc, &self.wiring, &self.tables, x)?;
-        let added = added(alloc, &self.wiring, &self.report, &sent)?;
+        let sent = copies_of(alloc, &self.wiring, &self.tables, x)?;
+        let added = additions(alloc, &self.wiring, &self.report, &sent)?;
         self.state.move_on(place, added)
     }
 
     fn lose(&mut self, place: u64)
-        ensures { self.new ≡ record self.old { state = record self.old.state { flight = remove self.old.state.flight place } } }
+        ensures { let left = remove self.old.state.flight place in
+            self.new ≡ record self.old { state = record self.old.state { flight = left } } }
     {
         let place = place as usize;
         if place >= self.state.flight.len() {

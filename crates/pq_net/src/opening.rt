@@ -10,7 +10,8 @@ use std::alloc::{AllocError, Global};
 /// The tables that each switch's messages leave in empty ones.
 pub(crate) fn all_tables(alloc: Global, lists: &[Vec<Message>]) -> Result<Vec<Tables>, AllocError>
     requires { All IsLawfulList (map (λ ms. ms.items) lists.now) }
-    ensures { IfOk result (λ tables. tables.items ≡ map (applies_all no_tables) (map (λ ms. ms.items) lists.now)) }
+    ensures { IfOk result (λ tables. tables.items
+        ≡ map (applies_all no_tables) (map (λ ms. ms.items) lists.now)) }
 {
     let mut tables = Vec::new(alloc);
     for messages in lists {

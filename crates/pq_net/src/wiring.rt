@@ -33,7 +33,7 @@ impl Wiring {
     pub(crate) fn of(alloc: Global, topology: Topology) -> Result<Wiring, AllocError>
         ensures { IfOk result (λ wiring. wiring ≡ topology) }
     {
-        let peers = indexed(alloc, topology.links())?;
+        let peers = peers_of(alloc, topology.links())?;
         Ok(Wiring { topology, peers })
     }
 
@@ -68,7 +68,7 @@ fn is_port(topology: &Topology, datapath: u64, port: u32) -> bool
 }
 
 // The other end of each end of a link.
-fn indexed(alloc: Global, links: &[Link]) -> Result<HashMap<(u64, u32), (u64, u32)>, AllocError>
+fn peers_of(alloc: Global, links: &[Link]) -> Result<HashMap<(u64, u32), (u64, u32)>, AllocError>
     ensures { IfOk result (λ peers. (e : ℕ × ℕ) → get same_end peers e ≡ peer_in links.now e.0 e.1) }
 {
     let mut peers = HashMap::new(alloc);

@@ -3,7 +3,7 @@ use Rattle.pq_model.specs.Buckets.{entry_numbers}
 use Rattle.pq_model.specs.Sorting.{sort_by}
 use Rattle.pq_net.specs.Hops.{carries, delivers, collects}
 use Rattle.pq_net.proofs.Copies.{carries-all, delivers-all, collects-all, none_left}
-use Rattle.pq_net.proofs.hops.added.Goals as goal
+use Rattle.pq_net.proofs.hops.additions.Goals as goal
 
 pub returns : goal.returns
 returns c =

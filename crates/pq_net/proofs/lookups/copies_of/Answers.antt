@@ -1,7 +1,7 @@
 use Rattle.std.proofs.Common.{ap, sym, ◌∙◌}
 use Rattle.pq_model.specs.SwitchMachine.{sends}
 use Rattle.pq_net.proofs.Found.{switch_found, switch_absent, none_sent}
-use Rattle.pq_net.proofs.lookups.sent.Goals as goal
+use Rattle.pq_net.proofs.lookups.copies_of.Goals as goal
 
 -- the switch that was found sends by its tables
 pub returns-in-Some : goal.returns-in-Some

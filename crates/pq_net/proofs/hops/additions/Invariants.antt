@@ -1,7 +1,7 @@
 use Rattle.std.proofs.Common.{◌≡◌, ◌++◌, drop}
 use Rattle.std.specs.List.{flat_map}
 use Rattle.pq_net.specs.Hops.{carries, delivers, collects}
-use Rattle.pq_net.proofs.hops.added.Given as goal
+use Rattle.pq_net.proofs.hops.additions.Given as goal
 
 -- what the copies so far add, with what those left add, is what all add
 abbrev pub invariant-loop-copy : goal.invariant-loop-copy

@@ -2,7 +2,7 @@ use Rattle.std.proofs.Common.{◌≡◌, ◌≤◌, ℕ, length, drop}
 use Rattle.std.specs.HashMap.{get}
 use Rattle.pq_model.specs.Topology.{peer_in}
 use Rattle.pq_net.specs.Wired.{same_end}
-use Rattle.pq_net.proofs.wiring.indexed.Given as goal
+use Rattle.pq_net.proofs.wiring.peers_of.Given as goal
 
 -- the ends of the links from the index on are put
 abbrev pub invariant-loop-index : goal.invariant-loop-index
