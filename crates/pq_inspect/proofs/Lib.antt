@@ -1,4 +1,5 @@
 pub mod Names
 pub mod Lists
 pub mod Floats
+pub mod Linked
 pub mod Worked

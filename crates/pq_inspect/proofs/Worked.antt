@@ -3,13 +3,11 @@ use Rattle.std.specs.Prelude.{◌≡◌, [], ◌∷◌, codes}
 use Rattle.std.specs.Fmt.{digits}
 use Rattle.std.proofs.Common.{refl}
 use Rattle.serde_json.proofs.OnLiterals.{serde_json_on_literals}
-use Rattle.pq_model.specs.declared.action.Action.TheVariants.{Output, PopVlan}
-use Rattle.pq_model.specs.declared.group_mod.GroupCommand.TheVariants.{Add as AddGroup}
-use Rattle.pq_model.specs.declared.message.Message.TheVariants.{Group, Barrier}
 use Rattle.pq_model.specs.Spelling.{match_bytes, match_oxms, action_bytes, apply_bytes, goto_bytes, bucket_bytes, flow_body, group_body, with_header, message_bytes}
 use Rattle.pq_model.specs.Install.{Install}
 use Rattle.pq_model.proofs.Examples.{tiny_old}
 use Rattle.pq_inspect.specs.Inspection.{inspection, inspection_text}
+use Rattle.pq_inspect.proofs.Linked.{linked}
 
 -- nothing at all
 abbrev nothing : Install
@@ -24,18 +22,7 @@ tiny_old-inspected : inspection_text tiny_old ≡ codes "{\"links\":[],\"queries
 unfolding inspection serde_json_on_literals digits message_bytes with_header flow_body group_body bucket_bytes match_bytes match_oxms action_bytes apply_bytes goto_bytes
 tiny_old-inspected = refl
 
--- two linked switches, the second with the highest datapath number and a group of two buckets, and two queries
-abbrev linked : Install
-linked = record {
-  topology = record {
-    switches = record { name = codes "s1"; datapath = 1; ports = 1 ∷ 2 ∷ []; limit = 2000 } ∷ record { name = codes "s2"; datapath = 18446744073709551615; ports = 1 ∷ []; limit = 2000 } ∷ [];
-    links = record { first = (1, 2); second = (18446744073709551615, 1) } ∷ [];
-  };
-  queries = codes "q1" ∷ codes "to_east" ∷ [];
-  report = record { tag = 7; pairs = record { query = 0; label = 10 ∷ 18446744073709551615 ∷ [] } ∷ record { query = 1; label = [] } ∷ [] } ∷ [];
-  messages = (Barrier 3 ∷ []) ∷ (Group (record { xid = 4; command = AddGroup; group = 1; buckets = (PopVlan ∷ Output 2 ∷ []) ∷ (PopVlan ∷ Output 3 ∷ []) ∷ [] }) ∷ []) ∷ [];
-}
-
+-- with links, names and a report
 linked-inspected : inspection_text linked ≡ codes "{\"links\":[[1,2,18446744073709551615,1]],\"queries\":[\"q1\",\"to_east\"],\"report\":[{\"pairs\":[{\"label\":[10,18446744073709551615],\"query\":0},{\"label\":[],\"query\":1}],\"tag\":7}],\"switches\":[{\"datapath\":1,\"entries\":0,\"groups\":0,\"messages\":[\"0414000800000003\"],\"ports\":[1,2]},{\"datapath\":18446744073709551615,\"entries\":0,\"groups\":1,\"messages\":[\"040f006000000004000000000000000100280000ffffffffffffffff0000000000120008000000000000001000000002000000000000000000280000ffffffffffffffff00000000001200080000000000000010000000030000000000000000\"],\"ports\":[1]}]}\n"
 unfolding inspection serde_json_on_literals digits message_bytes with_header group_body bucket_bytes action_bytes
 linked-inspected = refl

@@ -8,6 +8,8 @@ mod numbers;
 mod report;
 mod shown;
 mod switch;
+#[cfg(test)]
+mod tests;
 mod text;
 
 pub use inspection::inspect;
