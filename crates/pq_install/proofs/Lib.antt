@@ -10,3 +10,4 @@ pub mod SwitchLists
 pub mod Distinct
 pub mod LinkUnits
 pub mod LinkLists
+pub mod NameUnits

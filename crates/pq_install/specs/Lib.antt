@@ -3,3 +3,4 @@ pub mod Units
 pub mod Switches
 pub mod Following
 pub mod Links
+pub mod Names

@@ -1,3 +1,4 @@
 pub mod front;
 pub mod links;
+pub mod names;
 pub mod switches;
