@@ -11,3 +11,6 @@ pub mod Distinct
 pub mod LinkUnits
 pub mod LinkLists
 pub mod NameUnits
+pub mod RowUnits
+pub mod LabelOrder
+pub mod RowLists

@@ -4,3 +4,4 @@ pub mod Switches
 pub mod Following
 pub mod Links
 pub mod Names
+pub mod Rows

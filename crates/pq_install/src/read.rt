@@ -1,4 +1,5 @@
 pub mod front;
 pub mod links;
 pub mod names;
+pub mod report;
 pub mod switches;
