@@ -14,3 +14,5 @@ pub mod NameUnits
 pub mod RowUnits
 pub mod LabelOrder
 pub mod RowLists
+pub mod Parts
+pub mod NamedSwitches

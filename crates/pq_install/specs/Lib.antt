@@ -5,3 +5,4 @@ pub mod Following
 pub mod Links
 pub mod Names
 pub mod Rows
+pub mod Damage
