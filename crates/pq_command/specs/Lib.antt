@@ -1,3 +1,4 @@
+pub mod Compiled
 pub mod Outcomes
 pub mod Reading
 pub mod Words

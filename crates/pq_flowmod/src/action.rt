@@ -7,13 +7,16 @@ use crate::set_field::{write_set_field, write_set_vlan};
 use pq_model::Action;
 use std::alloc::{AllocError, Global};
 
-// The action types (OpenFlow 1.3.5, section 7.2.5).
+// The type of an action that sends to a port (OpenFlow 1.3.5, section 7.2.5).
 const OUTPUT: u8 = 0;
 
+// The type of an action that puts a VLAN header in front.
 const PUSH_VLAN: u8 = 17;
 
+// The type of an action that takes the VLAN header away.
 const POP_VLAN: u8 = 18;
 
+// The type of an action that runs a group.
 const GROUP: u8 = 22;
 
 // The port number that stands for the controller (OpenFlow 1.3.5, section 7.2.1).
@@ -26,6 +29,7 @@ fn max_len(port: u32) -> u16
     if port == CONTROLLER { 0xffff } else { 0 }
 }
 
+// An Output: the port and how many bytes of the packet go to the controller.
 #[tactic(auto, unfolding(pq_model::specs::Spelling::action_bytes))]
 fn write_output(port: u32, into: &mut Vec<u8>) -> Result<(), AllocError>
     ensures { OnOk result (into.new.items ≡ into.old.items ++ action_bytes (Output port)) }
@@ -36,6 +40,7 @@ fn write_output(port: u32, into: &mut Vec<u8>) -> Result<(), AllocError>
     into.extend_from_slice(&[0; 6])
 }
 
+// A Group: the group's number.
 #[tactic(auto, unfolding(pq_model::specs::Spelling::action_bytes))]
 fn write_group(number: u32, into: &mut Vec<u8>) -> Result<(), AllocError>
     ensures { OnOk result (into.new.items ≡ into.old.items ++ action_bytes (Group number)) }
@@ -44,6 +49,7 @@ fn write_group(number: u32, into: &mut Vec<u8>) -> Result<(), AllocError>
     into.extend_from_slice(&number.to_be_bytes())
 }
 
+// An action with its type and its length.
 #[tactic(auto, unfolding(pq_model::specs::Spelling::action_bytes))]
 fn write_action(action: Action, into: &mut Vec<u8>) -> Result<(), AllocError>
     requires { IsLawfulAction action }

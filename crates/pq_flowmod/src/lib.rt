@@ -3,10 +3,18 @@
 #![tactic(auto)]
 
 mod action;
+mod action_reading;
 mod flow;
 mod group;
+mod flow_reading;
+mod group_reading;
 mod message;
+mod reading;
+mod rules;
 mod set_field;
+#[cfg(test)]
+mod tests;
 
 pub use message::write_message;
+pub use reading::{MessageFault, no_message_begins_another, read_message};
 pub use pq_model::{Action, FlowCommand, FlowMod, GroupCommand, GroupMod, Message};

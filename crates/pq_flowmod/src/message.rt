@@ -1,5 +1,5 @@
 ghost use Rattle.std.specs.Prelude.{◌≡◌, ◌++◌, IfOk, OnOk, OnErr};
-ghost use Rattle.pq_model.specs.Lawful.{IsLawfulMessage};
+ghost use Rattle.pq_model.specs.Lawful.{IsLawfulContent, IsLawfulMessage};
 ghost use Rattle.pq_model.specs.Spelling.{message_bytes, with_header};
 
 use crate::flow::flow_body;
@@ -8,14 +8,17 @@ use pq_model::Message;
 use pq_oxm::write_length;
 use std::alloc::{AllocError, Global};
 
-// The version of OpenFlow 1.3, and message types (OpenFlow 1.3.5, section 7.1).
+// The version of OpenFlow 1.3 (OpenFlow 1.3.5, section 7.1).
 const VERSION: u8 = 0x04;
 
-const FLOW_MOD: u8 = 14;
+/// The type of a message that changes flow entries.
+pub const FLOW_MOD: u8 = 14;
 
-const GROUP_MOD: u8 = 15;
+/// The type of a message that changes a group.
+pub const GROUP_MOD: u8 = 15;
 
-const BARRIER_REQUEST: u8 = 20;
+/// The type of a message that keeps what comes before it from what comes after.
+pub const BARRIER_REQUEST: u8 = 20;
 
 // A message with its header: version, type, length of the whole message, and transaction id.
 #[tactic(auto, unfolding(pq_model::specs::Spelling::with_header))]
@@ -30,10 +33,11 @@ fn with_header(alloc: Global, kind: u8, xid: u32, body: &[u8]) -> Result<Vec<u8>
     Ok(bytes)
 }
 
-// The message in a vector of its own.
+/// The spelling of a message in a vector of its own. Of a message that is too long for its header, the
+/// header states the lower two bytes of the length.
 #[tactic(auto, unfolding(pq_model::specs::Spelling::message_bytes))]
-fn spelling(alloc: Global, value: &Message) -> Result<Vec<u8>, AllocError>
-    requires { IsLawfulMessage value.now }
+pub fn spelling(alloc: Global, value: &Message) -> Result<Vec<u8>, AllocError>
+    requires { IsLawfulContent value.now }
     ensures { IfOk result (λ bytes. bytes.items ≡ message_bytes value.now) }
 {
     match value {

@@ -1,8 +1,6 @@
 -- Messages on entries that leave the same tables in either order.
-use Rattle.std.proofs.Common.{◌≡◌, ◌≢◌, ℕ, Bool, true, false, cond, not, List, [], ◌∷◌, ◌++◌, ◌&&◌, ◌==◌, if◌then◌else◌, filter, refl, sym, ap, subst, subst₂, ◌∙◌, append_assoc, arith}
-use Rattle.std.proofs.Math.Bool.{and_comm}
+use Rattle.std.proofs.Common.{◌≡◌, ◌≢◌, ℕ, Bool, true, false, not, List, [], ◌∷◌, ◌++◌, ◌&&◌, ◌==◌, if◌then◌else◌, filter, refl, sym, ap, subst₂, ◌∙◌, append_assoc, arith}
 use Rattle.std.proofs.lemmas.Bool.Decides.{nat_tests}
-use Rattle.std.proofs.lemmas.List.Elements.{filter-append}
 use Rattle.std.specs.List.{list_all, list_any}
 use Rattle.std.specs.FinMap.{contains_key, insert}
 use Rattle.std.specs.declared.option.Option.{Option}
@@ -18,7 +16,7 @@ use Rattle.pq_model.specs.Mods.{FlowValue, GroupValue}
 use Rattle.pq_model.specs.SwitchMachine.{Entry, Groups, Tables, entry_of, is_placed, groups_named, is_removed, removed_from, changes_entries, changes_groups, applies}
 use Rattle.pq_model.specs.Orders.{IsReordering, AreSame, Commute}
 use Rattle.pq_model.proofs.Filters.{filter-exchange, filter-end, filter-none}
-use Rattle.pq_model.proofs.Reorderings.{reordering-refl, reordering-exchange}
+use Rattle.pq_model.proofs.Reorderings.{reordering-exchange}
 use Rattle.pq_model.proofs.SameTables.{same-refl, same-sym, same-equal}
 
 pub commute-sym : (m n : Message) → Commute m n → Commute n m
@@ -44,12 +42,12 @@ same_match-comm : (m n : MatchFields) → same_match m n ≡ same_match n m
 unfolding same_match
 same_match-comm m n i =
     same_number-comm m.in_port n.in_port i && same_number-comm m.vlan n.vlan i
-      && same_number-comm m.eth_type n.eth_type i && same_number-comm m.ip_proto n.ip_proto i
-      && same_number-comm m.eth_src n.eth_src i && same_number-comm m.eth_dst n.eth_dst i
-      && same_masked-comm m.ipv4_src n.ipv4_src i && same_masked-comm m.ipv4_dst n.ipv4_dst i
-      && same_number-comm m.tcp_src n.tcp_src i && same_number-comm m.tcp_dst n.tcp_dst i
-      && same_number-comm m.udp_src n.udp_src i && same_number-comm m.udp_dst n.udp_dst i
-      && same_masked-comm m.ipv6_src n.ipv6_src i && same_masked-comm m.ipv6_dst n.ipv6_dst i
+    && same_number-comm m.eth_type n.eth_type i && same_number-comm m.ip_proto n.ip_proto i
+    && same_number-comm m.eth_src n.eth_src i && same_number-comm m.eth_dst n.eth_dst i
+    && same_masked-comm m.ipv4_src n.ipv4_src i && same_masked-comm m.ipv4_dst n.ipv4_dst i
+    && same_number-comm m.tcp_src n.tcp_src i && same_number-comm m.tcp_dst n.tcp_dst i
+    && same_number-comm m.udp_src n.udp_src i && same_number-comm m.udp_dst n.udp_dst i
+    && same_masked-comm m.ipv6_src n.ipv6_src i && same_masked-comm m.ipv6_dst n.ipv6_dst i
 
 equal-comm : (a b : ℕ) → (a == b) ≡ (b == a)
 equal-comm a b = grind (arith, nat_tests)
@@ -69,15 +67,15 @@ added-both : (f g : FlowValue) (xs : List Entry) → is_placed g (entry_of f) �
     filter (stays g) (filter (stays f) xs ++ entry_of f ∷ []) ++ entry_of g ∷ [] ≡ filter (stays g) (filter (stays f) xs) ++ entry_of f ∷ entry_of g ∷ []
 added-both f g xs h =
     ap (λ l. l ++ entry_of g ∷ []) (filter-end (stays g) (filter (stays f) xs) (entry_of f) (ap not h))
-      ∙ append_assoc (filter (stays g) (filter (stays f) xs)) (entry_of f ∷ []) (entry_of g ∷ [])
+    ∙ append_assoc (filter (stays g) (filter (stays f) xs)) (entry_of f ∷ []) (entry_of g ∷ [])
 
 added-exchange : (a b : Bool) (f g : FlowValue) → is_placed f (entry_of g) ≡ false → (t : Tables) → AreSame (added b g (added a f t)) (added a f (added b g t))
 added-exchange true true f g h t = record {
-    entries = subst₂ IsReordering (sym (added-both f g t.entries (sym (is_placed-comm f g) ∙ h)))
+  entries = subst₂ IsReordering (sym (added-both f g t.entries (sym (is_placed-comm f g) ∙ h)))
       (ap (λ l. l ++ entry_of g ∷ entry_of f ∷ []) (filter-exchange (stays g) (stays f) t.entries) ∙ sym (added-both g f t.entries h))
       (reordering-exchange (filter (stays g) (filter (stays f) t.entries)) (entry_of f) (entry_of g));
-    groups = refl
-  }
+  groups = refl;
+}
 added-exchange true false f g h t = same-refl (added true f t)
 added-exchange false true f g h t = same-refl (added true g t)
 added-exchange false false f g h t = same-refl t
@@ -91,8 +89,8 @@ adds-exchange f g h t =
     let a = has_named f t.groups in
     let b = has_named g t.groups in
     subst₂ (λ c d. AreSame (added d g (added a f t)) (added c f (added b g t)))
-      (ap (has_named f) (sym (added-groups b g t))) (ap (has_named g) (sym (added-groups a f t)))
-      (added-exchange a b f g h t)
+    (ap (has_named f) (sym (added-groups b g t))) (ap (has_named g) (sym (added-groups a f t)))
+    (added-exchange a b f g h t)
 
 pub add-add : (f g : FlowValue) → f.command ≡ Add → g.command ≡ Add → is_placed f (entry_of g) ≡ false → Commute (Flow f) (Flow g)
 add-add f g isf isg h t = subst₂ (λ c d. AreSame (changes_entries d g (changes_entries c f t)) (changes_entries c f (changes_entries d g t))) (sym isf) (sym isg) (adds-exchange f g h t)
@@ -116,6 +114,7 @@ delete-delete f g isf isg t = same-equal _ _ (both f g isf isg ∙ exchanged ∙
   where
     both : (d e : FlowValue) → d.command ≢ Add → e.command ≢ Add → changes_entries e.command e (changes_entries d.command d t) ≡ with_left (is_left e.command e) (with_left (is_left d.command d) t)
     both d e isd ise = ap (changes_entries e.command e) (deletes d.command d t isd) ∙ deletes e.command e (with_left (is_left d.command d) t) ise
+
     exchanged : with_left (is_left g.command g) (with_left (is_left f.command f) t) ≡ with_left (is_left f.command f) (with_left (is_left g.command g) t)
     exchanged = λ i. record t { entries = filter-exchange (is_left g.command g) (is_left f.command f) t.entries i }
 

@@ -1,11 +1,11 @@
 -- Messages on groups that leave the same tables in either order.
-use Rattle.std.proofs.Common.{◌≡◌, ◌≢◌, ℕ, Bool, true, false, cond, not, List, [], ◌∷◌, ◌&&◌, ◌||◌, ◌==◌, if◌then◌else◌, filter, refl, sym, ap, subst, subst₂, ◌∙◌, arith, nat_cmp, is_some}
+use Rattle.std.proofs.Common.{◌≡◌, ◌≢◌, ℕ, Bool, true, false, cond, not, List, [], ◌∷◌, ◌&&◌, ◌||◌, ◌==◌, if◌then◌else◌, filter, refl, sym, ap, ◌∙◌, arith, nat_cmp, is_some}
 use Rattle.std.proofs.Math.Bool.{or_comm}
 use Rattle.std.proofs.lemmas.Bool.Decides.{nat_tests}
 use Rattle.std.specs.declared.option.Option.{Option}
 use Rattle.std.specs.declared.option.Option.TheVariants.{None, Some}
 use Rattle.std.specs.List.{list_any}
-use Rattle.std.specs.FinMap.{FinMap, contains_key, get, insert, remove, get-empty, get-insert, get-remove, same_map, nat_cmp-IsAntisymmetric}
+use Rattle.std.specs.FinMap.{contains_key, get, insert, remove, get-empty, get-insert, get-remove, same_map, nat_cmp-IsAntisymmetric}
 use Rattle.std.specs.Cmp.{nat_cmp_total, unsigned_tied}
 use Rattle.pq_model.specs.declared.action.Action.{Action}
 use Rattle.pq_model.specs.declared.group_mod.GroupCommand.{GroupCommand}
@@ -13,9 +13,8 @@ use Rattle.pq_model.specs.declared.group_mod.GroupCommand.TheVariants.{Add, Modi
 use Rattle.pq_model.specs.declared.message.Message.TheVariants.{Group}
 use Rattle.pq_model.specs.Mods.{GroupValue}
 use Rattle.pq_model.specs.SwitchMachine.{Entry, Groups, Tables, all_groups, groups_named, is_removed, removed_from, no_groups, changes_groups}
-use Rattle.pq_model.specs.Orders.{IsReordering, AreSame, Commute}
-use Rattle.pq_model.proofs.Reorderings.{reordering-refl}
-use Rattle.pq_model.proofs.SameTables.{same-refl, same-equal}
+use Rattle.pq_model.specs.Orders.{Commute}
+use Rattle.pq_model.proofs.SameTables.{same-equal}
 use Rattle.pq_model.proofs.Filters.{filter-filter}
 
 get-put : (groups : Groups) (k q : ℕ) (v : List (List Action)) → get (insert groups k v) q ≡ cond (q == k) (Some v) (get groups q)
@@ -64,8 +63,8 @@ put_both : (f g : GroupValue) → f.command ≢ Delete → g.command ≢ Delete 
     changes_groups g.command g (changes_groups f.command f t) ≡ put (puts_into g t) g (put (puts_into f t) f t)
 put_both f g isf isg apart t =
     ap (changes_groups g.command g) (puts-is f.command f t isf)
-      ∙ puts-is g.command g (put (puts_into f t) f t) isg
-      ∙ ap (λ has. put (puts g.command has) g (put (puts_into f t) f t)) (put-has (puts_into f t) f t g.group apart)
+    ∙ puts-is g.command g (put (puts_into f t) f t) isg
+    ∙ ap (λ has. put (puts g.command has) g (put (puts_into f t) f t)) (put-has (puts_into f t) f t g.group apart)
 
 pub put-put : (f g : GroupValue) → f.command ≢ Delete → g.command ≢ Delete → f.group ≢ g.group → Commute (Group f) (Group g)
 put-put f g isf isg apart t = same-equal _ _
@@ -93,6 +92,7 @@ removed-exchange groups j k = same_map nat_cmp_total nat_cmp-IsAntisymmetric _ _
   where
     twice : (a b q : ℕ) → get (removed_from (removed_from groups a) b) q ≡ (if is_hit b q then None else if is_hit a q then None else get groups q)
     twice a b q = get-removed (removed_from groups a) b q ∙ ap (λ o. if is_hit b q then None else o) (get-removed groups a q)
+
     at : (q : ℕ) → get (removed_from (removed_from groups j) k) q ≡ get (removed_from (removed_from groups k) j) q
     at q = twice j k q ∙ nothing-exchange (is_hit j q) (is_hit k q) (get groups q) ∙ sym (twice k j q)
 

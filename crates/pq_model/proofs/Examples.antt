@@ -31,21 +31,25 @@ pair_topology = record { switches = record { name = codes "s1"; datapath = 1; po
 
 abbrev pub tiny_old : Install
 tiny_old = record {
-    topology = pair_topology; queries = []; report = [];
-    messages = (delete_entries ∷ delete_groups ∷ Barrier 3 ∷ Barrier 4
-      ∷ add 5 0 65535 (at_tag (Some 1) 0) (Output 2 ∷ []) None ∷ add 6 0 65534 (at_tag None 0) [] None ∷ Barrier 7 ∷ []) ∷ []
-  }
+  topology = pair_topology;
+  queries = [];
+  report = [];
+  messages = (delete_entries ∷ delete_groups ∷ Barrier 3 ∷ Barrier 4
+      ∷ add 5 0 65535 (at_tag (Some 1) 0) (Output 2 ∷ []) None ∷ add 6 0 65534 (at_tag None 0) [] None ∷ Barrier 7 ∷ []) ∷ [];
+}
 
 abbrev pub tiny : Install
 tiny = record {
-    topology = pair_topology; queries = []; report = [];
-    messages = (delete_entries ∷ delete_groups ∷ Barrier 3 ∷ Barrier 4
+  topology = pair_topology;
+  queries = [];
+  report = [];
+  messages = (delete_entries ∷ delete_groups ∷ Barrier 3 ∷ Barrier 4
       ∷ add 5 0 65535 (at_tag (Some 1) 0) (PushVlan ∷ SetVlan 0x1002 ∷ []) (Some 1)
       ∷ add 6 0 65534 (at_tag (Some 2) 0) (PushVlan ∷ SetVlan 0x1002 ∷ []) (Some 1)
       ∷ add 7 0 65533 (at_tag None 0) [] None
       ∷ add 8 1 65535 (at_tag (Some 1) 0x1002) (PopVlan ∷ Output 2 ∷ []) None
-      ∷ add 9 1 65534 (at_tag None 0x1002) [] None ∷ Barrier 10 ∷ []) ∷ []
-  }
+      ∷ add 9 1 65534 (at_tag None 0x1002) [] None ∷ Barrier 10 ∷ []) ∷ [];
+}
 
 -- switches with ports 1 and 2
 abbrev pub two_ports : List ℕ → ℕ → Switch

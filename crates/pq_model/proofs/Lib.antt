@@ -2,9 +2,11 @@ pub mod CommutingFlows
 pub mod CommutingGroups
 pub mod Examples
 pub mod Filters
+pub mod FreeOfOrder
 pub mod LawfulOrders
 pub mod Pairs
 pub mod Reorderings
+pub mod Renewals
 pub mod SameTables
 pub mod Schedules
 pub mod Sending

@@ -123,6 +123,10 @@ module _ {A : Type 0} where
     all-rest x [] back (here, rest) = rest
     all-rest x (f ∷ front) back (first, rest) = (first, all-rest x front back rest)
 
+    pub all-at : (x : A) (front back : List A) → AllByRecursion P (front ++ x ∷ back) → P x
+    all-at x [] back (here, rest) = here
+    all-at x (f ∷ front) back (first, rest) = all-at x front back rest
+
     pub all-front : (front back : List A) → AllByRecursion P (front ++ back) → AllByRecursion P front
     all-front [] back all = tt
     all-front (f ∷ front) back (first, rest) = (first, all-front front back rest)

@@ -31,7 +31,7 @@ hop_taken m report send Matches simulates s t c k i x matches =
     record {
       flight = Pairwise-append Matches _ _ _ _ (Pairwise-remove Matches s.flight t.flight k c.flight) agrees.flight;
       delivered = rw (c.delivered, agrees.delivered) (sym (map-append plain s.delivered (dropped_off m i)));
-      buckets = rw (c.buckets, agrees.buckets) refl
+      buckets = rw (c.buckets, agrees.buckets) refl;
     }
 
 -- the place is looked up on both sides at once
@@ -53,10 +53,10 @@ injected m report send Matches simulates s t c x fits = by (is_edge m.topology x
     by : (b : Bool) → is_edge m.topology x.packet.switch x.packet.port ≡ b
         → Corresponds Matches (if b then record s { flight = s.flight ++ entered_as x x.vlan ∷ [] } else s) (if b then record t { flight = t.flight ++ x ∷ [] } else t)
     by true edge = record {
-        flight = Pairwise-append Matches s.flight t.flight (entered_as x x.vlan ∷ []) (x ∷ []) c.flight (simulates.enters x fits edge, tt);
-        delivered = c.delivered;
-        buckets = c.buckets
-      }
+      flight = Pairwise-append Matches s.flight t.flight (entered_as x x.vlan ∷ []) (x ∷ []) c.flight (simulates.enters x fits edge, tt);
+      delivered = c.delivered;
+      buckets = c.buckets;
+    }
     by false edge = c
 
 -- one event keeps the correspondence

@@ -1,5 +1,5 @@
 -- The same tables send the same, if no two entries of one table have one priority.
-use Rattle.std.proofs.Common.{◌≡◌, ◌≢◌, ℕ, suc, zero, Bool, true, false, cond, List, [], ◌∷◌, ◌++◌, ◌&&◌, ◌==◌, nat_lt, if◌then◌else◌, refl, sym, ap, subst, ◌∙◌}
+use Rattle.std.proofs.Common.{◌≡◌, ◌≢◌, ℕ, suc, zero, Bool, true, false, List, [], ◌∷◌, ◌++◌, ◌&&◌, ◌==◌, if◌then◌else◌, refl, sym, ap, ◌∙◌}
 use Rattle.std.specs.List.{AllByRecursion}
 use Rattle.std.specs.declared.option.Option.{Option}
 use Rattle.std.specs.declared.option.Option.TheVariants.{None, Some}
@@ -8,7 +8,7 @@ use Rattle.std.proofs.Common.{arith}
 use Rattle.pq_model.specs.declared.tagged.Sent.{Sent}
 use Rattle.pq_model.specs.MatchFields.{covers}
 use Rattle.pq_model.specs.Tagged.{TaggedPacket}
-use Rattle.pq_model.specs.SwitchMachine.{Entry, Tables, better, taken, sent_onward, sent_by_entry, sent_from_table, copies, in_order, sends}
+use Rattle.pq_model.specs.SwitchMachine.{Entry, Tables, better, taken, sent_by_entry, sent_from_table, copies, in_order, sends}
 use Rattle.pq_model.specs.Orders.{IsReordering, AreSame, AreApart, HaveOwnPriorities}
 use Rattle.pq_model.proofs.Reorderings.{all-front, all-reordering}
 
@@ -31,15 +31,15 @@ taken-put : (e : Entry) (front back : List Entry) → AllByRecursion (AreApart e
 taken-put e [] back apart n x = refl
 taken-put e (f ∷ front) back (here, rest) n x =
     ap (λ o. if (f.table == n) && covers f.matching x then better f o else o) (taken-put e front back rest n x)
-      ∙ exchanged ((f.table == n) && covers f.matching x) ((e.table == n) && covers e.matching x) f e
-          (λ c b. λ p. here (in_table e.table n (covers e.matching x) b ∙ sym (in_table f.table n (covers f.matching x) c)) (sym p)) (taken (front ++ back) n x)
+    ∙ exchanged ((f.table == n) && covers f.matching x) ((e.table == n) && covers e.matching x) f e
+    (λ c b. λ p. here (in_table e.table n (covers e.matching x) b ∙ sym (in_table f.table n (covers f.matching x) c)) (sym p)) (taken (front ++ back) n x)
 
 pub taken-same : (xs ys : List Entry) → IsReordering xs ys → HaveOwnPriorities xs → (n : ℕ) (x : TaggedPacket) → taken xs n x ≡ taken ys n x
 taken-same [] ys h own n x = ap (λ l. taken l n x) (sym h)
 taken-same (e ∷ xs) ys (front, back, is, h) (apart, own) n x =
     ap (λ o. if (e.table == n) && covers e.matching x then better e o else o) (taken-same xs (front ++ back) h own n x)
-      ∙ sym (taken-put e front back (all-front (AreApart e) front back (all-reordering (AreApart e) xs (front ++ back) h apart)) n x)
-      ∙ ap (λ l. taken l n x) (sym is)
+    ∙ sym (taken-put e front back (all-front (AreApart e) front back (all-reordering (AreApart e) xs (front ++ back) h apart)) n x)
+    ∙ ap (λ l. taken l n x) (sym is)
 
 onward-same : (f g : ℕ → TaggedPacket → List Sent) → ((n : ℕ) (x : TaggedPacket) → f n x ≡ g n x) → f ≡ g
 onward-same f g h = λ i n x. h n x i

@@ -8,6 +8,7 @@ pub mod Meaning
 pub mod Mods
 pub mod Orders
 pub mod Simulation
+pub mod Renewal
 pub mod Sorting
 pub mod Spelling
 pub mod SwitchMachine

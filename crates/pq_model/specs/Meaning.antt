@@ -98,10 +98,10 @@ captured m (Stranger x) = []
 abbrev pub hops : Meaning → MeaningState → ℕ → Option Item → MeaningState
 hops m s k None = s
 hops m s k (Some i) = record {
-    flight = remove s.flight k ++ flown m i;
-    delivered = s.delivered ++ dropped_off m i;
-    buckets = s.buckets ++ captured m i
-  }
+  flight = remove s.flight k ++ flown m i;
+  delivered = s.delivered ++ dropped_off m i;
+  buckets = s.buckets ++ captured m i;
+}
 
 abbrev pub entered_as : TaggedPacket → Option ℕ → Item
 entered_as x None = Traced [] x.packet

@@ -3,12 +3,19 @@
 #![tactic(auto)]
 
 mod bytes;
+mod fields;
 mod matching;
+mod next;
 mod oxm;
 pub mod oxm_field;
+mod reading;
+mod rules;
 mod stated;
+#[cfg(test)]
+mod tests;
 
-pub use bytes::{padding, write_length, write_zeros};
+pub use bytes::{mac_of, padding, u16_of, u32_of, u64_of, write_length, write_zeros};
 pub use matching::{keeps_rules, write_match};
 pub use oxm::write_oxm;
 pub use pq_model::Match;
+pub use reading::{MatchFault, no_match_begins_another, read_match};

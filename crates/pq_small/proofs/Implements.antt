@@ -4,36 +4,34 @@ use Rattle.std.specs.Prelude.{◌==◌, ◌&&◌, if◌then◌else◌, IsTrue}
 use Rattle.std.specs.declared.option.Option.{Option}
 use Rattle.std.specs.declared.option.Option.TheVariants.{None, Some}
 use Rattle.std.proofs.lemmas.Bool.Decides.{nat_tests}
-use Rattle.std.specs.List.{list_any}
+use Rattle.std.specs.List.{IsDistinct, list_any}
 use Rattle.pq_fields.specs.Packet.{Numbers}
 use Rattle.pq_model.specs.declared.action.Action.TheVariants.{Output}
 use Rattle.pq_model.specs.declared.message.Message.{Message}
 use Rattle.pq_model.specs.declared.message.Message.TheVariants.{Barrier}
 use Rattle.pq_model.specs.declared.flow_mod.FlowCommand.TheVariants.{Add as AddFlow, DeleteAll}
 use Rattle.pq_model.specs.declared.group_mod.GroupCommand.TheVariants.{Delete}
-use Rattle.pq_model.specs.declared.event.Event.{Event}
 use Rattle.pq_model.specs.MatchFields.{empty_match}
-use Rattle.pq_model.specs.declared.tagged.Sent.{Sent}
 use Rattle.pq_model.specs.declared.tagged.Sent.TheVariants.{Port}
 use Rattle.pq_model.specs.Tagged.{TaggedPacket}
 use Rattle.pq_model.specs.Topology.{is_edge, is_port}
-use Rattle.pq_model.specs.Events.{IsTagged, IsSchedule}
 use Rattle.pq_model.specs.Word.{Word}
-use Rattle.pq_model.specs.Meaning.{Meaning, Item, Traced, Stranger, at_rest, item_packet, entered, entered_as, arrivals, deliveries, run}
-use Rattle.pq_model.specs.SwitchMachine.{Tables, applies_all, all_groups, sends, to_ports, to_controller}
-use Rattle.pq_model.specs.TablesMachine.{Sender, carried_all, delivered_of, collected, sends_by, nothing_sent, run_sending}
-use Rattle.pq_model.specs.Orders.{AreSame, Commute, HaveOwnPriorities, IsLawfulOrder, IsFreeOfOrder}
+use Rattle.pq_model.specs.Meaning.{Item, Traced, Stranger, item_packet, entered, entered_as, arrivals, deliveries}
+use Rattle.pq_model.specs.SwitchMachine.{Tables, all_groups, sends, to_ports, to_controller}
+use Rattle.pq_model.specs.TablesMachine.{Sender, carried_all, delivered_of, collected, sends_by}
+use Rattle.pq_model.specs.Orders.{IsLawfulOrder}
+use Rattle.pq_model.specs.Renewal.{Renewal, IsRenewing, renewal_messages, renewed}
+use Rattle.pq_model.specs.Mods.{FlowValue}
+use Rattle.pq_model.specs.MatchFields.{MatchFields}
+use Rattle.pq_model.specs.declared.action.Action.{Action}
 use Rattle.pq_model.specs.Install.{messages_of}
-use Rattle.pq_model.specs.Headline.{Agree, Implements, plain, installed}
+use Rattle.pq_model.specs.Headline.{Implements, plain, installed}
 use Rattle.pq_model.specs.Simulation.{Pairwise, HopAgrees, Simulates}
-use Rattle.pq_model.proofs.LawfulOrders.{lawful-same}
-use Rattle.pq_model.proofs.SameTables.{same-refl}
-use Rattle.pq_model.proofs.CommutingFlows.{add-add, delete-group}
-use Rattle.pq_model.proofs.Sending.{sends-same}
+use Rattle.pq_model.proofs.Renewals.{renewal-sends}
 use Rattle.pq_model.proofs.Schedules.{agreement}
 use Rattle.pq_small.specs.SmallForm.{SmallForm, KeepsRules}
-use Rattle.pq_small.specs.SmallInstall.{topology_of, departures_of, meaning_of, delete_entries, delete_groups, add, untagged, untagged_at, target, rule_messages, message_list, install_of, has_port, ascending}
-use Rattle.pq_small.proofs.Installed.{tables_where, entries_where, has_both, left_by, sent_plain, sent_tagged, sent_nothing, same}
+use Rattle.pq_small.specs.SmallInstall.{topology_of, departures_of, meaning_of, delete_entries, delete_groups, untagged, untagged_at, target, rule_messages, message_list, install_of, has_port, ascending}
+use Rattle.pq_small.proofs.Installed.{tables_where, has_both, sent_plain, sent_tagged, sent_nothing, same}
 
 -- an edge port of the network
 abbrev IsEdge : SmallForm → Numbers → Type 0
@@ -70,6 +68,7 @@ sends_departures s rules x edge = by (x.port == s.from) (has_port s s.from) (has
   where
     there : is_port (topology_of s) x.switch s.to ≡ has_port s s.to
     there = ap (λ d. is_port (topology_of s) d s.to) (sym (at_switch s x edge))
+
     by : (b f t : Bool) → (x.port == s.from) ≡ b → has_port s s.from ≡ f → has_port s s.to ≡ t
         → sends (tables_where (f && t) s) (plain x) ≡ map (λ y. Port (plain y)) (if b && is_port (topology_of s) x.switch s.to then record x { port = s.to } ∷ [] else [])
     by true true true b f t = rw (there, t) (sent_plain s rules x true b)
@@ -111,7 +110,7 @@ module _ (s : SmallForm) (rules : KeepsRules s) (send : Sender) (sent : (y : Tag
       record {
         flight = rw leaves (carries_nothing s x (entered w x) b);
         delivered = rw leaves (delivers_all s x b (second_of (x.port == s.from) (is_port (topology_of s) x.switch s.to)));
-        buckets = rw leaves (collects_nothing s x b)
+        buckets = rw leaves (collects_nothing s x b);
       }
 
   stranger_agrees : (x : Numbers) (t : ℕ) → IsEdge s x → HopAgrees (meaning_of s) [] send (Stands s) (Stranger x) (record { packet = x; vlan = Some t })
@@ -134,38 +133,36 @@ module _ (s : SmallForm) (rules : KeepsRules s) (send : Sender) (sent : (y : Tag
   stands_simulates : Simulates (meaning_of s) [] send (Stands s)
   stands_simulates = record { packets = stands_packets; enters = λ y tagged edge. stands_entering y y.vlan refl edge; hops = stands_hops }
 
-adds_commute : (s : SmallForm) → Commute (add 5 65535 (untagged_at s.from) (Output (target s) ∷ [])) (add 6 65534 untagged [])
-adds_commute s =
-    add-add
-    (record { xid = 5; cookie = 0; table = 0; command = AddFlow; priority = 65535; matching = untagged_at s.from; actions = Output (target s) ∷ []; goto = None })
-    (record { xid = 6; cookie = 0; table = 0; command = AddFlow; priority = 65534; matching = untagged; actions = []; goto = None })
-    refl refl refl
+abbrev added : ℕ → ℕ → MatchFields → List Action → FlowValue
+added xid priority matching actions = record { xid = xid; cookie = 0; table = 0; command = AddFlow; priority = priority; matching = matching; actions = actions; goto = None }
 
-deletes_commute : Commute delete_entries delete_groups
-deletes_commute =
-    delete-group
-    (record { xid = 1; cookie = 0; table = 0xff; command = DeleteAll; priority = 0; matching = empty_match; actions = []; goto = None })
-    (record { xid = 2; command = Delete; group = all_groups; buckets = [] })
-    (λ is_add. cc)
+-- the messages renew the tables of the switch
+renewal_where : Bool → SmallForm → Renewal
+renewal_where both s = record {
+    entries_away = record { xid = 1; cookie = 0; table = 0xff; command = DeleteAll; priority = 0; matching = empty_match; actions = []; goto = None };
+    groups_away = record { xid = 2; command = Delete; group = all_groups; buckets = [] };
+    groups = [];
+    entries = if both then added 5 65535 (untagged_at s.from) (Output (target s) ∷ []) ∷ added 6 65534 untagged [] ∷ [] else [];
+    emptied = 3; grouped = 4; filled = if both then 7 else 5
+  }
 
--- each two messages with no barrier between them commute
-free_of_order : (s : SmallForm) → IsFreeOfOrder (message_list s)
-free_of_order s = by (has_both s)
+renewing : (both : Bool) (s : SmallForm) → IsRenewing (renewal_where both s)
+unfolding renewal_where IsDistinct
+renewing true s = record { entries_away = refl; groups_away = (refl, refl); groups = tt; numbers = tt; entries = (refl, (refl, tt)); named = (refl, (refl, tt)); priorities = ((λ table priority. omega arith, tt), (tt, tt)) }
+renewing false s = record { entries_away = refl; groups_away = (refl, refl); groups = tt; numbers = tt; entries = tt; named = tt; priorities = tt }
+
+renews : (s : SmallForm) → message_list s ≡ renewal_messages (renewal_where (has_both s) s)
+unfolding renewal_where
+renews s = by (has_both s)
   where
-    by : (both : Bool) → IsFreeOfOrder (delete_entries ∷ delete_groups ∷ Barrier 3 ∷ Barrier 4 ∷ (if both then rule_messages s else Barrier 5 ∷ []))
-    by true = ((deletes_commute, tt), (tt, ((adds_commute s, tt), (tt, tt))))
-    by false = ((deletes_commute, tt), (tt, tt))
+    by : (both : Bool) → (delete_entries ∷ delete_groups ∷ Barrier 3 ∷ Barrier 4 ∷ (if both then rule_messages s else Barrier 5 ∷ [])) ≡ renewal_messages (renewal_where both s)
+    by true = refl
+    by false = refl
 
--- no two entries of the table have one priority
-own_priorities : (both : Bool) (s : SmallForm) → HaveOwnPriorities (entries_where both s)
-own_priorities true s = ((λ table priority. omega arith, tt), (tt, tt))
-own_priorities false s = tt
-
--- whatever the tables held, a lawful order leaves the tables that the messages leave as they are written
-same_installed : (s : SmallForm) (t : Tables) (order : List Message) → IsLawfulOrder (message_list s) order → AreSame (tables_where (has_both s) s) (applies_all t order)
-same_installed s t order lawful =
-    let P : Tables → Type 0 = λ u. AreSame u (applies_all t order) in
-    subst P (left_by s t) (lawful-same t t (same-refl t) (message_list s) order lawful (free_of_order s))
+leaves : (both : Bool) (s : SmallForm) → renewed (renewal_where both s) ≡ tables_where both s
+unfolding renewal_where
+leaves true s = refl
+leaves false s = refl
 
 equal_test : (n m : ℕ) → n ≡ m → (n == m) ≡ true
 equal_test n m is = grind (arith, nat_tests)
@@ -177,7 +174,9 @@ sends_installed s before order lawful y is =
     let d = y.packet.switch in
     let P : Bool → Type 0 = λ b. IsLawfulOrder (if b then message_list s else []) (order d) in
     let listed : IsLawfulOrder (message_list s) (order d) = subst P (equal_test s.datapath d is) (lawful d) in
-    sym (sends-same _ _ (same_installed s (before d) (order d) listed) (own_priorities (has_both s) s) y)
+    let Q : List Message → Type 0 = λ ms. IsLawfulOrder ms (order d) in
+    let both = has_both s in
+    renewal-sends (renewal_where both s) (renewing both s) (before d) (order d) (subst Q (renews s) listed) y ∙ ap (λ t. sends t y) (leaves both s)
 
 -- whatever the tables held, in whatever lawful order the messages come, every schedule moves packets as the form means
 pub small_implements : (s : SmallForm) → KeepsRules s → Implements (install_of s) (meaning_of s)

@@ -1,20 +1,17 @@
 -- The tables that the messages of the small form's install leave, and what they send.
-use Rattle.std.proofs.Common.{◌≡◌, ℕ, ◌≤◌, ◌<◌, ◌+◌, Bool, true, false, List, [], ◌∷◌, refl, ap, sym, ◌∙◌, arith}
-use Rattle.std.specs.Prelude.{◌==◌, ◌&&◌, if◌then◌else◌, IsTrue}
-use Rattle.std.specs.declared.option.Option.{Option}
+use Rattle.std.proofs.Common.{◌≡◌, ℕ, ◌≤◌, ◌<◌, ◌+◌, Bool, true, false, List, [], ◌∷◌, refl, ap, ◌∙◌, arith}
+use Rattle.std.specs.Prelude.{◌==◌, ◌&&◌, if◌then◌else◌}
 use Rattle.std.specs.declared.option.Option.TheVariants.{None, Some}
 use Rattle.std.proofs.lemmas.Bool.Decides.{nat_tests}
 use Rattle.pq_fields.specs.Packet.{Numbers}
 use Rattle.pq_model.specs.declared.action.Action.TheVariants.{Output}
-use Rattle.pq_model.specs.declared.message.Message.{Message}
-use Rattle.pq_model.specs.declared.message.Message.TheVariants.{Barrier}
 use Rattle.pq_model.specs.declared.tagged.Sent.TheVariants.{Port}
 use Rattle.pq_model.specs.Tagged.{TaggedPacket}
-use Rattle.pq_model.specs.MatchFields.{MatchFields, IsPortNumber, vlan_word, covers, same_match}
-use Rattle.pq_model.specs.SwitchMachine.{Entry, Tables, no_groups, applies_all, better, taken, outputs, sends, copies, in_order, sent_by_entry, sent_from_table, in_port_number, controller_number}
+use Rattle.pq_model.specs.MatchFields.{vlan_word, covers}
+use Rattle.pq_model.specs.SwitchMachine.{Entry, Tables, no_groups, better, taken, outputs, sends, copies, in_order, sent_by_entry, sent_from_table, in_port_number, controller_number}
 use Rattle.pq_model.specs.Headline.{plain}
 use Rattle.pq_small.specs.SmallForm.{SmallForm, KeepsRules}
-use Rattle.pq_small.specs.SmallInstall.{has_port, delete_entries, delete_groups, rule_messages, message_list, untagged, untagged_at, target}
+use Rattle.pq_small.specs.SmallInstall.{has_port, untagged, untagged_at, target}
 
 -- the entry that sends, and the one that drops
 abbrev pub sending : SmallForm → Entry
@@ -33,16 +30,6 @@ tables_where both s = record { entries = entries_where both s; groups = no_group
 -- whether the switch has both ports
 abbrev pub has_both : SmallForm → Bool
 has_both s = has_port s s.from && has_port s s.to
-
-left_where : (both : Bool) (s : SmallForm) (t : Tables)
-    → applies_all t (delete_entries ∷ delete_groups ∷ Barrier 3 ∷ Barrier 4 ∷ (if both then rule_messages s else Barrier 5 ∷ [])) ≡ tables_where both s
-unfolding same_match
-left_where true s t = refl
-left_where false s t = refl
-
--- whatever the tables held, they hold these entries and no group afterwards
-pub left_by : (s : SmallForm) (t : Tables) → applies_all t (message_list s) ≡ tables_where (has_both s) s
-left_by s t = left_where (has_both s) s t
 
 covers_at : (p : ℕ) (x : TaggedPacket) (b c : Bool) → (x.packet.port == p) ≡ b → (vlan_word x.vlan == 0) ≡ c → covers (untagged_at p) x ≡ (b && c)
 unfolding covers

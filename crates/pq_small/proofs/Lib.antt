@@ -1,3 +1,11 @@
+pub mod Filled
 pub mod Implements
 pub mod Installed
+pub mod Places
+pub mod Ports
+pub mod Rules
+pub mod Spelled
+pub mod Told
+pub mod Tokens
+pub mod Forms
 pub mod Worked

@@ -38,11 +38,15 @@ FillsAll [] (s ∷ ss) = ⊥
 FillsAll (t ∷ ts) [] = ⊥
 FillsAll (t ∷ ts) (s ∷ ss) = Fills t s × FillsAll ts ss
 
--- numbers with a comma between each two
+-- { `,` number }
+abbrev pub after_commas : List ℕ → List Slot
+after_commas [] = []
+after_commas (n ∷ ns) = Exactly (codes ",") ∷ ThisNumber n ∷ after_commas ns
+
+-- number { `,` number }
 abbrev pub listed : List ℕ → List Slot
 listed [] = []
-listed (n ∷ []) = ThisNumber n ∷ []
-listed (n ∷ m ∷ ns) = ThisNumber n ∷ Exactly (codes ",") ∷ listed (m ∷ ns)
+listed (n ∷ ns) = ThisNumber n ∷ after_commas ns
 
 -- `switch` NAME `=` number `ports`
 abbrev pub switch_slots : SmallForm → List Slot

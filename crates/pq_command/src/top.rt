@@ -1,0 +1,37 @@
+ghost use Rattle.std.specs.Prelude.{◌≡◌, ◌↔◌, ◌≤◌, None, length, map, IfSome};
+ghost use Rattle.std.specs.String.{string_bytes};
+ghost use Rattle.pq_io.specs.Faults.{Rose};
+ghost use Rattle.pq_small.specs.SmallForm.{SmallForm, IsSmallForm};
+ghost use Rattle.pq_command.specs.Words.{command_of};
+ghost use Rattle.pq_command.specs.Compiled.{
+  HasReadFaults,
+  HasWriteFaults,
+  IsAnswer,
+  IsDoneOrMemory,
+  OnRefusal,
+  document_limit,
+};
+
+use crate::compile::compile;
+use crate::outcome::Outcome;
+use crate::words::Command;
+use pq_io::{Sink, Source};
+use std::alloc::Global;
+
+/// Does what the words after the program's name ask for, from the source to the sink.
+///
+/// `compile` reads a document to its end and writes its install.
+pub fn run<S: Source, K: Sink>(alloc: Global, words: &[String], source: &mut S, sink: &mut K) -> Outcome
+    ensures words { (result ≡ Outcome.Words) ↔ (command_of (map string_bytes words.now) ≡ None) }
+    ensures untouched { result ≡ Outcome.Words → source.new ≡ source.old }
+    ensures answer { IsAnswer result (S.left source.old) (S.left source.new) (K.put sink.old) (K.put sink.new) }
+    ensures read_faults { HasReadFaults result (S.faults source.old) (S.faults source.new) }
+    ensures write_faults { HasWriteFaults result (K.faults sink.old) (K.faults sink.new) }
+    ensures refusal { OnRefusal result (sink.new ≡ sink.old) }
+    ensures complete { (Rose (S.faults source.old) (S.faults source.new) → ⊥) → (Rose (K.faults sink.old) (K.faults sink.new) → ⊥) → command_of (map string_bytes words.now) ≡ Some Command.Compile → IfSome (S.left source.old) (λ bytes. length bytes ≤ document_limit → (s : SmallForm) → IsSmallForm bytes s → IsDoneOrMemory result) }
+{
+    match Command::of_words(words) {
+        Some(Command::Compile) => compile(alloc, source, sink),
+        None => Outcome::Words,
+    }
+}
