@@ -16,3 +16,5 @@ pub mod LabelOrder
 pub mod RowLists
 pub mod Parts
 pub mod NamedSwitches
+pub mod MessageLists
+pub mod Whole

@@ -8,6 +8,8 @@ use Rattle.pq_model.specs.Topology.{Topology}
 use Rattle.pq_model.specs.TablesMachine.{Row}
 use Rattle.pq_model.specs.Spelling.{message_bytes}
 use Rattle.pq_model.specs.Install.{IsOldMessage, switch_bytes, link_bytes, name_bytes, row_bytes, list_bytes}
+use Rattle.pq_install.specs.declared.version.Version.{Version}
+use Rattle.pq_install.specs.declared.version.Version.TheVariants.{Old, New}
 use Rattle.pq_install.specs.Front.{IsAtFront, IsU32, counted_by}
 use Rattle.pq_install.specs.Units.{UnitFails, ListFails, CountedFails, IsSection}
 use Rattle.pq_install.specs.Switches.{AreReadSwitches}
@@ -19,27 +21,34 @@ use Rattle.pq_install.specs.Rows.{AreReadRows}
 abbrev pub FailsOrAfter : {X : Type 0} → (List ℕ → ℕ → Type 0) → (List ℕ → X → List ℕ → Type 0) → (X → List ℕ → ℕ → Type 0) → List ℕ → ℕ → Type 0
 FailsOrAfter {X} Fails Reads After bytes left = Fails bytes left ⊎ ((x : X) × (rest : List ℕ) × Reads bytes x rest × After x rest left)
 
--- the last byte of a magic: `1` of the old spelling, or `2`
-abbrev pub IsVersion : ℕ → Type 0
-IsVersion v = (v ≡ 0x31) ⊎ (v ≡ 0x32)
+-- the magic: `PQI1` of the old spelling, or `PQI2`
+abbrev pub magic_bytes : Version → List ℕ
+magic_bytes Old = 0x50 ∷ 0x51 ∷ 0x49 ∷ 0x31 ∷ []
+magic_bytes New = 0x50 ∷ 0x51 ∷ 0x49 ∷ 0x32 ∷ []
 
-abbrev pub magic_bytes : ℕ → List ℕ
-magic_bytes v = 0x50 ∷ 0x51 ∷ 0x49 ∷ v ∷ []
+-- either
+abbrev pub IsVersion : Version → Type 0
+IsVersion v = Unit {0}
 
--- a lawful message, which after the old magic is one that the old spelling has
-abbrev pub IsReadMessage : ℕ → Message → Type 0
-IsReadMessage v m = IsLawfulMessage m × (v ≡ 0x31 → IsOldMessage m)
+-- a message that the spelling has
+abbrev pub MayStandIn : Version → Message → Type 0
+MayStandIn Old m = IsOldMessage m
+MayStandIn New m = Unit {0}
+
+-- a lawful message that the spelling has
+abbrev pub IsReadMessage : Version → Message → Type 0
+IsReadMessage v m = IsLawfulMessage m × MayStandIn v m
 
 -- the messages to a switch
-abbrev pub IsReadList : ℕ → List Message → Type 0
+abbrev pub IsReadList : Version → List Message → Type 0
 IsReadList v ms = IsU32 (length ms) × All (IsReadMessage v) ms
 
 -- the count of the messages to a switch fails, or one of them
-abbrev pub ListFailsAt : ℕ → List ℕ → ℕ → Type 0
+abbrev pub ListFailsAt : Version → List ℕ → ℕ → Type 0
 ListFailsAt v = FailsOrAfter (UnitFails IsU32 (to_be_bytes w32)) (IsAtFront IsU32 (to_be_bytes w32)) (λ count. ListFails (All (IsReadMessage v)) message_bytes count)
 
 -- the messages to some of so many switches are read, and those to the next fail
-abbrev pub ListsFail : ℕ → ℕ → List ℕ → ℕ → Type 0
+abbrev pub ListsFail : Version → ℕ → List ℕ → ℕ → Type 0
 ListsFail v count bytes left = (lists : List (List Message)) × (rest : List ℕ) × (length lists < count) × IsAtFront (All (IsReadList v)) (flat_map list_bytes) bytes lists rest × ListFailsAt v rest left
 
 -- the switches fail, or the links
@@ -73,13 +82,17 @@ pub record IsReadReport (r : Reporting) : Type 0 where
 abbrev pub report_bytes : Reporting → List ℕ
 report_bytes r = counted_by w16 name_bytes r.0 ++ counted_by w16 row_bytes r.1
 
--- the magic fails, the topology, the report, or the messages
+-- behind the topology the report fails, or the messages
+abbrev pub FailsAfterTopology : Version → Topology → List ℕ → ℕ → Type 0
+FailsAfterTopology v t = FailsOrAfter ReportFails (IsAtFront IsReadReport report_bytes) (λ r. ListsFail v (length t.switches))
+
+-- behind the magic the topology fails, or what follows it
+abbrev pub FailsAfterMagic : Version → List ℕ → ℕ → Type 0
+FailsAfterMagic v = FailsOrAfter TopologyFails (IsAtFront IsReadTopology topology_bytes) (FailsAfterTopology v)
+
+-- the magic fails, or what follows it
 abbrev pub InstallFails : List ℕ → ℕ → Type 0
-InstallFails =
-    FailsOrAfter (UnitFails IsVersion magic_bytes) (IsAtFront IsVersion magic_bytes) (λ v.
-    FailsOrAfter TopologyFails (IsAtFront IsReadTopology topology_bytes) (λ t.
-    FailsOrAfter ReportFails (IsAtFront IsReadReport report_bytes) (λ r.
-    ListsFail v (length t.switches))))
+InstallFails = FailsOrAfter (UnitFails IsVersion magic_bytes) (IsAtFront IsVersion magic_bytes) FailsAfterMagic
 
 -- the bytes are damaged at this place
 abbrev pub IsDamagedAt : List ℕ → ℕ → Type 0

@@ -6,3 +6,4 @@ pub mod Links
 pub mod Names
 pub mod Rows
 pub mod Damage
+pub mod Reading
