@@ -10,3 +10,11 @@ pub mod SwitchLists
 pub mod Distinct
 pub mod LinkUnits
 pub mod LinkLists
+pub mod NameUnits
+pub mod RowUnits
+pub mod LabelOrder
+pub mod RowLists
+pub mod Parts
+pub mod NamedSwitches
+pub mod MessageLists
+pub mod Whole

@@ -3,3 +3,7 @@ pub mod Units
 pub mod Switches
 pub mod Following
 pub mod Links
+pub mod Names
+pub mod Rows
+pub mod Damage
+pub mod Reading

@@ -2,6 +2,7 @@ ghost use Rattle.std.specs.Prelude.{◌≡◌};
 ghost use Rattle.pq_install.specs.declared.fault.Fault.TheVariants.{Memory};
 
 use std::alloc::{AllocError, AllocFailed};
+use thiserror::Error;
 
 /// Why a part of an install was not read.
 #[derive(Debug, Drop)]
@@ -26,4 +27,15 @@ impl<T: Drop> From<AllocFailed<T>> for Fault {
     fn from(_error: AllocFailed<T>) -> Fault {
         Fault::Memory
     }
+}
+
+/// Why no install was read.
+#[derive(Debug, Drop, Error)]
+pub enum InstallFault {
+    /// At this byte a unit is missing, cut or unlawful after the units before it.
+    #[error("the install is damaged at byte {at}")]
+    Damaged { at: usize },
+    /// There is not enough memory.
+    #[error("out of memory")]
+    Memory,
 }

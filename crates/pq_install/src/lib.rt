@@ -9,7 +9,10 @@ mod numbers;
 mod read;
 mod report;
 mod topology;
+mod version;
 mod write;
 
+pub use fault::InstallFault;
 pub use install::{Install, ReportRow};
+pub use read::whole::read_install;
 pub use write::write_install;

@@ -1,3 +1,9 @@
 pub mod front;
 pub mod links;
+pub mod lists;
+pub mod names;
+pub mod report;
+pub mod reporting;
 pub mod switches;
+pub mod topology;
+pub mod whole;

@@ -41,6 +41,15 @@ impl Topology {
         Topology { switches, links }
     }
 
+    /// The topology with these links in place of its own, under the same condition as `made`.
+    pub fn with_links(mut self, links: Vec<Link>) -> Topology
+        requires { IsNamedTopology (record { switches = self.switches; links = links.items }) }
+        ensures { result ≡ record { switches = self.switches; links = links.items } }
+    {
+        self.links = links;
+        self
+    }
+
     /// The switches, ascending by their datapath numbers.
     pub fn switches(&self) -> &[Switch]
         ensures switches { result.now ≡ self.now.switches }
