@@ -4,7 +4,8 @@ use Rattle.std.specs.Io.KnownBytes.{Appends, Consumes, IsAtEnd}
 use Rattle.pq_io.specs.Faults.{Rose}
 use Rattle.pq_io.specs.Pieces.{AppendsPart}
 use Rattle.pq_small.specs.Compiled.{Compiles, IsNoForm}
-use Rattle.pq_replay.specs.Replay.{IsReplay, IsDamaged, HasSyntaxFault, HasTooManyEvents}
+use Rattle.pq_install.specs.Damage.{IsDamagedAt}
+use Rattle.pq_replay.specs.Replay.{IsReplay, HasSyntaxFault, HasTooManyEvents}
 use Rattle.pq_command.specs.declared.outcome.Outcome.{Outcome}
 use Rattle.pq_command.specs.declared.outcome.Outcome.TheVariants.{Done, Words, ReadFault, TooLong, Syntax, NotYet, Damaged, ScheduleFull, WriteFault, Memory}
 
@@ -57,7 +58,7 @@ IsCompileAnswer ScheduleFull s = ⊥
 abbrev pub IsReplayAnswer : Outcome → Streams → Type 0
 IsReplayAnswer Done s = ReadsWhole s replay_limit (λ bytes. Puts s (IsReplay bytes))
 IsReplayAnswer WriteFault s = ReadsWhole s replay_limit (λ bytes. PutsPart s (IsReplay bytes))
-IsReplayAnswer (Damaged at) s = ReadsWhole s replay_limit (λ bytes. IsDamaged bytes at)
+IsReplayAnswer (Damaged at) s = ReadsWhole s replay_limit (λ bytes. IsDamagedAt bytes at)
 IsReplayAnswer (Syntax at) s = ReadsWhole s replay_limit (λ bytes. HasSyntaxFault bytes at)
 IsReplayAnswer ScheduleFull s = ReadsWhole s replay_limit HasTooManyEvents
 IsReplayAnswer TooLong s = ReadsMore s replay_limit
