@@ -58,6 +58,9 @@ lawful v i read = record {
   messages = λ k ms below. let list = read.messages k ms below in (list.0, λ j m here. (list.1 j m here).0);
 }
 
+pub lawful_at_front : (bytes : List ℕ) (i : Install) (rest : List ℕ) → IsInstallAtFront bytes i rest → IsLawfulInstall i
+lawful_at_front bytes i rest front = lawful front.0 i front.1
+
 -- what was read is an install, and its spelling ends where the rest begins
 pub install_in : (bytes : List ℕ) (i : Install) (rest : List ℕ) → IsInstallAtFront bytes i rest → IsInstallIn bytes i (length bytes - length rest)
 install_in bytes i rest (Old, read, parts) = record {

@@ -16,3 +16,6 @@ pub use fault::InstallFault;
 pub use install::{Install, ReportRow};
 pub use read::whole::read_install;
 pub use write::write_install;
+
+#[cfg(test)]
+mod tests;
