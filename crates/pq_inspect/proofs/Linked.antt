@@ -1,5 +1,5 @@
 -- A small lawful install with a part of each sort.
-use Rattle.std.specs.Prelude.{ℕ, ◌≡◌, ◌<◌, ◌≤◌, ◌^◌, List, [], ◌∷◌, codes, length, All, IsTrue}
+use Rattle.std.specs.Prelude.{ℕ, ◌≡◌, ◌<◌, ◌≤◌, ◌^◌, List, [], ◌∷◌, codes, length, IsTrue}
 use Rattle.std.specs.List.{IsDistinct}
 use Rattle.std.proofs.Common.{arith, ap, inl, refl}
 use Rattle.std.proofs.lemmas.List.Elements.{All-cons, All-nil}

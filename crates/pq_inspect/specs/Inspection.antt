@@ -17,6 +17,7 @@ use Rattle.pq_model.specs.TablesMachine.{Row}
 use Rattle.pq_model.specs.Spelling.{message_bytes}
 use Rattle.pq_model.specs.Install.{Install, link_numbers}
 
+-- a number, in decimal
 abbrev pub natural : ℕ → Data
 natural n = number (unsigned n)
 
@@ -44,6 +45,7 @@ row_data row = object (
 abbrev pub hexadecimal_byte : ℕ → List ℕ
 hexadecimal_byte b = digit_char (b / 16) ∷ digit_char (b % 16) ∷ []
 
+-- bytes, each as two digits
 abbrev pub hexadecimal : List ℕ → List ℕ
 hexadecimal bytes = flat_map hexadecimal_byte bytes
 
@@ -51,6 +53,7 @@ hexadecimal bytes = flat_map hexadecimal_byte bytes
 abbrev pub message_data : Message → Data
 message_data m = string (hexadecimal (message_bytes m))
 
+-- the command adds an entry
 abbrev pub is_adding_flow : FlowCommand → Bool
 is_adding_flow AddFlow = true
 is_adding_flow DeleteAll = false
@@ -62,6 +65,7 @@ is_flow_add (Flow f) = is_adding_flow f.command
 is_flow_add (Group g) = false
 is_flow_add (Barrier xid) = false
 
+-- the command adds a group
 abbrev pub is_adding_group : GroupCommand → Bool
 is_adding_group AddGroup = true
 is_adding_group Modify = false

@@ -53,9 +53,9 @@ fn topology(alloc: Global, west: Name, east: Name) -> Result<Topology, AllocErro
     requires west { west ≡ codes "s1" }
     requires east { east ≡ codes "s2" }
     ensures { IfOk result (λ topology. topology ≡ record {
-        switches = record { name = codes "s1"; datapath = 1; ports = 1 ∷ 2 ∷ []; limit = 2000 }
-            ∷ record { name = codes "s2"; datapath = 18446744073709551615; ports = 1 ∷ []; limit = 2000 } ∷ [];
-        links = record { first = (1, 2); second = (18446744073709551615, 1) } ∷ [];
+      switches = record { name = codes "s1"; datapath = 1; ports = 1 ∷ 2 ∷ []; limit = 2000 }
+          ∷ record { name = codes "s2"; datapath = 18446744073709551615; ports = 1 ∷ []; limit = 2000 } ∷ [];
+      links = record { first = (1, 2); second = (18446744073709551615, 1) } ∷ [];
     }) }
 {
     let switches = switches(alloc, west, east)?;
@@ -65,8 +65,8 @@ fn topology(alloc: Global, west: Name, east: Name) -> Result<Topology, AllocErro
 
 fn report(alloc: Global) -> Result<Vec<ReportRow>, AllocError>
     ensures { IfOk result (λ rows. rows.items ≡ record {
-        tag = 7;
-        pairs = record { query = 0; label = 10 ∷ 18446744073709551615 ∷ [] } ∷ record { query = 1; label = [] } ∷ [];
+      tag = 7;
+      pairs = record { query = 0; label = 10 ∷ 18446744073709551615 ∷ [] } ∷ record { query = 1; label = [] } ∷ [];
     } ∷ []) }
 {
     let mut pairs = Vec::new(alloc);
@@ -85,10 +85,10 @@ fn report(alloc: Global) -> Result<Vec<ReportRow>, AllocError>
 
 fn group(alloc: Global) -> Result<Message, AllocError>
     ensures { IfOk result (λ message. message ≡ Grouping (record {
-        xid = 4;
-        command = Add;
-        group = 1;
-        buckets = (PopVlan ∷ Output 2 ∷ []) ∷ (PopVlan ∷ Output 3 ∷ []) ∷ [];
+      xid = 4;
+      command = Add;
+      group = 1;
+      buckets = (PopVlan ∷ Output 2 ∷ []) ∷ (PopVlan ∷ Output 3 ∷ []) ∷ [];
     })) }
 {
     let mut buckets = Vec::new(alloc);
@@ -105,10 +105,10 @@ fn group(alloc: Global) -> Result<Message, AllocError>
 fn messages(alloc: Global) -> Result<Vec<Vec<Message>>, AllocError>
     ensures { IfOk result (λ lists. map (λ ms. ms.items) lists.items
         ≡ (Barrier 3 ∷ []) ∷ (Grouping (record {
-            xid = 4;
-            command = Add;
-            group = 1;
-            buckets = (PopVlan ∷ Output 2 ∷ []) ∷ (PopVlan ∷ Output 3 ∷ []) ∷ [];
+          xid = 4;
+          command = Add;
+          group = 1;
+          buckets = (PopVlan ∷ Output 2 ∷ []) ∷ (PopVlan ∷ Output 3 ∷ []) ∷ [];
         }) ∷ []) ∷ []) }
 {
     let mut to_west = Vec::new(alloc);
@@ -156,7 +156,8 @@ fn shows_two_linked_switches(rt: HostRuntime) -> Result<(), Fail> {
     };
     let install = linked(rt.alloc(), west, east, first, second)?;
     let text = inspect(rt.alloc(), &install)?;
-    let wanted = "{\"links\":[[1,2,18446744073709551615,1]],\"queries\":[\"q1\",\"to_east\"],\"report\":[{\"pairs\":[{\"label\":[10,18446744073709551615],\"query\":0},{\"label\":[],\"query\":1}],\"tag\":7}],\"switches\":[{\"datapath\":1,\"entries\":0,\"groups\":0,\"messages\":[\"0414000800000003\"],\"ports\":[1,2]},{\"datapath\":18446744073709551615,\"entries\":0,\"groups\":1,\"messages\":[\"040f006000000004000000000000000100280000ffffffffffffffff0000000000120008000000000000001000000002000000000000000000280000ffffffffffffffff00000000001200080000000000000010000000030000000000000000\"],\"ports\":[1]}]}\n";
+    let wanted =
+        "{\"links\":[[1,2,18446744073709551615,1]],\"queries\":[\"q1\",\"to_east\"],\"report\":[{\"pairs\":[{\"label\":[10,18446744073709551615],\"query\":0},{\"label\":[],\"query\":1}],\"tag\":7}],\"switches\":[{\"datapath\":1,\"entries\":0,\"groups\":0,\"messages\":[\"0414000800000003\"],\"ports\":[1,2]},{\"datapath\":18446744073709551615,\"entries\":0,\"groups\":1,\"messages\":[\"040f006000000004000000000000000100280000ffffffffffffffff0000000000120008000000000000001000000002000000000000000000280000ffffffffffffffff00000000001200080000000000000010000000030000000000000000\"],\"ports\":[1]}]}\n";
     assert!(rt; text.as_slice() == wanted.as_bytes());
     Ok(())
 }
