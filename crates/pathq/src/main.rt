@@ -1,17 +1,23 @@
 //! pathq compiles path queries for OpenFlow 1.3 networks: it reads standard input and writes standard output.
 #![tactic(auto)]
 
+ghost use Rattle.std.specs.Prelude.{◌≡◌, ◌⊎◌, IfErr};
+
 use pq_command::{Outcome, run};
 use pq_io::{StreamSink, StreamSource};
 use std::alloc::Global;
-use std::env;
+use std::env::{self, Env};
 use std::io;
 use std::process::ExitCode;
 
-/// The words after the program's name, or the outcome where there are none: a word that is no text has no form.
-fn words_of(rt: &(impl Env + Alloc<A = Global>), alloc: Global) -> Result<Vec<String>, Outcome> {
-    let Ok(args) = env::args(rt) else {
-        return Err(Outcome::Words);
+/// The words after the program's name, or the outcome where they can't be had: words that are no text name no command.
+fn words_of(rt: &(impl Env + Alloc<A = Global>), alloc: Global) -> Result<Vec<String>, Outcome>
+    ensures { IfErr result (λ outcome. (outcome ≡ Outcome.Words) ⊎ (outcome ≡ Outcome.Memory)) }
+{
+    let args = match env::args(rt) {
+        Ok(args) => args,
+        Err(error) if error.kind() == io::ErrorKind::OutOfMemory => return Err(Outcome::Memory),
+        Err(_) => return Err(Outcome::Words),
     };
     let mut words = Vec::new(alloc);
     for word in args.skip(1) {

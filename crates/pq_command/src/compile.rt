@@ -1,4 +1,4 @@
-ghost use Rattle.std.specs.Prelude.{◌≡◌};
+ghost use Rattle.std.specs.Prelude.{◌≡◌, ◌≢◌};
 ghost use Rattle.pq_command.specs.Compiled.{
   HasReadFaults,
   HasWriteFaults,
@@ -21,6 +21,7 @@ pub(crate) fn compile<S: Source, K: Sink>(alloc: Global, source: &mut S, sink: &
     ensures read_faults { HasReadFaults result (S.faults source.old) (S.faults source.new) }
     ensures write_faults { HasWriteFaults result (K.faults sink.old) (K.faults sink.new) }
     ensures refusal { OnRefusal result (sink.new ≡ sink.old) }
+    ensures command { result ≢ Outcome.Words }
 {
     let text = match read_whole(alloc, source, DOCUMENT_LIMIT) {
         Ok(text) => text,

@@ -11,3 +11,6 @@ pub use outcome::Outcome;
 pub use reading::{Unread, read_whole};
 pub use top::run;
 pub use words::Command;
+
+#[cfg(test)]
+mod tests;

@@ -21,7 +21,12 @@ use std::alloc::Global;
 /// Does what the words after the program's name ask for, from the source to the sink.
 ///
 /// `compile` reads a document to its end and writes its install.
-pub fn run<S: Source, K: Sink>(alloc: Global, words: &[String], source: &mut S, sink: &mut K) -> Outcome
+pub fn run<S: Source, K: Sink>(
+    alloc: Global,
+    words: &[String],
+    source: &mut S,
+    sink: &mut K,
+) -> Outcome
     ensures words { (result ≡ Outcome.Words) ↔ (command_of (map string_bytes words.now) ≡ None) }
     ensures untouched { result ≡ Outcome.Words → source.new ≡ source.old }
     ensures answer { IsAnswer result (S.left source.old) (S.left source.new) (K.put sink.old) (K.put sink.new) }

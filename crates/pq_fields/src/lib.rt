@@ -2,12 +2,14 @@
 #![tactic(auto)]
 
 mod field;
+mod label;
 mod order;
 mod packet;
 mod presence;
 mod widths;
 
 pub use field::Field;
+pub use label::Label;
 pub use order::packets_are_ordered_by_numbers;
 pub use packet::{Packet, fits};
 pub use presence::has;

@@ -1,1 +1,5 @@
+pub mod ActionsRead
 pub mod BucketSteps
+pub mod Leading
+pub mod Parts
+pub mod RuleLaws

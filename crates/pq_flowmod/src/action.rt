@@ -22,11 +22,14 @@ const GROUP: u8 = 22;
 // The port number that stands for the controller (OpenFlow 1.3.5, section 7.2.1).
 const CONTROLLER: u32 = 0xffff_fffd;
 
-// How many bytes of a packet go to the controller: all, and 0 where the packet goes to a port.
+// The length that stands for a whole packet, of which the switch keeps no copy.
+const NO_BUFFER: u16 = 0xffff;
+
+// How many bytes of a packet go to the controller; for a port the number is 0.
 fn max_len(port: u32) -> u16
     ensures { result ≡ max_len port }
 {
-    if port == CONTROLLER { 0xffff } else { 0 }
+    if port == CONTROLLER { NO_BUFFER } else { 0 }
 }
 
 // An Output: the port and how many bytes of the packet go to the controller.

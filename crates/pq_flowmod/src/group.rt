@@ -49,7 +49,8 @@ fn write_buckets(
     Ok(())
 }
 
-/// What follows the header in the spelling of a group mod of type ALL (OpenFlow 1.3.5, section 7.3.4.2).
+/// What follows the header in the spelling of a group mod of type ALL (OpenFlow 1.3.5, section
+/// 7.3.4.2).
 #[tactic(auto, unfolding(pq_model::specs::Spelling::group_body))]
 pub fn group_body(alloc: Global, group: &GroupMod) -> Result<Vec<u8>, AllocError>
     requires { IsLawfulGroup group.now }

@@ -6,6 +6,7 @@ mod action;
 mod flow;
 mod group;
 mod message;
+mod rules;
 mod set_field;
 #[cfg(test)]
 mod tests;

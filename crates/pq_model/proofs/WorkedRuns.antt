@@ -4,7 +4,9 @@ use Rattle.std.specs.declared.option.Option.TheVariants.{None, Some}
 use Rattle.std.proofs.Common.{refl}
 use Rattle.pq_fields.specs.Packet.{Numbers, zero_packet}
 use Rattle.pq_fields.specs.declared.field.Field.TheVariants.{TcpDst, EthDst}
-use Rattle.pq_model.specs.declared.action.Action.TheVariants.{Output, PushVlan, PopVlan, SetVlan, SetField}
+use Rattle.pq_model.specs.declared.action.Action.TheVariants.{Output, Group, PushVlan, PopVlan, SetVlan, SetField}
+use Rattle.pq_model.specs.declared.group_mod.GroupCommand.TheVariants.{Add as AddGroup}
+use Rattle.std.specs.FinMap.{gets}
 use Rattle.pq_model.specs.declared.event.Event.TheVariants.{Inject, Hop, Lose}
 use Rattle.pq_model.specs.declared.tagged.Sent.TheVariants.{Port, Controller}
 use Rattle.pq_model.specs.Tagged.{TaggedPacket}
@@ -14,7 +16,10 @@ use Rattle.pq_model.specs.Word.{Word, In, Out}
 use Rattle.pq_model.specs.Buckets.{Instance}
 use Rattle.pq_model.specs.Meaning.{Meaning, Stranger, at_rest, run}
 use Rattle.pq_model.specs.SwitchMachine.{Tables, no_tables, applies_all, copies, sends, in_port_number, controller_number}
-use Rattle.pq_model.specs.TablesMachine.{nothing_sent, run_sending, sends_by}
+use Rattle.pq_model.specs.Orders.{IsLawfulOrder}
+use Rattle.pq_model.specs.declared.message.Message.{Message}
+use Rattle.pq_model.specs.declared.message.Message.TheVariants.{Flow, Group as Grouping, Barrier}
+use Rattle.pq_model.specs.TablesMachine.{collected, nothing_sent, run_sending, sends_by}
 use Rattle.pq_model.specs.Install.{Install, messages_of}
 use Rattle.pq_model.specs.Headline.{plain}
 use Rattle.pq_model.proofs.Examples.{add, at_tag, pair_topology, tiny, tiny_old, line, pair_link}
@@ -145,3 +150,42 @@ stranger_enters = refl
 
 stranger_hops : run (asking pair_link (λ w. true)) at_rest (Inject (tagged 3 (at 1 1)) ∷ Hop 0 ∷ []) ≡ at_rest
 stranger_hops = refl
+
+-- The report.
+
+abbrev other : Instance
+other = record { query = 1; label = 7 ∷ 9 ∷ [] }
+
+-- a capture fills the buckets of its tag's row, and one without a row or without a header fills none
+collected_by_row : collected (record { tag = 3; pairs = query ∷ other ∷ [] } ∷ []) (tagged 3 (at 1 2) ∷ tagged 4 (at 1 1) ∷ plain (at 1 1) ∷ tagged 3 (at 1 1) ∷ [])
+    ≡ record { pair = query; packet = at 1 1 } ∷ record { pair = query; packet = at 1 2 } ∷ record { pair = other; packet = at 1 1 } ∷ record { pair = other; packet = at 1 2 } ∷ []
+collected_by_row = refl
+
+-- Orders of messages.
+
+abbrev first_add : Message
+first_add = add 1 0 9 empty_match (Output 2 ∷ []) None
+
+abbrev second_add : Message
+second_add = add 2 0 8 empty_match (Output 3 ∷ []) None
+
+-- two messages may change places before a barrier
+may_change_places : IsLawfulOrder (first_add ∷ second_add ∷ Barrier 3 ∷ []) (second_add ∷ first_add ∷ Barrier 3 ∷ [])
+may_change_places = (second_add ∷ [], Barrier 3 ∷ [], refl, (tt, tt), ([], Barrier 3 ∷ [], refl, tt, ([], [], refl, refl, refl)))
+
+-- none may pass the barrier
+may_not_pass : IsLawfulOrder (first_add ∷ Barrier 3 ∷ []) (Barrier 3 ∷ first_add ∷ []) → ⊥
+may_not_pass ([], back, is, alone, rest) = cc
+may_not_pass (Barrier xid ∷ front, back, is, alone, rest) = alone.0
+may_not_pass (Flow f ∷ front, back, is, alone, rest) = cc
+may_not_pass (Grouping g ∷ front, back, is, alone, rest) = cc
+
+-- Groups.
+
+abbrev spread : Message
+spread = Grouping (record { xid = 1; command = AddGroup; group = 1; buckets = (SetField EthDst 7 ∷ Output 2 ∷ []) ∷ (Output 3 ∷ []) ∷ [] })
+
+-- each bucket runs on a copy of its own
+grouped : sends (applies_all no_tables (spread ∷ add 2 0 9 empty_match (Group 1 ∷ []) None ∷ [])) (plain (at 1 1)) ≡ Port (plain (record (at 1 2) { eth_dst = 7 })) ∷ Port (plain (at 1 3)) ∷ []
+unfolding copies covers same_match
+grouped = simp gets

@@ -1,5 +1,5 @@
 -- Switches, their ports and the links between them.
-use Rattle.std.specs.Prelude.{ℕ, Bool, List, [], ◌∷◌, ◌==◌, ◌&&◌, is_some, is_none, if◌then◌else◌}
+use Rattle.std.specs.Prelude.{ℕ, Bool, List, [], ◌∷◌, ◌==◌, ◌&&◌, is_some, is_none, bytes_eq, if◌then◌else◌}
 use Rattle.std.specs.declared.option.Option.{Option}
 use Rattle.std.specs.declared.option.Option.TheVariants.{None, Some}
 use Rattle.std.specs.List.{list_any}
@@ -27,6 +27,22 @@ ports_in (s ∷ ss) d = if s.datapath == d then s.ports else ports_in ss d
 -- the ports of the switch with this datapath number, and none where there is no such switch
 abbrev pub ports_of : Topology → ℕ → List ℕ
 ports_of t d = ports_in t.switches d
+
+abbrev pub limit_in : List Switch → ℕ → ℕ
+limit_in [] d = 0
+limit_in (s ∷ ss) d = if s.datapath == d then s.limit else limit_in ss d
+
+-- the entry limit of the switch with this datapath number, and 0 where there is no such switch
+abbrev pub limit_of : Topology → ℕ → ℕ
+limit_of t d = limit_in t.switches d
+
+abbrev pub named_in : List Switch → List ℕ → Option ℕ
+named_in [] name = None
+named_in (s ∷ ss) name = if bytes_eq s.name name then Some s.datapath else named_in ss name
+
+-- the datapath number of the switch with this name, where there is one
+abbrev pub switch_named : Topology → List ℕ → Option ℕ
+switch_named t name = named_in t.switches name
 
 abbrev pub is_port : Topology → ℕ → ℕ → Bool
 is_port t d p = list_any (λ q. q == p) (ports_of t d)

@@ -3,9 +3,13 @@
 #![tactic(auto)]
 
 mod bytes;
+mod fields;
 mod matching;
+mod next;
 mod oxm;
 pub mod oxm_field;
+mod reading;
+mod rules;
 mod stated;
 #[cfg(test)]
 mod tests;
@@ -14,3 +18,4 @@ pub use bytes::{padding, write_length, write_zeros};
 pub use matching::{keeps_rules, write_match};
 pub use oxm::write_oxm;
 pub use pq_model::Match;
+pub use reading::{MatchFault, no_match_begins_another, read_match};

@@ -33,7 +33,7 @@ fn oxms(alloc: Global, value: &Match) -> Result<Vec<u8>, AllocError>
 
 // A match of type OXM with its length, its fields and its padding.
 #[tactic(auto, unfolding(pq_model::specs::Spelling::match_bytes))]
-fn spelling(alloc: Global, value: &Match) -> Result<Vec<u8>, AllocError>
+pub fn spelling(alloc: Global, value: &Match) -> Result<Vec<u8>, AllocError>
     ensures { IfOk result (λ bytes. bytes.items ≡ match_bytes value.now) }
 {
     let oxms = oxms(alloc, value)?;

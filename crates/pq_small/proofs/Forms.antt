@@ -1,5 +1,5 @@
 -- A form, and the texts that are its.
-use Rattle.std.proofs.Common.{◌≡◌, ℕ, ◌+◌, ◌-◌, ◌<◌, ◌≤◌, ◌^◌, ◌↔◌, Bool, true, false, IsTrue, nat_le, cond, List, [], ◌∷◌, ◌++◌, map, length, drop, refl, sym, subst, ap, ◌∙◌, None, Some, Option, arith, MatchOption}
+use Rattle.std.proofs.Common.{◌≡◌, ℕ, ◌+◌, ◌-◌, ◌<◌, ◌≤◌, ◌^◌, ◌↔◌, Bool, true, false, IsTrue, nat_le, List, [], ◌∷◌, ◌++◌, map, length, drop, sym, subst, ap, ◌∙◌, None, Some, Option, arith, MatchOption}
 use Rattle.std.proofs.lemmas.Bool.{and_parts, cond_both, false≢true, leb-true}
 use Rattle.std.proofs.lemmas.Option.{none-some, cond_some}
 use Rattle.std.proofs.lemmas.List.{length-append}
@@ -8,26 +8,24 @@ use Rattle.pq_term.specs.declared.token.Next.{Next}
 use Rattle.pq_term.specs.declared.token.Next.TheVariants.{Token as Found, End, NoToken}
 use Rattle.pq_term.specs.Tokens.{text_of}
 use Rattle.pq_term.specs.Numbers.{number_of, value_of, is_plain, is_decimal, is_hex, is_hexadecimal}
-use Rattle.pq_term.specs.Division.{IsDivision, IsLast, MeetsNoToken}
+use Rattle.pq_term.specs.Division.{IsDivision, MeetsNoToken}
 use Rattle.pq_term.proofs.Digits.{hexadecimal_fits}
 use Rattle.pq_term.proofs.Ends.{one_division}
-use Rattle.pq_small.specs.SmallForm.{SmallForm, Slot, AName, FillsAll, listed, switch_slots, part_slots, slots, KeepsRules, IsSmallForm}
+use Rattle.pq_small.specs.SmallForm.{SmallForm, AName, FillsAll, listed, switch_slots, part_slots, slots, IsSmallForm}
 use Rattle.pq_small.specs.Reading.{keeps_rules, text_at, small_in, IsForm}
 use Rattle.pq_small.proofs.Places.{fills_length, fills_at, says}
 use Rattle.pq_small.proofs.Rules.{kept, tested}
 
 -- a hexadecimal number has 64 bits
 hexadecimal_below : (t : List ℕ) → is_hexadecimal t ≡ true → value_of 16 (drop 2 t) < 2 ^ 64
-hexadecimal_below [] is = absurd (false≢true is)
-hexadecimal_below (z ∷ []) is = absurd (false≢true is)
-hexadecimal_below (z ∷ x ∷ digits) is = hexadecimal_fits digits (and_parts _ (is_hex 1 16 digits) is).1
+hexadecimal_below t is = hexadecimal_fits (drop 2 t) (and_parts _ (is_hex 1 16 (drop 2 t)) is).1
 
 -- a number that a text spells has 64 bits
 number_below : (t : List ℕ) (n : ℕ) → number_of t ≡ Some n → n < 2 ^ 64
 number_below t n =
     cond_both (is_decimal (2 ^ 64 - 1) t) _ _ (λ o. o ≡ Some n → n < 2 ^ 64)
-        (λ decimal is. let most = leb-true _ _ (and_parts (is_plain t) (nat_le (value_of 10 t) (2 ^ 64 - 1)) decimal).1 in let same = (cond_some true (value_of 10 t) n is).1 in omega (arith, most, same))
-        (λ other is. let parts = cond_some (is_hexadecimal t) (value_of 16 (drop 2 t)) n is in subst (λ m. m < 2 ^ 64) parts.1 (hexadecimal_below t parts.0))
+    (λ decimal is. let most = leb-true _ _ (and_parts (is_plain t) (nat_le (value_of 10 t) (2 ^ 64 - 1)) decimal).1 in let same = (cond_some true (value_of 10 t) n is).1 in omega (arith, most, same))
+    (λ other is. let parts = cond_some (is_hexadecimal t) (value_of 16 (drop 2 t)) n is in subst (λ m. m < 2 ^ 64) parts.1 (hexadecimal_below t parts.0))
 
 some_listed : (ps : List ℕ) → 1 ≤ length ps → 1 ≤ length (listed ps)
 some_listed [] some = some

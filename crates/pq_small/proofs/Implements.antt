@@ -139,12 +139,14 @@ added xid priority matching actions = record { xid = xid; cookie = 0; table = 0;
 -- the messages renew the tables of the switch
 renewal_where : Bool → SmallForm → Renewal
 renewal_where both s = record {
-    entries_away = record { xid = 1; cookie = 0; table = 0xff; command = DeleteAll; priority = 0; matching = empty_match; actions = []; goto = None };
-    groups_away = record { xid = 2; command = Delete; group = all_groups; buckets = [] };
-    groups = [];
-    entries = if both then added 5 65535 (untagged_at s.from) (Output (target s) ∷ []) ∷ added 6 65534 untagged [] ∷ [] else [];
-    emptied = 3; grouped = 4; filled = if both then 7 else 5
-  }
+  entries_away = record { xid = 1; cookie = 0; table = 0xff; command = DeleteAll; priority = 0; matching = empty_match; actions = []; goto = None };
+  groups_away = record { xid = 2; command = Delete; group = all_groups; buckets = [] };
+  groups = [];
+  entries = if both then added 5 65535 (untagged_at s.from) (Output (target s) ∷ []) ∷ added 6 65534 untagged [] ∷ [] else [];
+  emptied = 3;
+  grouped = 4;
+  filled = if both then 7 else 5;
+}
 
 renewing : (both : Bool) (s : SmallForm) → IsRenewing (renewal_where both s)
 unfolding renewal_where IsDistinct

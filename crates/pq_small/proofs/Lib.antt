@@ -8,4 +8,7 @@ pub mod Spelled
 pub mod Told
 pub mod Tokens
 pub mod Forms
+pub mod Ascending
+pub mod LawfulPorts
+pub mod LawfulInstall
 pub mod Worked

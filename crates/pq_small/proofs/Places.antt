@@ -90,7 +90,7 @@ says ts s rules filled =
     let from = fills_at (drop n (drop 5 ts)) back end 8 AName (omega (arith, many)) in
     let to = fills_at (drop n (drop 5 ts)) back end 13 AName (omega (arith, many)) in
     joined s (text_at ts 1) (number_of (text_at ts 3)) (port_of (text_at ts (length ts - 8))) (port_of (text_at ts (length ts - 3))) (ports_in (take (length ts - 16 - 5) (drop 5 ts)))
-        name.1 datapath
-        (ap port_of (sym (behind ts n 8 (length ts - 8) (omega (arith, count)))) ∙ spells_port (text_at (drop n (drop 5 ts)) 8) s.from from rules.from)
-        (ap port_of (sym (behind ts n 13 (length ts - 3) (omega (arith, count)))) ∙ spells_port (text_at (drop n (drop 5 ts)) 13) s.to to rules.to)
-        (ap (λ k. ports_in (take k (drop 5 ts))) (omega (arith, count)) ∙ ports)
+    name.1 datapath
+    (ap port_of (sym (behind ts n 8 (length ts - 8) (omega (arith, count)))) ∙ spells_port (text_at (drop n (drop 5 ts)) 8) s.from from rules.from)
+    (ap port_of (sym (behind ts n 13 (length ts - 3) (omega (arith, count)))) ∙ spells_port (text_at (drop n (drop 5 ts)) 13) s.to to rules.to)
+    (ap (λ k. ports_in (take k (drop 5 ts))) (omega (arith, count)) ∙ ports)

@@ -25,8 +25,8 @@ one_more ps p [] rest many is left = absurd (omega (arith, many))
 one_more ps p (t ∷ ts) rest many is left =
     let after : told rest ≡ drop 1 (told ts) = ap told (left ∙ ap (drop 1) (take_rest (t ∷ ts) 1)) ∙ sym (drop-map (λ u. u.now) 1 ts) in
     ap (after_ports ps) (step t.now (told ts) ∙ ap (λ o. with_port o (ports_in (drop 1 (told ts)))) is)
-      ∙ moved ps p (ports_in (drop 1 (told ts)))
-      ∙ ap (λ us. after_ports (ps ++ p ∷ []) (ports_in us)) (sym after)
+    ∙ moved ps p (ports_in (drop 1 (told ts)))
+    ∙ ap (λ us. after_ports (ps ++ p ∷ []) (ports_in us)) (sym after)
 
 -- a text that spells no port
 pub no_more : (ps : List ℕ) (ts : List (Bor (List ℕ))) → 1 ≤ length ts → port_of (get_or ts 0 no_text).now ≡ None → after_ports ps (ports_in (told ts)) ≡ None

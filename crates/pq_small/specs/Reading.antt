@@ -15,6 +15,7 @@ short_number (Some n) = if nat_lt n (2 ^ 32) then Some n else None
 abbrev pub port_of : List ℕ → Option ℕ
 port_of text = short_number (number_of text)
 
+-- a port before others, where all are there
 abbrev pub with_port : Option ℕ → Option (List ℕ) → Option (List ℕ)
 with_port None ports = None
 with_port (Some port) None = None
@@ -26,10 +27,11 @@ ports_in [] = Some []
 ports_in (t ∷ []) = with_port (port_of t) (Some [])
 ports_in (t ∷ comma ∷ ts) = with_port (port_of t) (ports_in ts)
 
--- the text at a place
+-- the text at a place, and no text beyond the end
 abbrev pub text_at : List (List ℕ) → ℕ → List ℕ
 text_at texts place = get_or texts place []
 
+-- what a document says, where all of its parts are there
 abbrev pub small_with : List ℕ → Option ℕ → Option ℕ → Option ℕ → Option (List ℕ) → Option SmallForm
 small_with name None from to ports = None
 small_with name (Some datapath) None to ports = None
@@ -51,6 +53,7 @@ abbrev pub are_distinct : List ℕ → Bool
 are_distinct [] = true
 are_distinct (p ∷ ps) = not (list_any (λ q. q == p) ps) && are_distinct ps
 
+-- the number of a port that a switch may have
 abbrev pub is_port_number : ℕ → Bool
 is_port_number n = nat_le 1 n && nat_le n 0xffffff00
 

@@ -38,12 +38,12 @@ FillsAll [] (s ∷ ss) = ⊥
 FillsAll (t ∷ ts) [] = ⊥
 FillsAll (t ∷ ts) (s ∷ ss) = Fills t s × FillsAll ts ss
 
--- { `,` number }
+-- each number behind a comma
 abbrev pub after_commas : List ℕ → List Slot
 after_commas [] = []
 after_commas (n ∷ ns) = Exactly (codes ",") ∷ ThisNumber n ∷ after_commas ns
 
--- number { `,` number }
+-- the numbers with a comma between each two
 abbrev pub listed : List ℕ → List Slot
 listed [] = []
 listed (n ∷ ns) = ThisNumber n ∷ after_commas ns

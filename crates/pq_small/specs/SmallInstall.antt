@@ -68,11 +68,13 @@ target s = if s.from == s.to then in_port_number else s.to
 abbrev pub rule_messages : SmallForm → List Message
 rule_messages s = add 5 65535 (untagged_at s.from) (Output (target s) ∷ []) ∷ add 6 65534 untagged [] ∷ Barrier 7 ∷ []
 
--- the messages of the switch; where it lacks one of the two ports there are no entries
+-- where the switch lacks one of the two ports there are no entries
+abbrev pub entry_messages : SmallForm → List Message
+entry_messages s = if has_port s s.from && has_port s s.to then rule_messages s else Barrier 5 ∷ []
+
+-- the messages of the switch
 abbrev pub message_list : SmallForm → List Message
-message_list s =
-    delete_entries ∷ delete_groups ∷ Barrier 3 ∷ Barrier 4
-    ∷ (if has_port s s.from && has_port s s.to then rule_messages s else Barrier 5 ∷ [])
+message_list s = delete_entries ∷ delete_groups ∷ Barrier 3 ∷ Barrier 4 ∷ entry_messages s
 
 -- the install of the one switch
 abbrev pub install_of : SmallForm → Install

@@ -1,11 +1,13 @@
+//! The reading of a document of the small form. What it says is taken from the places where the form has it, and then
+//! each text is compared with the form that says the same.
 ghost use Rattle.std.specs.Prelude.{◌≡◌, ◌↔◌, ℕ, ◌+◌, ◌≤◌, List, All, IfOk, IsTrue, MatchOption, length, map, drop};
 ghost use Rattle.std.specs.Option.{option_map};
 ghost use Rattle.pq_term.specs.Tokens.{text_of};
 ghost use Rattle.pq_small.specs.SmallForm.{SmallForm, IsSmallForm};
 ghost use Rattle.pq_small.specs.Reading.{port_of, ports_in, small_in, IsForm};
 
-use crate::small::Small;
 use crate::slot::{are_filled, slots_of};
+use crate::small::Small;
 use pq_term::{TermFault, Token, number_value, token_list};
 use std::alloc::{AllocError, Global};
 
@@ -19,7 +21,7 @@ fn port_of(text: &[u8]) -> Option<u32>
     }
 }
 
-/// The texts after the first.
+/// The texts behind the first, which is a comma where the text is a document of the small form.
 fn after_comma<'a, 'b>(texts: &'a [&'b [u8]]) -> &'a [&'b [u8]]
     ensures { result.now ≡ drop 1 texts.now }
 {
@@ -75,7 +77,7 @@ fn small_in(alloc: Global, texts: &[&[u8]]) -> Result<Option<Small>, AllocError>
     }))
 }
 
-/// Whether the texts are those of the form that says the same as `small`, and keep its rules.
+/// Whether the texts are those of the form that says the same as `small`, and its rules are kept.
 #[tactic(auto, using(crate::proofs::Forms::is_no_form))]
 fn is_form(alloc: Global, small: &Small, texts: &[&[u8]]) -> Result<bool, AllocError>
     ensures { IfOk result (λ is. IsTrue is ↔ IsForm (map (λ t. t.now) texts.now) small.now) }
@@ -124,6 +126,7 @@ fn texts_of<'a>(
 /// The document of the small form that the text is; `None` exactly where it is none. The form is the token list
 /// `switch` NAME `=` number `ports` number { `,` number } `;` `part` NAME `=` `filter` `(` `port` `=` number `)` `>>`
 /// `fwd` `(` number `)` `;`. There are 1 to 16 distinct ports, and all numbers of ports lie from 1 to 0xffffff00.
+/// An `Err` comes only where there is not enough memory.
 pub fn read_small(alloc: Global, bytes: &[u8]) -> Result<Option<Small>, AllocError>
     ensures { IfOk result (λ found. MatchOption found ((s : SmallForm) → IsSmallForm bytes.now s → ⊥) (λ s. IsSmallForm bytes.now s)) }
 {
@@ -137,7 +140,7 @@ pub fn read_small(alloc: Global, bytes: &[u8]) -> Result<Option<Small>, AllocErr
     Ok(found)
 }
 
-/// A text is one document of the small form at most.
+/// A text is at most one document of the small form.
 pub fn is_one_small_form()
     ensures { (bytes : List ℕ) (s t : SmallForm) → IsSmallForm bytes s → IsSmallForm bytes t → s ≡ t }
 {}

@@ -1,3 +1,4 @@
+//! The places of the form, and the texts that may stand at them.
 ghost use Rattle.std.specs.Prelude.{◌≡◌, ◌↔◌, ◌++◌, IsTrue, IfOk, OnOk, map};
 ghost use Rattle.pq_small.specs.SmallForm.{Fills, FillsAll, after_commas, listed, switch_slots, part_slots, slots};
 ghost use Rattle.pq_small.specs.Slots.{slot_value};

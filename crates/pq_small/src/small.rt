@@ -1,3 +1,4 @@
+//! What a document of the small form says, and its rules.
 ghost use Rattle.std.specs.Prelude.{◌≡◌};
 ghost use Rattle.std.specs.List.{list_all};
 ghost use Rattle.pq_small.specs.Reading.{is_port_number, are_distinct};

@@ -3,9 +3,14 @@ ghost use Rattle.std.specs.Int.{w32, to_be_bytes};
 ghost use Rattle.std.specs.List.{flat_map};
 ghost use Rattle.pq_model.specs.Lawful.{IsLawfulMessage};
 ghost use Rattle.pq_model.specs.Spelling.{message_bytes};
-ghost use Rattle.pq_model.specs.Install.{list_bytes};
+ghost use Rattle.pq_model.specs.Install.{list_bytes, old_spelling};
+ghost use Rattle.pq_small.specs.SmallForm.{KeepsRules};
+ghost use Rattle.pq_small.specs.SmallInstall.{install_of};
 ghost use Rattle.pq_small.specs.SmallSpelling.{head_bytes};
 
+use crate::install::install_messages;
+use crate::small::Small;
+use crate::sorted::sorted_ports;
 use pq_flowmod::write_message;
 use pq_model::Message;
 use std::alloc::{AllocError, Global};
@@ -52,4 +57,32 @@ fn write_list(alloc: Global, messages: &[Message], into: &mut Vec<u8>) -> Result
 {
     into.extend_from_slice(&(messages.len() as u32).to_be_bytes())?;
     write_messages(alloc, messages, into)
+}
+
+/// An install of one switch with these ports and messages.
+fn joined(
+    alloc: Global,
+    datapath: u64,
+    ports: &[u32],
+    messages: &[Message],
+) -> Result<Vec<u8>, AllocError>
+    requires few_ports { length ports.now < 2 ^ 16 }
+    requires count { length messages.now < 2 ^ 32 }
+    requires lawful { All IsLawfulMessage messages.now }
+    ensures { IfOk result (λ written. written.items ≡ head_bytes datapath ports.now ++ list_bytes messages.now) }
+{
+    let mut written = head_bytes(alloc, datapath, ports)?;
+    write_list(alloc, messages, &mut written)?;
+    Ok(written)
+}
+
+/// The old spelling of the install of a document of the small form.
+pub(crate) fn old_spelling(alloc: Global, small: &Small) -> Result<Vec<u8>, AllocError>
+    requires { KeepsRules small.now }
+    ensures { IfOk result (λ written. written.items ≡ old_spelling (install_of small.now)) }
+{
+    let ports = sorted_ports(alloc, small)?;
+    let messages = install_messages(alloc, small)?;
+    let written = joined(alloc, small.datapath, &ports, &messages)?;
+    Ok(written)
 }

@@ -2,5 +2,6 @@ pub mod Digits
 pub mod Ends
 pub mod Formed
 pub mod Within
-pub mod GroupValues
 pub mod Cuts
+pub mod GroupValues
+pub mod Stored

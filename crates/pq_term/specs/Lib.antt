@@ -1,5 +1,6 @@
 pub mod Bytes
 pub mod Numbers
+pub mod Stored
 pub mod Groups
 pub mod Forms
 pub mod Tokens

@@ -10,4 +10,4 @@ pub returns : goal.returns
 returns c =
     let places = ap (map slot_value) c.deref.ensures.value ∙ c.in_ok-slots.ensures in
     is_form (told c.args.texts.now) c.args.small.now (sym c.keeps_rules.ensures ∙ c.if-not-keeps_rules.false) c.are_filled-filled.result
-        (subst (λ ss. IsTrue c.are_filled-filled.result ↔ FillsAll (told c.args.texts.now) ss) places c.are_filled-filled.ensures)
+    (subst (λ ss. IsTrue c.are_filled-filled.result ↔ FillsAll (told c.args.texts.now) ss) places c.are_filled-filled.ensures)

@@ -9,14 +9,14 @@ use Rattle.pq_small.proofs.reading.read_small.Goals as goal
 
 -- a form has tokens alone
 pub returns-in-Err-Lex : goal.returns-in-Err-Lex
-returns-in-Err-Lex c = no_token c.args.bytes.now c.in-Err-Lex.field-0-0 (subst (IsTokenFault c.args.bytes.now) c.in-Err-Lex.field-0-is c.in-Err-Lex.ensures)
+returns-in-Err-Lex c = no_token c.args.bytes.now c.in-Err-Lex.field-0-0 (subst (IsTokenFault c.args.bytes.now) c.in-Err-Lex.field-0-is c.in-Err-Lex.ensures.err)
 
 -- the tokens lie within the text
 pub texts_of-requires : goal.texts_of-requires
-texts_of-requires c = subst (All (EndsWithin c.args.bytes.now)) (sym c.deref.ensures.value) (tokens_within c.args.bytes.now 0 c.in-Ok.tokens.items End (omega arith) c.in-Ok.ensures)
+texts_of-requires c = subst (All (EndsWithin c.args.bytes.now)) (sym c.deref.ensures.value) (tokens_within c.args.bytes.now 0 c.in-Ok.tokens.items End (omega arith) c.in-Ok.ensures.ok)
 
 -- the form of the texts is that of the text
 pub returns : goal.returns
 returns c =
     let texts = ap told c.deref-2.ensures.value ∙ c.in_ok-texts.ensures ∙ ap (map _) c.deref.ensures.value in
-    read_form c.args.bytes.now c.in-Ok.tokens.items (told c.deref-2.result.now) c.in_ok-found.found c.in-Ok.ensures texts c.in_ok-found.ensures
+    read_form c.args.bytes.now c.in-Ok.tokens.items (told c.deref-2.result.now) c.in_ok-found.found c.in-Ok.ensures.ok texts c.in_ok-found.ensures

@@ -1,0 +1,165 @@
+ghost use Rattle.std.specs.Prelude.{◌≡◌, ◌↔◌, ℕ, ◌<◌, ◌^◌, ◌∷◌, [], ◌++◌, List, All, IsTrue, map};
+ghost use Rattle.pq_fields.specs.Packet.{rank, width_of};
+ghost use Rattle.pq_model.specs.declared.action.Action.{Action};
+ghost use Rattle.pq_model.specs.declared.action.Action.TheVariants.{Output};
+ghost use Rattle.pq_model.specs.Lawful.{
+  Ascends,
+  IsGroupNumber,
+  IsLawfulAction,
+  IsLawfulBucket,
+  IsLawfulGoto,
+  IsSettable,
+  bucket_place,
+};
+
+use pq_fields::Field;
+use pq_model::Action;
+
+// The greatest number of a port or a group (OpenFlow 1.3.5, sections 7.2.1 and 7.3.4.2).
+const GREATEST: u32 = 0xffff_ff00;
+
+// The port number that stands for the arriving port.
+const IN_PORT: u32 = 0xffff_fff8;
+
+// The port number that stands for the controller.
+const CONTROLLER: u32 = 0xffff_fffd;
+
+// The greatest number of a table.
+const LAST_TABLE: u8 = 254;
+
+// A field that is written has a number of its width.
+fn is_set(field: Field, number: u64) -> bool
+    ensures { IsTrue result ↔ (IsSettable field × (number < 2 ^ width_of field)) }
+{
+    match field {
+        Field::EthSrc | Field::EthDst => number < 0x1_0000_0000_0000,
+        Field::Ipv4Src | Field::Ipv4Dst => number < 0x1_0000_0000,
+        Field::TcpSrc | Field::TcpDst | Field::UdpSrc | Field::UdpDst => number < 0x1_0000,
+        _ => false,
+    }
+}
+
+/// Whether an action keeps the rules on actions.
+pub fn is_lawful(action: Action) -> bool
+    ensures { IsTrue result ↔ IsLawfulAction action }
+{
+    match action {
+        Action::Output(port) => {
+            (1 <= port && port <= GREATEST) || port == IN_PORT || port == CONTROLLER
+        }
+        Action::PushVlan | Action::PopVlan | Action::Group(_) => true,
+        Action::SetVlan(word) => 0x1001 <= word && word <= 0x1ffe,
+        Action::SetField(field, number) => is_set(field, number),
+    }
+}
+
+/// Whether each action keeps the rules on actions.
+pub fn are_lawful(actions: &[Action]) -> bool
+    ensures { IsTrue result ↔ All IsLawfulAction actions.now }
+{
+    for action in actions {
+        if !is_lawful(*action) {
+            return false;
+        }
+    }
+    true
+}
+
+/// Whether an entry of the table may go on in another: a greater one, if in any.
+pub fn is_goto(table: u8, goto: Option<u8>) -> bool
+    ensures { IsTrue result ↔ IsLawfulGoto table goto }
+{
+    match goto {
+        None => true,
+        Some(next) => table < next && next <= LAST_TABLE,
+    }
+}
+
+/// Whether a group may have the number.
+pub fn is_group_number(number: u32) -> bool
+    ensures { IsTrue result ↔ IsGroupNumber number }
+{
+    1 <= number && number <= GREATEST
+}
+
+// A field's place in field order.
+fn rank(field: Field) -> u8
+    ensures { result ≡ rank field }
+{
+    match field {
+        Field::Switch => 0,
+        Field::Port => 1,
+        Field::EthType => 2,
+        Field::IpProto => 3,
+        Field::EthSrc => 4,
+        Field::EthDst => 5,
+        Field::Ipv4Src => 6,
+        Field::Ipv4Dst => 7,
+        Field::TcpSrc => 8,
+        Field::TcpDst => 9,
+        Field::UdpSrc => 10,
+        Field::UdpDst => 11,
+        Field::Ipv6Src => 12,
+        Field::Ipv6Dst => 13,
+    }
+}
+
+// The place of an action in a bucket.
+fn place(action: Action) -> u8
+    ensures { result ≡ bucket_place action }
+{
+    match action {
+        Action::PopVlan => 0,
+        Action::PushVlan => 1,
+        Action::SetVlan(_) => 2,
+        Action::SetField(field, _) => 3 + rank(field),
+        Action::Output(_) => 17,
+        Action::Group(_) => 18,
+    }
+}
+
+// Whether the actions stand in their places, each at most once.
+fn are_placed(actions: &[Action]) -> bool
+    ensures { IsTrue result ↔ Ascends (map bucket_place actions.now) }
+{
+    let mut rest = actions;
+    while let [first, second, ..] = rest {
+        if place(*first) >= place(*second) {
+            return false;
+        }
+        rest = &rest[1..];
+    }
+    true
+}
+
+// Whether the last action is an Output.
+fn end_with_output(actions: &[Action]) -> bool
+    ensures { IsTrue result ↔ ((front : List Action) × (port : ℕ) × (actions.now ≡ front ++ Output port ∷ [])) }
+{
+    matches!(actions, [.., Action::Output(_)])
+}
+
+/// Whether the actions may stand in a bucket.
+pub fn is_bucket(actions: &[Action]) -> bool
+    ensures { IsTrue result ↔ IsLawfulBucket actions.now }
+{
+    if !are_lawful(actions) {
+        return false;
+    }
+    if !are_placed(actions) {
+        return false;
+    }
+    end_with_output(actions)
+}
+
+/// Whether there is a bucket, and each one's actions may stand in a bucket.
+pub fn are_buckets(buckets: &[Vec<Action>]) -> bool
+    ensures { IsTrue result ↔ All IsLawfulBucket (map (λ b. b.items) buckets.now) }
+{
+    for bucket in buckets {
+        if !is_bucket(bucket) {
+            return false;
+        }
+    }
+    true
+}

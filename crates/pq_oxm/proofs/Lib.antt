@@ -1,0 +1,5 @@
+pub mod Numbers
+pub mod FieldLaws
+pub mod Matches
+pub mod Whole
+pub mod Places

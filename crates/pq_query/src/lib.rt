@@ -1,0 +1,6 @@
+//! What a query asks for.
+#![tactic(auto)]
+
+mod instance;
+
+pub use instance::Instance;

@@ -1,0 +1,17 @@
+//! The switch machine: what OpenFlow messages do to the tables of a switch, and what the switch sends for a packet
+//! (OpenFlow 1.3.5, sections 5 and 7.3.4).
+#![tactic(auto)]
+
+mod actions;
+mod entries;
+mod entry;
+mod groups;
+mod matching;
+mod sending;
+mod sorting;
+mod tables;
+
+pub use matching::{covers, same_match};
+pub use pq_model::{Sent, Tagged};
+pub use sending::hop;
+pub use tables::Tables;
