@@ -1,9 +1,9 @@
 -- Numbers that groups of digits spell.
-use Rattle.std.proofs.Common.{◌≡◌, ℕ, ◌+◌, ◌-◌, ◌*◌, ◌^◌, ◌<◌, ◌≤◌, true, List, [], ◌∷◌, length, suc, refl, sym, subst, arith}
+use Rattle.std.proofs.Common.{◌≡◌, ℕ, ◌+◌, ◌-◌, ◌*◌, ◌^◌, ◌<◌, ◌≤◌, true, List, [], ◌∷◌, length, suc, refl, subst, arith}
 use Rattle.std.specs.Prelude.{fold, leb, ◌==◌, ◌&&◌}
 use Rattle.std.specs.Str.{byte}
 use Rattle.std.specs.List.{list_all}
-use Rattle.std.proofs.Math.Nat.{pow-zero, pow-succ', mul-le-mul_right, pow-le-pow_right}
+use Rattle.std.proofs.Math.Nat.{pow-succ', mul-le-mul_right, pow-le-pow_right}
 use Rattle.std.proofs.lemmas.Bool.{and_parts, and_from, ltb-true, leb-true, lt-ltb}
 use Rattle.pq_term.specs.declared.groups.Group.TheVariants.{Hex, Decimal}
 use Rattle.pq_term.specs.Numbers.{value_of, is_digit, is_hex, is_plain, is_decimal}
