@@ -69,7 +69,6 @@ module _ (n : ℕ) (in_port vlan : Option ℕ) where
   lower p q h k less =
       let a = shaped p h in
       let b = shaped q k in
-      let rest = ordering_then (nat_cmp p.down q.down) (headers_cmp p.headers q.headers) in
       no_more p.down q.down (headers_cmp p.headers q.headers) (sym (ordered n in_port vlan (nat_cmp p.table q.table) (option_cmp nat_cmp p.in_port q.in_port) (option_cmp nat_cmp p.vlan q.vlan)
       (sym (nat_cmp_total.congr n p.table q.table a.table) ∙ b.table) (sym (number_total.congr in_port p.in_port q.in_port a.port) ∙ b.port) (sym (number_total.congr vlan p.vlan q.vlan a.word) ∙ b.word)
       (nat_cmp p.down q.down) (headers_cmp p.headers q.headers)) ∙ less)

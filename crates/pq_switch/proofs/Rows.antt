@@ -61,9 +61,6 @@ module _ {K X : Type 0} where
       removed [] tells none = refl
       removed (e ∷ es) (here, tells) none = by (is_eq (R k e.0)) refl none (removed es tells)
         where
-          kept : List X
-          kept = filter p (values_of es)
-
           by : (b : Bool) → is_eq (R k e.0) ≡ b → lookup (is_at (R k)) (cond b es (e ∷ remove_entry (is_at (R k)) es)) ≡ None →
               (lookup (is_at (R k)) (remove_entry (is_at (R k)) es) ≡ None → values_of (remove_entry (is_at (R k)) es) ≡ filter p (values_of es)) →
               values_of (cond b es (e ∷ remove_entry (is_at (R k)) es)) ≡ cond (p e.1) (e.1 ∷ filter p (values_of es)) (filter p (values_of es))
@@ -93,9 +90,6 @@ module _ {K X : Type 0} where
       parts o v [] tells sorted = record { front = []; back = []; is = refl; rest = refl }
       parts o v (e ∷ es) (here, tells) (later, sorted) = by (R k e.0) refl (parts o v es tells sorted)
         where
-          stays : (b : Bool) → p e.1 ≡ b → filter p (values_of (e ∷ es)) ≡ cond b (e.1 ∷ filter p (values_of es)) (filter p (values_of es))
-          stays b h = ap (λ b. cond b (e.1 ∷ filter p (values_of es)) (filter p (values_of es))) h
-
           by : (r : Ordering) → R k e.0 ≡ r → Parts es (insert_entry R es k v) v → Parts (e ∷ es) (match_ordering r ((k, v) ∷ e ∷ es) ((e.0, v) ∷ es) (e ∷ insert_entry R es k v)) v
           by Less is more = record {
             front = [];

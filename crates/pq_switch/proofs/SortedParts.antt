@@ -26,9 +26,6 @@ module _ {A : Type 0} (key : A → List ℕ) where
   filter-put p x [] r = refl
   filter-put p x (y ∷ ys) (above, r) = filter-choice key p (below y x) (y ∷ put_by key x ys) (x ∷ y ∷ ys) ∙ by (below y x) refl (p x) (p y) (filter-put p x ys r)
     where
-      kept : List A
-      kept = filter p ys
-
       by : (b : Bool) → below y x ≡ b → (c d : Bool) → filter p (put_by key x ys) ≡ cond c (put_by key x (filter p ys)) (filter p ys) →
           cond b (cond d (y ∷ filter p (put_by key x ys)) (filter p (put_by key x ys))) (cond c (x ∷ cond d (y ∷ filter p ys) (filter p ys)) (cond d (y ∷ filter p ys) (filter p ys)))
           ≡ cond c (put_by key x (cond d (y ∷ filter p ys) (filter p ys))) (cond d (y ∷ filter p ys) (filter p ys))
