@@ -5,8 +5,8 @@
 mod action;
 mod action_reading;
 mod flow;
-mod group;
 mod flow_reading;
+mod group;
 mod group_reading;
 mod message;
 mod reading;
@@ -16,5 +16,5 @@ mod set_field;
 mod tests;
 
 pub use message::write_message;
-pub use reading::{MessageFault, no_message_begins_another, read_message};
 pub use pq_model::{Action, FlowCommand, FlowMod, GroupCommand, GroupMod, Message};
+pub use reading::{MessageFault, no_message_begins_another, read_message};
