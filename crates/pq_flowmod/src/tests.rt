@@ -282,6 +282,7 @@ fn other_entries_are_refused(rt: HostRuntime) {
         (111, 1),
     ] {
         let mut changed = TAG;
+        assert!(rt; at < changed.len());
         changed[at] = byte;
         assert!(rt; is_refused(rt.alloc(), &changed));
     }
@@ -305,6 +306,7 @@ fn other_groups_are_refused(rt: HostRuntime) {
         (49, 1),
     ] {
         let mut changed = SPREAD;
+        assert!(rt; at < changed.len());
         changed[at] = byte;
         assert!(rt; is_refused(rt.alloc(), &changed));
     }
