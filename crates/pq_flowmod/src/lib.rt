@@ -1,5 +1,5 @@
-//! The messages that change a switch's flow entries and groups, and how they are spelled (OpenFlow
-//! 1.3.5, sections 7.1, 7.2.4, 7.2.5, 7.3.4 and 7.3.8). All numbers are spelled big-endian.
+//! The messages that change a switch's flow entries and groups, and how they are spelled and read
+//! (OpenFlow 1.3.5, sections 7.1, 7.2.4, 7.2.5, 7.3.4 and 7.3.8). All numbers are spelled big-endian.
 #![tactic(auto)]
 
 mod action;
