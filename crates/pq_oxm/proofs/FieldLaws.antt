@@ -45,6 +45,7 @@ more_masked_of fields bytes ones field None rest of f other = of f (or_parts _ _
 more_masked_of fields bytes ones field (Some a) rest of f other = masked_of fields bytes field a rest (eqb a.1 ones) f other
 
 module _ (size limit : ℕ) (bytes : ℕ → List ℕ) (number : List ℕ → ℕ) (reads : Reads size limit bytes number) where
+  -- a field that begins the bytes is seen, its number is read, and the rest is kept
   oxm_read : (code : ℕ) (n len : ℕ) (rest : List ℕ) → len ≡ length (bytes n) → n < limit →
       (is_field code size (0x80 ∷ 0x00 ∷ code ∷ len ∷ (bytes n ++ rest)) ≡ true)
       × (number (take size (drop 4 (0x80 ∷ 0x00 ∷ code ∷ len ∷ (bytes n ++ rest)))) ≡ n)
