@@ -1,15 +1,11 @@
 -- Lawful actions that are spelled are read back.
-use Rattle.std.proofs.Common.{◌≡◌, ℕ, ◌-◌, ◌+◌, ◌^◌, ◌<◌, ◌≤◌, List, [], ◌∷◌, ◌++◌, length, get_or, take, drop, Option, None, Some, refl, sym, ap, subst, ◌∙◌, append_assoc, arith, inl, inr}
-use Rattle.std.specs.Prelude.{All}
-use Rattle.std.specs.Int.{w16, w32, to_be_bytes, from_be_bytes}
+use Rattle.std.proofs.Common.{◌≡◌, ℕ, ◌-◌, ◌^◌, ◌<◌, ◌≤◌, List, [], ◌++◌, length, get_or, take, drop, None, Some, refl, sym, ap, ◌∙◌, arith, inl, inr}
 use Rattle.std.proofs.lemmas.List.{take_at, drop_at, take_rest}
-use Rattle.std.proofs.lemmas.List.Elements.{All-tail}
-use Rattle.std.proofs.lemmas.List.Concat.{flat_map-cons}
 use Rattle.pq_fields.specs.declared.field.Field.TheVariants.{Switch, Port, EthType, IpProto, EthSrc, EthDst, Ipv4Src, Ipv4Dst, TcpSrc, TcpDst, UdpSrc, UdpDst, Ipv6Src, Ipv6Dst}
 use Rattle.pq_model.specs.declared.action.Action.{Action}
 use Rattle.pq_model.specs.declared.action.Action.TheVariants.{Output, PushVlan, PopVlan, Group, SetVlan, SetField}
 use Rattle.pq_model.specs.Lawful.{IsLawfulAction}
-use Rattle.pq_model.specs.Spelling.{action_bytes, actions_bytes}
+use Rattle.pq_model.specs.Spelling.{action_bytes}
 use Rattle.pq_oxm.proofs.Numbers.{reads_16, reads_32, reads_mac}
 use Rattle.pq_flowmod.specs.Reading.{action_in, set_in}
 

@@ -1,9 +1,9 @@
 -- Bytes begin with the spelling of one message at most.
-use Rattle.std.proofs.Common.{◌≡◌, ℕ, ◌-◌, ◌+◌, ◌^◌, ◌<◌, ◌≤◌, List, [], ◌∷◌, ◌++◌, length, get_or, take, drop, Option, None, Some, refl, sym, ap, subst, ◌∙◌, arith, inl, inr}
+use Rattle.std.proofs.Common.{◌≡◌, ℕ, ◌-◌, ◌^◌, ◌<◌, List, [], ◌∷◌, ◌++◌, length, get_or, take, drop, Option, Some, refl, sym, ap, subst, ◌∙◌, arith, inl, inr}
 use Rattle.std.specs.Prelude.{All}
 use Rattle.std.specs.List.{flat_map}
 use Rattle.std.proofs.lemmas.Bool.{cases_lt, cases_eq}
-use Rattle.std.proofs.lemmas.List.{append-nil, drop_at, take_at, length-append}
+use Rattle.std.proofs.lemmas.List.{drop_at, take_at, length-append}
 use Rattle.std.proofs.lemmas.List.Elements.{All-nil, All-tail}
 use Rattle.std.proofs.lemmas.List.Concat.{flat_map-cons}
 use Rattle.pq_model.specs.declared.action.Action.{Action}
@@ -18,7 +18,7 @@ use Rattle.pq_model.specs.Mods.{FlowValue, GroupValue}
 use Rattle.pq_model.specs.Spelling.{action_bytes, actions_bytes, apply_bytes, bucket_bytes, flow_body, flow_code, goto_bytes, group_body, group_code, match_bytes, message_bytes}
 use Rattle.pq_oxm.proofs.Whole.{one_match}
 use Rattle.pq_flowmod.specs.Reading.{IsReadable, action_in, message_body, message_kind, message_xid}
-use Rattle.pq_flowmod.proofs.ActionsRead.{action_is, action_long, action_read, action_told}
+use Rattle.pq_flowmod.proofs.ActionsRead.{action_long, action_read, action_told}
 use Rattle.pq_flowmod.proofs.FlowLaws.{flow_is, goes_nowhere, goes_on, is_applied, not_applied}
 use Rattle.pq_flowmod.proofs.Parts.{bucket_long, bucket_told, buckets_short, each_readable, flow_parted, group_below, group_parted, instructions_short, message_parted}
 
@@ -70,20 +70,20 @@ one_parting as_ bs g h short other same =
     let bytes : List ℕ = apply_bytes as_ ++ goto_bytes g in
     elim (cases_lt (length bytes) 8) [
       | inl less ↦
-        let one = not_applied as_ g bytes short refl (inl less) in
-        let two = not_applied bs h bytes other same (inl less) in
-        (sym one.0 ∙ two.0, sym one.1 ∙ two.1)
+          let one = not_applied as_ g bytes short refl (inl less) in
+          let two = not_applied bs h bytes other same (inl less) in
+          (sym one.0 ∙ two.0, sym one.1 ∙ two.1)
       | inr long ↦ elim (cases_eq (get_or bytes 1 0) 4) [
         | inl kind ↦
-          let one = is_applied as_ g bytes short refl long kind in
-          let two = is_applied bs h bytes other same long kind in
-          let size : one.size ≡ two.size = sym one.told ∙ two.told in
-          (sym one.inside ∙ ap (λ (k : ℕ). take (k - 8) (drop 8 bytes)) size ∙ two.inside, sym one.rest ∙ ap (λ (k : ℕ). drop k bytes) size ∙ two.rest)
+            let one = is_applied as_ g bytes short refl long kind in
+            let two = is_applied bs h bytes other same long kind in
+            let size : one.size ≡ two.size = sym one.told ∙ two.told in
+            (sym one.inside ∙ ap (λ (k : ℕ). take (k - 8) (drop 8 bytes)) size ∙ two.inside, sym one.rest ∙ ap (λ (k : ℕ). drop k bytes) size ∙ two.rest)
         | inr none ↦
-          let one = not_applied as_ g bytes short refl (inr none) in
-          let two = not_applied bs h bytes other same (inr none) in
-          (sym one.0 ∙ two.0, sym one.1 ∙ two.1)
-        ]
+            let one = not_applied as_ g bytes short refl (inr none) in
+            let two = not_applied bs h bytes other same (inr none) in
+            (sym one.0 ∙ two.0, sym one.1 ∙ two.1)
+      ]
     ]
 
 one_goto : (g h : Option ℕ) → goto_bytes g ≡ goto_bytes h → g ≡ h
@@ -138,13 +138,13 @@ one_flow f h law other xid short same =
     let two = flow_parted body h same in
     let matching : f.matching ≡ h.matching = one_match f.matching h.matching _ _ law.matching other.matching (sym one.rest ∙ two.rest) in
     let rests : match_bytes f.matching ++ (apply_bytes f.actions ++ goto_bytes f.goto) ≡ match_bytes f.matching ++ (apply_bytes h.actions ++ goto_bytes h.goto) =
-        sym one.rest ∙ two.rest ∙ ap (λ (m : _). match_bytes m ++ (apply_bytes h.actions ++ goto_bytes h.goto)) (sym matching) in
+    sym one.rest ∙ two.rest ∙ ap (λ (m : _). match_bytes m ++ (apply_bytes h.actions ++ goto_bytes h.goto)) (sym matching) in
     let behind : apply_bytes f.actions ++ goto_bytes f.goto ≡ apply_bytes h.actions ++ goto_bytes h.goto =
-        sym (drop_at (match_bytes f.matching) _ (length (match_bytes f.matching)) refl) ∙ ap (drop (length (match_bytes f.matching))) rests ∙ drop_at (match_bytes f.matching) _ (length (match_bytes f.matching)) refl in
+    sym (drop_at (match_bytes f.matching) _ (length (match_bytes f.matching)) refl) ∙ ap (drop (length (match_bytes f.matching))) rests ∙ drop_at (match_bytes f.matching) _ (length (match_bytes f.matching)) refl in
     let parts = one_parting f.actions h.actions f.goto h.goto (instructions_short body f refl short) (instructions_short body h same (subst (λ (bs : List ℕ). length bs < 2 ^ 16) same short)) behind in
     flow_is h f.xid f.cookie f.table f.command f.priority f.matching f.actions f.goto xid (sym (one.cookie law.cookie) ∙ two.cookie other.cookie) (sym one.table ∙ two.table)
-        (one_code f.command h.command (sym one.command ∙ two.command)) (sym (one.priority law.priority) ∙ two.priority other.priority) matching
-        (one_action_list f.actions h.actions (lawful_actions f law) (lawful_actions h other) parts.0) (one_goto f.goto h.goto parts.1)
+    (one_code f.command h.command (sym one.command ∙ two.command)) (sym (one.priority law.priority) ∙ two.priority other.priority) matching
+    (one_action_list f.actions h.actions (lawful_actions f law) (lawful_actions h other) parts.0) (one_goto f.goto h.goto parts.1)
 
 one_group : (g h : GroupValue) → IsLawfulGroup g → IsLawfulGroup h → g.xid ≡ h.xid → length (group_body g) < 2 ^ 16 → group_body g ≡ group_body h → g ≡ h
 one_group g h law other xid short same =
@@ -154,9 +154,9 @@ one_group g h law other xid short same =
     let command : g.command ≡ h.command = one_group_code g.command h.command (sym one.command ∙ two.command) in
     let group : g.group ≡ h.group = sym (one.group (group_below g law)) ∙ two.group (group_below h other) in
     let buckets : g.buckets ≡ h.buckets = one_bucket_list g.buckets h.buckets
-        (each_readable g.buckets (lawful_buckets g law) (buckets_short body g refl short))
-        (each_readable h.buckets (lawful_buckets h other) (buckets_short body h same (subst (λ (bs : List ℕ). length bs < 2 ^ 16) same short)))
-        (sym one.rest ∙ two.rest) in
+    (each_readable g.buckets (lawful_buckets g law) (buckets_short body g refl short))
+    (each_readable h.buckets (lawful_buckets h other) (buckets_short body h same (subst (λ (bs : List ℕ). length bs < 2 ^ 16) same short)))
+    (sym one.rest ∙ two.rest) in
     λ i. record { xid = xid i; command = command i; group = group i; buckets = buckets i }
 
 one_content : (m n : Message) → IsLawfulMessage m → IsLawfulMessage n → message_kind m ≡ message_kind n → message_xid m ≡ message_xid n → length (message_body m) < 2 ^ 16 → message_body m ≡ message_body n → m ≡ n
@@ -178,4 +178,4 @@ one_message m n more others law other same =
     let two = message_parted bytes n others other same in
     let long : length (message_body m) ≡ length (message_body n) = omega (arith, sym one.told ∙ two.told) in
     one_content m n law other (sym one.kind ∙ two.kind) (sym one.xid ∙ two.xid) (omega (arith, one.short))
-        (sym one.body ∙ ap (λ (k : ℕ). take k (drop 8 bytes)) long ∙ two.body)
+    (sym one.body ∙ ap (λ (k : ℕ). take k (drop 8 bytes)) long ∙ two.body)

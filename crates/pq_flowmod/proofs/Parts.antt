@@ -1,5 +1,5 @@
 -- The parts of the spellings of messages, and where they stand.
-use Rattle.std.proofs.Common.{◌≡◌, ℕ, ◌+◌, ◌-◌, ◌^◌, ◌<◌, ◌≤◌, List, [], ◌∷◌, ◌++◌, length, get_or, take, drop, replicate, Option, None, Some, refl, sym, ap, subst, ◌∙◌, append_assoc, arith, inl, inr}
+use Rattle.std.proofs.Common.{◌≡◌, ℕ, ◌+◌, ◌-◌, ◌^◌, ◌<◌, ◌≤◌, List, [], ◌∷◌, ◌++◌, length, get_or, take, drop, replicate, Some, refl, sym, ap, subst, ◌∙◌, append_assoc, arith, inl, inr}
 use Rattle.std.specs.Prelude.{All}
 use Rattle.std.specs.List.{flat_map}
 use Rattle.std.specs.Int.{w16, w32, w64, to_be_bytes, from_be_bytes}
@@ -100,11 +100,11 @@ pub record IsGroup (body : List ℕ) (g : GroupValue) : Type 0 where
 pub group_parted : (body : List ℕ) (g : GroupValue) → body ≡ group_body g → IsGroup body g
 unfolding group_body
 group_parted body g is = rw is (record {
-    long = omega arith;
-    command = refl;
-    group = λ below. reads_32.again g.group below;
-    rest = refl;
-  })
+  long = omega arith;
+  command = refl;
+  group = λ below. reads_32.again g.group below;
+  rest = refl;
+})
 
 -- a message: its header, and what stands behind it
 pub record IsMessage (bytes : List ℕ) (m : Message) : Type 0 where

@@ -1,5 +1,5 @@
 -- What the bytes of an action say; whether they are spelled as they must be is not asked here.
-use Rattle.std.specs.Prelude.{ℕ, ◌^◌, ◌<◌, All, List, [], length, get_or, take, drop, nat_lt, ◌==◌, if◌then◌else◌}
+use Rattle.std.specs.Prelude.{ℕ, ◌/◌, ◌^◌, ◌<◌, All, List, [], length, get_or, take, drop, nat_lt, ◌==◌, if◌then◌else◌}
 use Rattle.std.specs.declared.option.Option.{Option}
 use Rattle.std.specs.declared.option.Option.TheVariants.{None, Some}
 use Rattle.std.specs.Int.{w16, w32, from_be_bytes}
@@ -19,16 +19,16 @@ number_at place size bytes = take size (drop place bytes)
 -- the field that a set-field sets, by the third byte of its OXM field, and the number behind that field's header
 unfoldable pub set_in : List ℕ → Option Action
 set_in bytes =
-    let code = get_or bytes 6 0 in
-    if code == 12 then Some (SetVlan (from_be_bytes w16 (number_at 8 2 bytes)))
-    else if code == 8 then Some (SetField EthSrc (mac_number (number_at 8 6 bytes)))
-    else if code == 6 then Some (SetField EthDst (mac_number (number_at 8 6 bytes)))
-    else if code == 22 then Some (SetField Ipv4Src (from_be_bytes w32 (number_at 8 4 bytes)))
-    else if code == 24 then Some (SetField Ipv4Dst (from_be_bytes w32 (number_at 8 4 bytes)))
-    else if code == 26 then Some (SetField TcpSrc (from_be_bytes w16 (number_at 8 2 bytes)))
-    else if code == 28 then Some (SetField TcpDst (from_be_bytes w16 (number_at 8 2 bytes)))
-    else if code == 30 then Some (SetField UdpSrc (from_be_bytes w16 (number_at 8 2 bytes)))
-    else if code == 32 then Some (SetField UdpDst (from_be_bytes w16 (number_at 8 2 bytes)))
+    let field = get_or bytes 6 0 / 2 in
+    if field == 6 then Some (SetVlan (from_be_bytes w16 (number_at 8 2 bytes)))
+    else if field == 4 then Some (SetField EthSrc (mac_number (number_at 8 6 bytes)))
+    else if field == 3 then Some (SetField EthDst (mac_number (number_at 8 6 bytes)))
+    else if field == 11 then Some (SetField Ipv4Src (from_be_bytes w32 (number_at 8 4 bytes)))
+    else if field == 12 then Some (SetField Ipv4Dst (from_be_bytes w32 (number_at 8 4 bytes)))
+    else if field == 13 then Some (SetField TcpSrc (from_be_bytes w16 (number_at 8 2 bytes)))
+    else if field == 14 then Some (SetField TcpDst (from_be_bytes w16 (number_at 8 2 bytes)))
+    else if field == 15 then Some (SetField UdpSrc (from_be_bytes w16 (number_at 8 2 bytes)))
+    else if field == 16 then Some (SetField UdpDst (from_be_bytes w16 (number_at 8 2 bytes)))
     else None
 
 -- an action by its type

@@ -7,20 +7,20 @@ use crate::set_field::{write_set_field, write_set_vlan};
 use pq_model::Action;
 use std::alloc::{AllocError, Global};
 
-// The type of an action that sends to a port (OpenFlow 1.3.5, section 7.2.5).
-const OUTPUT: u8 = 0;
+/// The type of an action that sends to a port (OpenFlow 1.3.5, section 7.2.5).
+pub const OUTPUT: u8 = 0;
 
-// The type of an action that puts a VLAN header in front.
-const PUSH_VLAN: u8 = 17;
+/// The type of an action that puts a VLAN header in front.
+pub const PUSH_VLAN: u8 = 17;
 
-// The type of an action that takes the VLAN header away.
-const POP_VLAN: u8 = 18;
+/// The type of an action that takes the VLAN header away.
+pub const POP_VLAN: u8 = 18;
 
-// The type of an action that runs a group.
-const GROUP: u8 = 22;
+/// The type of an action that runs a group.
+pub const GROUP: u8 = 22;
 
-// The port number that stands for the controller (OpenFlow 1.3.5, section 7.2.1).
-const CONTROLLER: u32 = 0xffff_fffd;
+/// The port number that stands for the controller (OpenFlow 1.3.5, section 7.2.1).
+pub const CONTROLLER: u32 = 0xffff_fffd;
 
 // The length that stands for a whole packet, of which the switch keeps no copy.
 const NO_BUFFER: u16 = 0xffff;

@@ -5,9 +5,11 @@ ghost use Rattle.pq_model.specs.Lawful.{IsLawfulAction};
 ghost use Rattle.pq_model.specs.Spelling.{action_bytes, actions_bytes};
 ghost use Rattle.pq_flowmod.specs.Reading.{action_in, set_in};
 
+use crate::action::{GROUP, OUTPUT, POP_VLAN, PUSH_VLAN};
+use crate::set_field::SET_FIELD;
 use pq_fields::Field;
 use pq_model::Action;
-use pq_oxm::{mac_of, u16_of, u32_of};
+use pq_oxm::{mac_of, oxm_field, u16_of, u32_of};
 use std::alloc::{AllocError, Global};
 
 // The length of an action that stands at the front, as it tells it itself.
@@ -28,22 +30,40 @@ fn action_len(bytes: &[u8]) -> Option<usize>
     Some(size)
 }
 
-// What a set-field sets.
+// What a set-field sets. The third byte of its OXM field is the field's number and a bit for a mask.
 #[tactic(auto, unfolding(crate::specs::Reading::set_in))]
 fn set_of(bytes: &[u8]) -> Option<Action>
     requires { 16 ≤ length bytes.now }
     ensures { result ≡ set_in bytes.now }
 {
-    match bytes[6] {
-        12 => Some(Action::SetVlan(u16_of(&bytes[8..10]))),
-        8 => Some(Action::SetField(Field::EthSrc, mac_of(&bytes[8..14]))),
-        6 => Some(Action::SetField(Field::EthDst, mac_of(&bytes[8..14]))),
-        22 => Some(Action::SetField(Field::Ipv4Src, u64::from(u32_of(&bytes[8..12])))),
-        24 => Some(Action::SetField(Field::Ipv4Dst, u64::from(u32_of(&bytes[8..12])))),
-        26 => Some(Action::SetField(Field::TcpSrc, u64::from(u16_of(&bytes[8..10])))),
-        28 => Some(Action::SetField(Field::TcpDst, u64::from(u16_of(&bytes[8..10])))),
-        30 => Some(Action::SetField(Field::UdpSrc, u64::from(u16_of(&bytes[8..10])))),
-        32 => Some(Action::SetField(Field::UdpDst, u64::from(u16_of(&bytes[8..10])))),
+    match bytes[6] / 2 {
+        oxm_field::VLAN_VID => Some(Action::SetVlan(u16_of(&bytes[8..10]))),
+        oxm_field::ETH_SRC => Some(Action::SetField(Field::EthSrc, mac_of(&bytes[8..14]))),
+        oxm_field::ETH_DST => Some(Action::SetField(Field::EthDst, mac_of(&bytes[8..14]))),
+        oxm_field::IPV4_SRC => Some(Action::SetField(
+            Field::Ipv4Src,
+            u64::from(u32_of(&bytes[8..12])),
+        )),
+        oxm_field::IPV4_DST => Some(Action::SetField(
+            Field::Ipv4Dst,
+            u64::from(u32_of(&bytes[8..12])),
+        )),
+        oxm_field::TCP_SRC => Some(Action::SetField(
+            Field::TcpSrc,
+            u64::from(u16_of(&bytes[8..10])),
+        )),
+        oxm_field::TCP_DST => Some(Action::SetField(
+            Field::TcpDst,
+            u64::from(u16_of(&bytes[8..10])),
+        )),
+        oxm_field::UDP_SRC => Some(Action::SetField(
+            Field::UdpSrc,
+            u64::from(u16_of(&bytes[8..10])),
+        )),
+        oxm_field::UDP_DST => Some(Action::SetField(
+            Field::UdpDst,
+            u64::from(u16_of(&bytes[8..10])),
+        )),
         _ => None,
     }
 }
@@ -55,11 +75,11 @@ fn action_of(bytes: &[u8]) -> Option<Action>
     ensures { result ≡ action_in bytes.now }
 {
     match bytes[1] {
-        0 => Some(Action::Output(u32_of(&bytes[4..8]))),
-        17 => Some(Action::PushVlan),
-        18 => Some(Action::PopVlan),
-        22 => Some(Action::Group(u32_of(&bytes[4..8]))),
-        25 => {
+        OUTPUT => Some(Action::Output(u32_of(&bytes[4..8]))),
+        PUSH_VLAN => Some(Action::PushVlan),
+        POP_VLAN => Some(Action::PopVlan),
+        GROUP => Some(Action::Group(u32_of(&bytes[4..8]))),
+        SET_FIELD => {
             if bytes.len() < 16 {
                 return None;
             }

@@ -10,8 +10,8 @@ use std::alloc::{AllocError, Global};
 // The type of an instruction that goes on in another table (OpenFlow 1.3.5, section 7.2.4).
 const GOTO_TABLE: u8 = 1;
 
-// The type of an instruction that applies actions.
-const APPLY_ACTIONS: u8 = 4;
+/// The type of an instruction that applies actions.
+pub const APPLY_ACTIONS: u8 = 4;
 
 // The number of a command (OpenFlow 1.3.5, section 7.3.4.1).
 fn flow_code(command: FlowCommand) -> u8

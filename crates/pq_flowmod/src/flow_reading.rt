@@ -17,13 +17,11 @@ ghost use Rattle.pq_model.specs.Spelling.{
 };
 
 use crate::action_reading::actions_of;
+use crate::flow::APPLY_ACTIONS;
 use crate::rules::{is_addition, is_table};
 use pq_model::{Action, FlowCommand, FlowMod, Match};
 use pq_oxm::{MatchFault, keeps_rules, read_match, u16_of, u64_of};
 use std::alloc::{AllocError, Global};
-
-// The type of an instruction that applies actions (OpenFlow 1.3.5, section 7.2.4).
-const APPLY_ACTIONS: u8 = 4;
 
 // The bytes of the actions that the first instruction applies, none where it applies none, and what
 // stands behind it.

@@ -15,9 +15,6 @@ use pq_model::{Action, GroupCommand, GroupMod};
 use pq_oxm::u32_of;
 use std::alloc::{AllocError, Global};
 
-
-
-
 // The length of a bucket that stands at the front, as it tells it itself.
 fn bucket_len(bytes: &[u8]) -> Option<usize>
     ensures within { IfSome result (λ size. (16 ≤ size) × (size ≤ length bytes.now)) }

@@ -61,12 +61,7 @@ fn group_message(alloc: Global, xid: u32, body: &[u8]) -> Result<Option<Message>
 }
 
 // The message of a type whose body this is.
-fn content(
-    alloc: Global,
-    kind: u8,
-    xid: u32,
-    body: &[u8],
-) -> Result<Option<Message>, AllocError>
+fn content(alloc: Global, kind: u8, xid: u32, body: &[u8]) -> Result<Option<Message>, AllocError>
     ensures lawful { IfOk result (λ found. IfSome found IsLawfulContent) }
     ensures said { IfOk result (λ found. (m : Message) → IsLawfulContent m → kind ≡ message_kind m → xid ≡ message_xid m
         → length (message_body m) < 2 ^ 16 → body.now ≡ message_body m → found ≡ Some m) }

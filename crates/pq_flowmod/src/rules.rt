@@ -14,6 +14,7 @@ ghost use Rattle.pq_model.specs.Lawful.{
 };
 ghost use Rattle.pq_model.specs.SwitchMachine.{all_groups};
 
+use crate::action::CONTROLLER;
 use pq_fields::Field;
 use pq_model::Action;
 
@@ -22,9 +23,6 @@ const GREATEST: u32 = 0xffff_ff00;
 
 // The port number that stands for the arriving port.
 const IN_PORT: u32 = 0xffff_fff8;
-
-// The port number that stands for the controller.
-const CONTROLLER: u32 = 0xffff_fffd;
 
 // The number that stands for all groups.
 const ALL: u32 = 0xffff_fffc;

@@ -7,8 +7,8 @@ use pq_fields::Field;
 use pq_oxm::{oxm_field, padding, write_oxm, write_zeros};
 use std::alloc::AllocError;
 
-// The action type of a set-field (OpenFlow 1.3.5, section 7.2.5).
-const SET_FIELD: u8 = 25;
+/// The action type of a set-field (OpenFlow 1.3.5, section 7.2.5).
+pub const SET_FIELD: u8 = 25;
 
 // A set-field of one OXM field, padded to a multiple of eight bytes: 16, as values have 1 to 8.
 fn write_set_oxm(field: u8, value: &[u8], into: &mut Vec<u8>) -> Result<(), AllocError>

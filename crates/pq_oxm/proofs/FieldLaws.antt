@@ -1,10 +1,9 @@
 -- An OXM field that is spelled is read back, and what stands behind it is kept.
-use Rattle.std.proofs.Common.{◌≡◌, ℕ, ◌+◌, ◌*◌, ◌/◌, ◌<◌, ◌≤◌, Bool, true, false, eqb, leb, ◌||◌, ◌&&◌, List, [], ◌∷◌, ◌++◌, length, get_or, take, drop, Option, None, Some, refl, sym, ap, subst, ◌∙◌, append_assoc, arith, inl, inr}
+use Rattle.std.proofs.Common.{◌≡◌, ℕ, ◌+◌, ◌*◌, ◌/◌, ◌<◌, ◌≤◌, Bool, true, false, eqb, leb, List, [], ◌∷◌, ◌++◌, length, get_or, take, drop, Option, None, Some, refl, ap, ◌∙◌, append_assoc, arith}
 use Rattle.std.specs.Prelude.{IfSome, cond}
 use Rattle.std.specs.List.{list_any}
 use Rattle.std.proofs.lemmas.Bool.{leb-true, eqb-true, eqb-false, le-leb, eq-eqb, and_parts, and_from, or_parts, ne_eqb, and_right}
 use Rattle.std.proofs.lemmas.List.{take_at, drop_at, length-append}
-use Rattle.pq_model.specs.MatchFields.{IsMasked}
 use Rattle.pq_model.specs.Spelling.{oxm, oxm_masked, stated, stated_masked}
 use Rattle.pq_oxm.specs.Reading.{is_field, number_field, address_field}
 use Rattle.pq_oxm.proofs.Numbers.{Reads}
@@ -46,6 +45,7 @@ more_masked_of fields bytes ones field None rest of f other = of f (or_parts _ _
 more_masked_of fields bytes ones field (Some a) rest of f other = masked_of fields bytes field a rest (eqb a.1 ones) f other
 
 module _ (size limit : ℕ) (bytes : ℕ → List ℕ) (number : List ℕ → ℕ) (reads : Reads size limit bytes number) where
+  -- a field that begins the bytes is seen, its number is read, and the rest is kept
   oxm_read : (code : ℕ) (n len : ℕ) (rest : List ℕ) → len ≡ length (bytes n) → n < limit →
       (is_field code size (0x80 ∷ 0x00 ∷ code ∷ len ∷ (bytes n ++ rest)) ≡ true)
       × (number (take size (drop 4 (0x80 ∷ 0x00 ∷ code ∷ len ∷ (bytes n ++ rest)))) ≡ n)

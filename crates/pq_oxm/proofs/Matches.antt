@@ -1,5 +1,5 @@
 -- A lawful match that is spelled is read back.
-use Rattle.std.proofs.Common.{◌≡◌, ℕ, ◌+◌, ◌^◌, ◌<◌, ◌≤◌, List, [], ◌∷◌, ◌++◌, length, Option, None, Some, refl, sym, ap, subst, ◌∙◌, append_assoc, arith, inl, inr}
+use Rattle.std.proofs.Common.{◌≡◌, ℕ, ◌^◌, ◌<◌, ◌≤◌, List, [], ◌∷◌, ◌++◌, Option, None, Some, refl, sym, ap, subst, ◌∙◌, append_assoc, arith, inl, inr}
 use Rattle.std.specs.Prelude.{IfSome, ◌⊎◌}
 use Rattle.std.specs.Int.{w16, w32, w128, to_be_bytes, from_be_bytes}
 use Rattle.std.proofs.lemmas.List.{append-nil}
@@ -15,15 +15,18 @@ some_of : {A : Type 0} (P Q : A → Type 0) → ((a : A) → P a → Q a) → (x
 some_of P Q f None p = tt
 some_of P Q f (Some a) p = f a p
 
+-- a value under a mask of so many bits has no more
 masked_below : (bits : ℕ) (a : ℕ × ℕ) → IsMasked bits a → (a.0 < 2 ^ bits) × (a.1 < 2 ^ bits)
 masked_below bits a masked =
     let value : a.0 ≤ a.1 = subst (λ (n : ℕ). n ≤ a.1) masked.2 (and_le_r a.0 a.1) in
     (omega (arith, masked.1), masked.1)
 
+-- a VLAN_VID word has 16 bits
 vlan_below : (w : ℕ) → (w ≡ 0) ⊎ IsTagWord w → w < 2 ^ 16
 vlan_below w (inl zero) = omega arith
 vlan_below w (inr tag) = omega (arith, tag.1)
 
+-- the spelling of a match from each field on, from the last to the first
 abbrev from_ipv6_dst : MatchFields → List ℕ
 from_ipv6_dst m = stated_masked 27 (to_be_bytes w128) ones128 m.ipv6_dst
 
@@ -66,6 +69,7 @@ from_vlan m = stated 6 (to_be_bytes w16) m.vlan ++ from_eth_type m
 abbrev from_in_port : MatchFields → List ℕ
 from_in_port m = stated 0 (to_be_bytes w32) m.in_port ++ from_vlan m
 
+-- which fields may begin it
 of_ipv6_dst : (m : MatchFields) → AreOf (27 ∷ []) (from_ipv6_dst m)
 of_ipv6_dst m = subst (AreOf (27 ∷ [])) (append-nil (from_ipv6_dst m)) (more_masked_of [] (to_be_bytes w128) ones128 27 m.ipv6_dst [] none_of)
 

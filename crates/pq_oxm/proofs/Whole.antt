@@ -1,5 +1,5 @@
 -- The spelling of a match as a whole: where its parts stand.
-use Rattle.std.proofs.Common.{◌≡◌, ℕ, ◌+◌, ◌-◌, ◌*◌, ◌^◌, ◌<◌, ◌≤◌, Bool, true, false, eqb, List, [], ◌∷◌, ◌++◌, length, get_or, take, drop, replicate, Option, None, Some, refl, sym, ap, subst, ◌∙◌, append_assoc, arith}
+use Rattle.std.proofs.Common.{◌≡◌, ℕ, ◌+◌, ◌^◌, ◌≤◌, Bool, true, false, eqb, List, [], ◌∷◌, ◌++◌, length, get_or, take, drop, replicate, Option, None, Some, refl, sym, ap, ◌∙◌, append_assoc, arith}
 use Rattle.std.specs.Prelude.{cond}
 use Rattle.std.specs.Int.{w16, w32, w128, to_be_bytes, from_be_bytes}
 use Rattle.std.proofs.lemmas.List.{take_at, length-append}
@@ -9,6 +9,7 @@ use Rattle.pq_oxm.specs.Reading.{fields_of, byte_number, mac_number}
 use Rattle.pq_oxm.proofs.Matches.{fields_read}
 use Rattle.pq_oxm.proofs.Numbers.{Reads, reads_byte, reads_16, reads_32, reads_mac, reads_128}
 
+-- how long a field is at the most
 stated_short : (field size limit : ℕ) (bytes : ℕ → List ℕ) (number : List ℕ → ℕ) → Reads size limit bytes number → (x : Option ℕ) → length (stated field bytes x) ≤ 4 + size
 stated_short field size limit bytes number reads None = omega arith
 stated_short field size limit bytes number reads (Some n) = omega (arith, reads.long n)

@@ -1,5 +1,5 @@
-//! The match of a flow entry and how it is spelled (OpenFlow 1.3.5, section 7.2.3), with the pieces
-//! that the spellings of whole messages share. All numbers are spelled big-endian.
+//! The match of a flow entry and how it is spelled and read (OpenFlow 1.3.5, section 7.2.3), with the
+//! pieces that the spellings of whole messages share. All numbers are spelled big-endian.
 #![tactic(auto)]
 
 mod bytes;

@@ -21,6 +21,51 @@ const ANY: Match = Match {
     ipv6_dst: None,
 };
 
+// The bytes of the match that states no field.
+const ANY_BYTES: [u8; 8] = [0x00, 0x01, 0x00, 0x04, 0x00, 0x00, 0x00, 0x00];
+
+// The bytes of TCP packets to port 80 that arrive at port 2 with VLAN number 2.
+const WEB_BYTES: [u8; 40] = [
+    0x00, 0x01, 0x00, 0x23, 0x80, 0x00, 0x00, 0x04, 0x00, 0x00, 0x00, 0x02, 0x80, 0x00, 0x0c, 0x02,
+    0x10, 0x02, 0x80, 0x00, 0x0a, 0x02, 0x08, 0x00, 0x80, 0x00, 0x14, 0x01, 0x06, 0x80, 0x00, 0x1c,
+    0x02, 0x00, 0x50, 0x00, 0x00, 0x00, 0x00, 0x00,
+];
+
+// The bytes of IPv4 packets from 10.0.1.2 to the upper half of all addresses.
+const IPV4_BYTES: [u8; 32] = [
+    0x00, 0x01, 0x00, 0x1e, 0x80, 0x00, 0x0a, 0x02, 0x08, 0x00, 0x80, 0x00, 0x16, 0x04, 0x0a, 0x00,
+    0x01, 0x02, 0x80, 0x00, 0x19, 0x08, 0x80, 0x00, 0x00, 0x00, 0x80, 0x00, 0x00, 0x00, 0x00, 0x00,
+];
+
+// The bytes of IPv6 packets to 2001:db8::/32.
+const IPV6_BYTES: [u8; 48] = [
+    0x00, 0x01, 0x00, 0x2e, 0x80, 0x00, 0x0a, 0x02, 0x86, 0xdd, 0x80, 0x00, 0x37, 0x20, 0x20, 0x01,
+    0x0d, 0xb8, 0x00, 0x00, 0x00, 0x00, 0x00, 0x00, 0x00, 0x00, 0x00, 0x00, 0x00, 0x00, 0xff, 0xff,
+    0xff, 0xff, 0x00, 0x00, 0x00, 0x00, 0x00, 0x00, 0x00, 0x00, 0x00, 0x00, 0x00, 0x00, 0x00, 0x00,
+];
+
+// The Ethernet type before the VLAN_VID word.
+const ETHERNET_TYPE_FIRST: [u8; 16] = [
+    0x00, 0x01, 0x00, 0x10, 0x80, 0x00, 0x0a, 0x02, 0x08, 0x00, 0x80, 0x00, 0x0c, 0x02, 0x10, 0x02,
+];
+
+// A mask of all ones, which is left out in the one spelling.
+const MASK_OF_ONES: [u8; 24] = [
+    0x00, 0x01, 0x00, 0x16, 0x80, 0x00, 0x0a, 0x02, 0x08, 0x00, 0x80, 0x00, 0x19, 0x08, 0x80, 0x00,
+    0x00, 0x00, 0xff, 0xff, 0xff, 0xff, 0x00, 0x00,
+];
+
+// A mask of zeros.
+const MASK_OF_ZEROS: [u8; 24] = [
+    0x00, 0x01, 0x00, 0x16, 0x80, 0x00, 0x0a, 0x02, 0x08, 0x00, 0x80, 0x00, 0x19, 0x08, 0x00, 0x00,
+    0x00, 0x00, 0x00, 0x00, 0x00, 0x00, 0x00, 0x00,
+];
+
+// A TCP port without its protocol.
+const PORT_ALONE: [u8; 16] = [
+    0x00, 0x01, 0x00, 0x0a, 0x80, 0x00, 0x1c, 0x02, 0x00, 0x50, 0x00, 0x00, 0x00, 0x00, 0x00, 0x00,
+];
+
 /// Two lower-case digits for each byte.
 fn hexadecimal(alloc: Global, bytes: &[u8]) -> Result<String, AllocError> {
     let mut text = String::new(alloc);
@@ -88,4 +133,65 @@ fn matches_are_spelled_as_openflow_says(rt: HostRuntime) -> Result<(), Fail> {
         assert_eq!(rt; hexadecimal(alloc, &bytes)?.as_str(), expected);
     }
     Ok(())
+}
+
+// Whether the match is read where it stands among other bytes, and is spelled by the same bytes again.
+fn is_read_back(alloc: Global, bytes: &[u8]) -> Result<bool, Fail> {
+    let mut whole = vec![in alloc; 0x80, 0, 1]?;
+    whole.extend_from_slice(bytes)?;
+    whole.extend_from_slice(&[0x80, 0, 0x19, 8])?;
+    let found = read_match(alloc, &whole, 3).ok().ok_or("a match")?;
+    let mut again = Vec::new(alloc);
+    write_match(alloc, &found.0, &mut again)?;
+    Ok(again.as_slice() == bytes && found.1 + 4 == whole.len())
+}
+
+#[test]
+fn matches_are_read_back(rt: HostRuntime) -> Result<(), Fail> {
+    let alloc = rt.alloc();
+    assert!(rt; is_read_back(alloc, &ANY_BYTES)?);
+    assert!(rt; is_read_back(alloc, &WEB_BYTES)?);
+    assert!(rt; is_read_back(alloc, &IPV4_BYTES)?);
+    assert!(rt; is_read_back(alloc, &IPV6_BYTES)?);
+    Ok(())
+}
+
+// Whether the bytes are refused at their first byte.
+fn is_refused(alloc: Global, bytes: &[u8]) -> bool {
+    matches!(
+        read_match(alloc, bytes, 0),
+        Err(MatchFault::BadMatch { at: 0 })
+    )
+}
+
+#[test]
+fn matches_that_are_cut_are_refused(rt: HostRuntime) {
+    for length in 0..WEB_BYTES.len() {
+        assert!(rt; is_refused(rt.alloc(), &WEB_BYTES[..length]));
+    }
+}
+
+#[test]
+fn other_bytes_are_refused(rt: HostRuntime) {
+    let alloc = rt.alloc();
+    assert!(rt; is_refused(alloc, &ETHERNET_TYPE_FIRST));
+    assert!(rt; is_refused(alloc, &MASK_OF_ONES));
+    assert!(rt; is_refused(alloc, &MASK_OF_ZEROS));
+    assert!(rt; is_refused(alloc, &PORT_ALONE));
+    // Each is one byte of the IPv4 match: its type, its length, the Ethernet type, the length of a
+    // payload, a bit of the value outside the mask, and the padding.
+    for (at, byte) in [
+        (0, 1),
+        (1, 0),
+        (3, 0x1d),
+        (3, 0x1f),
+        (9, 6),
+        (13, 5),
+        (25, 1),
+        (31, 1),
+    ] {
+        let mut changed = IPV4_BYTES;
+        changed[at] = byte;
+        assert!(rt; is_refused(alloc, &changed));
+    }
 }

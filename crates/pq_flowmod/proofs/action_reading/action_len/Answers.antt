@@ -1,4 +1,4 @@
-use Rattle.std.proofs.Common.{◌∙◌, arith, ap, sym}
+use Rattle.std.proofs.Common.{◌∙◌, arith, ap}
 use Rattle.std.specs.declared.option.Option.TheVariants.{Some}
 use Rattle.pq_flowmod.proofs.ActionsRead.{action_told}
 use Rattle.pq_flowmod.proofs.action_reading.action_len.Goals as goal

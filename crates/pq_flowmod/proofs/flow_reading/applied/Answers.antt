@@ -1,4 +1,4 @@
-use Rattle.std.proofs.Common.{◌≡◌, ◌∙◌, ◌-◌, take, drop, length, arith, ap, sym, inl, inr}
+use Rattle.std.proofs.Common.{◌≡◌, ◌∙◌, ◌-◌, take, drop, arith, ap, inl, inr}
 use Rattle.std.proofs.lemmas.List.{take_rest}
 use Rattle.pq_flowmod.proofs.FlowLaws.{not_applied, is_applied}
 use Rattle.pq_flowmod.proofs.flow_reading.applied.Goals as goal
@@ -27,6 +27,7 @@ returns-then-bytes-size c = λ actions goto short is.
 pub returns : goal.returns
 returns c = λ actions goto short is.
     let parts = is_applied actions goto c.args.bytes.now short is c.if-bytes-lt8.false c.if-bytes-ne-APPLY_ACTIONS.false in
-    let size : c.from-size.result ≡ parts.size = omega (arith, parts.told, c.from_be_bytes.ensures, c.from-size.ensures) in
-    ( ap (λ k. take (k - 8) (drop 8 c.args.bytes.now)) size ∙ parts.inside
-    , take_rest c.args.bytes.now c.from-size.result ∙ ap (λ k. drop k c.args.bytes.now) size ∙ parts.rest )
+    let size : c.from-size.result ≡ parts.size = omega (arith, parts.told, c.from_be_bytes.ensures, c.from-size.ensures) in (
+      ap (λ k. take (k - 8) (drop 8 c.args.bytes.now)) size ∙ parts.inside,
+      take_rest c.args.bytes.now c.from-size.result ∙ ap (λ k. drop k c.args.bytes.now) size ∙ parts.rest,
+    )

@@ -1,4 +1,3 @@
-use Rattle.std.proofs.Common.{◌≡◌}
 use Rattle.pq_flowmod.proofs.FlowLaws.{match_next}
 use Rattle.pq_flowmod.proofs.flow_reading.matching_of.Goals as goal
 

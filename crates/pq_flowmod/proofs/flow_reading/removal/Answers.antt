@@ -1,4 +1,4 @@
-use Rattle.std.proofs.Common.{◌≡◌, ◌∙◌, ap, sym, refl, Some}
+use Rattle.std.proofs.Common.{◌∙◌, ap, sym, Some}
 use Rattle.std.proofs.lemmas.Bool.{both_ways}
 use Rattle.pq_model.specs.Lawful.{IsLawfulCommand}
 use Rattle.pq_model.specs.declared.flow_mod.FlowCommand.TheVariants.{DeleteStrict}

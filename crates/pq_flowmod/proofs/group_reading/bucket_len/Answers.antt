@@ -1,4 +1,4 @@
-use Rattle.std.proofs.Common.{◌∙◌, arith, ap, sym}
+use Rattle.std.proofs.Common.{arith, ap}
 use Rattle.std.specs.declared.option.Option.TheVariants.{Some}
 use Rattle.pq_flowmod.proofs.Parts.{bucket_told}
 use Rattle.pq_flowmod.proofs.group_reading.bucket_len.Goals as goal

@@ -1,4 +1,4 @@
-use Rattle.std.proofs.Common.{◌≡◌, ◌∙◌, ◌-◌, ◌+◌, ◌<◌, ap, sym, arith, length, take, drop}
+use Rattle.std.proofs.Common.{◌≡◌, ◌∙◌, ◌-◌, ap, arith, length, take, drop}
 use Rattle.pq_flowmod.specs.Reading.{message_body}
 use Rattle.pq_flowmod.proofs.FlowLaws.{if_ok}
 use Rattle.pq_flowmod.proofs.Parts.{message_parted}
@@ -23,7 +23,7 @@ returns-then-bytes-length-clause-said c = λ m more law is.
 pub returns-clause-said : goal.returns-clause-said
 returns-clause-said c = if_ok c.content.result _ _
     (λ found said m more law is.
-        let parts = message_parted c.args.bytes.now m more law is in
-        let size : c.from-length.result - 8 ≡ length (message_body m) = omega (arith, parts.told, c.from_be_bytes.ensures, c.from-length.ensures) in
-        said m law.content parts.kind (c.u32_of-xid.ensures ∙ parts.xid) (omega (arith, parts.short)) (ap (λ k. take k (drop 8 c.args.bytes.now)) size ∙ parts.body))
+    let parts = message_parted c.args.bytes.now m more law is in
+    let size : c.from-length.result - 8 ≡ length (message_body m) = omega (arith, parts.told, c.from_be_bytes.ensures, c.from-length.ensures) in
+    said m law.content parts.kind (c.u32_of-xid.ensures ∙ parts.xid) (omega (arith, parts.short)) (ap (λ k. take k (drop 8 c.args.bytes.now)) size ∙ parts.body))
     c.content.ensures.said

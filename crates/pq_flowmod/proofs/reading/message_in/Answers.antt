@@ -1,5 +1,4 @@
-use Rattle.std.proofs.Common.{◌≡◌, ◌∙◌, ◌++◌, ap, sym, subst, length, drop}
-use Rattle.pq_model.specs.declared.message.Message.{Message}
+use Rattle.std.proofs.Common.{◌≡◌, sym, subst, length, drop}
 use Rattle.pq_model.specs.Lawful.{IsLawfulMessage}
 use Rattle.pq_model.specs.Spelling.{message_bytes}
 use Rattle.pq_oxm.specs.Standing.{StandsAt}

@@ -1,4 +1,4 @@
-use Rattle.std.proofs.Common.{◌≡◌, ◌∙◌, ◌+◌, ◌*◌, Bool, true, false, refl, sym}
+use Rattle.std.proofs.Common.{◌≡◌, ◌∙◌, ◌+◌, ◌*◌, true, false, refl, sym}
 use Rattle.std.proofs.lemmas.List.{take_rest}
 use Rattle.pq_oxm.specs.Reading.{address_field, is_field}
 use Rattle.pq_oxm.proofs.next.next_ipv6.Goals as goal

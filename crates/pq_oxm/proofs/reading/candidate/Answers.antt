@@ -1,6 +1,6 @@
-use Rattle.std.proofs.Common.{◌≡◌, ◌∙◌, ◌-◌, ◌+◌, ◌*◌, ℕ, length, take, drop, get_or, arith, ap, sym, subst}
+use Rattle.std.proofs.Common.{◌≡◌, ◌∙◌, ◌-◌, length, take, drop, arith, ap, sym, subst}
 use Rattle.std.specs.declared.option.Option.TheVariants.{Some}
-use Rattle.pq_model.specs.MatchFields.{MatchFields, IsLawfulMatch}
+use Rattle.pq_model.specs.MatchFields.{IsLawfulMatch}
 use Rattle.pq_model.specs.Spelling.{match_oxms}
 use Rattle.pq_oxm.specs.Reading.{fields_of}
 use Rattle.pq_oxm.proofs.Matches.{fields_read}

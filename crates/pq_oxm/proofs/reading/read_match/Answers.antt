@@ -1,9 +1,6 @@
-use Rattle.std.proofs.Common.{◌≡◌, ◌∙◌, ◌-◌, ◌+◌, ◌++◌, ℕ, List, length, take, drop, arith, ap, sym, subst, refl}
-use Rattle.std.specs.declared.option.Option.TheVariants.{Some}
+use Rattle.std.proofs.Common.{◌≡◌, ◌∙◌, ◌-◌, length, take, drop, arith, refl}
 use Rattle.std.proofs.lemmas.List.{take_rest, length-drop}
-use Rattle.pq_model.specs.MatchFields.{MatchFields, IsLawfulMatch}
 use Rattle.pq_model.specs.Spelling.{match_bytes}
-use Rattle.pq_oxm.specs.Standing.{StandsAt}
 use Rattle.pq_oxm.proofs.Places.{followed}
 use Rattle.pq_oxm.proofs.Whole.{spelled}
 use Rattle.pq_oxm.proofs.reading.read_match.Goals as goal
