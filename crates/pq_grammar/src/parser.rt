@@ -1,8 +1,8 @@
 //! The parser.
 ghost use Rattle.std.specs.Prelude.{◌≡◌, ◌+◌, ◌<◌, ◌≤◌, List, ◌∷◌, ◌++◌, length, drop, IfOk, IfErr, OnOk, reverse};
-ghost use Rattle.pq_grammar.specs.Sentences.{IsSentence};
+ghost use Rattle.pq_grammar.specs.Sentences.{IsSentence, IsCause};
 ghost use Rattle.pq_grammar.specs.Ahead.{next_class, pending};
-ghost use Rattle.pq_grammar.specs.Reading.{IsAt, HasPassed, IsExpected, IsComing, IsCause};
+ghost use Rattle.pq_grammar.specs.Reading.{IsAt, HasPassed, IsExpected, IsComing};
 
 use crate::ahead::{chosen, is_class};
 use crate::class::Class;
@@ -191,8 +191,3 @@ pub fn read_marks(
     }
     Ok(parser.marks)
 }
-
-/// A sentence has one tree: two lists of marks that are a sentence of the start sort with the same tokens are one list.
-pub fn has_one_tree()
-    ensures { (start : Sort) (xs : List Lexeme) (ms ns : List Mark) → IsSentence start xs ms → IsSentence start xs ns → ms ≡ ns }
-{}
