@@ -82,7 +82,8 @@ impl Parser {
         requires { IsAt lexemes.now self.old (Symbol.Part sort ∷ reverse self.old.stack.items) }
         ensures place { OnOk result (IsAt lexemes.now self.new (reverse self.new.stack.items)) }
         ensures falls { OnOk result (pending (reverse self.new.stack.items) < pending (Symbol.Part sort ∷ reverse self.old.stack.items)) }
-        ensures same { OnOk result ((self.new.at ≡ self.old.at) × (self.new.start ≡ self.old.start)) }
+        ensures at { OnOk result (self.new.at ≡ self.old.at) }
+        ensures start { OnOk result (self.new.start ≡ self.old.start) }
         ensures err { IfErr result (IsCause self.old.start lexemes.now) }
     {
         let Some(alternative) = chosen(sort, self.next_class(lexemes)) else {
@@ -149,7 +150,9 @@ impl Parser {
     fn read(&mut self, lexemes: &[Lexeme], expected: Expected) -> Result<(), SentenceFault>
         requires { IsComing lexemes.now self.old expected }
         ensures place { OnOk result (IsAt lexemes.now self.new (reverse self.new.stack.items)) }
-        ensures same { OnOk result ((self.new.at ≡ self.old.at + 1) × (self.new.at ≤ length lexemes.now) × (self.new.start ≡ self.old.start)) }
+        ensures at { OnOk result (self.new.at ≡ self.old.at + 1) }
+        ensures within { OnOk result (self.new.at ≤ length lexemes.now) }
+        ensures start { OnOk result (self.new.start ≡ self.old.start) }
         ensures err { IfErr result (IsCause self.old.start lexemes.now) }
     {
         let Some(lexeme) = lexemes.get(self.at) else {
