@@ -12,9 +12,9 @@ use Rattle.pq_grammar.specs.declared.mark.Mark.{Mark}
 use Rattle.pq_grammar.specs.Grammar.{alternatives}
 use Rattle.pq_grammar.specs.Sentences.{IsOneOf, Derives, tokens}
 use Rattle.pq_grammar.specs.Tables.{number, may_be_empty, first, follow, weight}
-use Rattle.pq_grammar.specs.Ahead.{ahead, next_class, look, has, follows, may_begin, is_open, chosen, pending, all_below, implies, at_most_one, is_first, is_followed, is_below}
+use Rattle.pq_grammar.specs.Ahead.{ahead, next_class, look, has, follows, may_begin, is_open, chosen, pending}
 use Rattle.pq_grammar.specs.Reading.{can, Fits}
-use Rattle.pq_grammar.proofs.Right.{right}
+use Rattle.pq_grammar.proofs.Right.{all_below, implies, at_most_one, is_first, is_followed, is_below, right}
 
 -- a test that passes below a bound passes at each number below it
 all_below_at : (n k : ℕ) (test : ℕ → Bool) → all_below n test ≡ true → k < n → test k ≡ true

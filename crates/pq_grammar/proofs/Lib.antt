@@ -7,3 +7,4 @@ pub mod Numbers
 pub mod Steps
 pub mod OneTree
 pub mod Classified
+pub mod OneFault

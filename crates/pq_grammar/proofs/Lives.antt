@@ -12,7 +12,7 @@ use Rattle.pq_grammar.specs.declared.mark.Mark.{Mark}
 use Rattle.pq_grammar.specs.declared.mark.Mark.TheVariants.{Token as TokenMark, Close as CloseMark}
 use Rattle.pq_grammar.specs.Sentences.{Derives}
 use Rattle.pq_grammar.specs.Tables.{weight}
-use Rattle.pq_grammar.specs.Ahead.{is_below}
+use Rattle.pq_grammar.proofs.Right.{is_below}
 use Rattle.pq_grammar.proofs.Choices.{light}
 
 -- the symbols derive something, however many brackets are open

@@ -1,6 +1,6 @@
--- What the class of the next token tells of a phrase, and the test that the tables tell it right.
-use Rattle.std.specs.Prelude.{ℕ, zero, suc, ◌+◌, Bool, true, false, not, ◌&&◌, ◌||◌, if◌then◌else◌, List, [], ◌∷◌, ◌==◌, nat_lt, Option, Some, None}
-use Rattle.std.specs.List.{list_any, list_all, find}
+-- What the class of the next token tells of a phrase.
+use Rattle.std.specs.Prelude.{ℕ, ◌+◌, Bool, ◌&&◌, ◌||◌, List, [], ◌∷◌, ◌==◌, Option, Some, None}
+use Rattle.std.specs.List.{list_any, find}
 use Rattle.pq_grammar.specs.declared.class.Class.{Class}
 use Rattle.pq_grammar.specs.declared.sort.Sort.{Sort}
 use Rattle.pq_grammar.specs.declared.symbol.Symbol.{Symbol}
@@ -56,44 +56,3 @@ pending (Opening role class ∷ ss) = 0
 pending (Leave ∷ ss) = 1 + pending ss
 pending (Close ∷ ss) = 1 + pending ss
 pending (Part sort ∷ ss) = weight sort + pending ss
-
--- the test passes at each number below n
-abbrev pub all_below : ℕ → (ℕ → Bool) → Bool
-all_below zero test = true
-all_below (suc n) test = test n && all_below n test
-
--- the second test passes wherever the first does, at whatever comes next
-abbrev pub implies : (ℕ → Bool) → (ℕ → Bool) → Bool
-implies p q = all_below 48 (λ k. not (p k) || q k)
-
--- at most one element passes the test
-abbrev pub at_most_one : {X : Type 0} → (X → Bool) → List X → Bool
-at_most_one test [] = true
-at_most_one test (x ∷ xs) = if test x then list_all (λ y. not (test y)) xs else at_most_one test xs
-
--- whatever the alternative begins with, a phrase of the sort may begin with
-abbrev pub is_first : Sort → List Symbol → Bool
-is_first sort a = implies (may_begin false a) (may_begin false (Part sort ∷ [])) && implies (may_begin true a) (may_begin true (Part sort ∷ []))
-
--- what follows each part of an alternative of the sort may follow that part
-abbrev pub is_followed : Sort → List Symbol → Bool
-is_followed sort [] = true
-is_followed sort (Token role class ∷ ss) = is_followed sort ss
-is_followed sort (Opening role class ∷ ss) = is_followed sort ss
-is_followed sort (Leave ∷ ss) = is_followed sort ss
-is_followed sort (Close ∷ ss) = is_followed sort ss
-is_followed sort (Part part ∷ ss) = implies (λ k. is_open sort k ss) (follows part) && is_followed sort ss
-
--- a part weighs less than the bound
-abbrev pub is_below : ℕ → Symbol → Bool
-is_below bound (Part sort) = nat_lt (weight sort) bound
-is_below bound _ = true
-
--- the tables are right for the sort: they tell at each token which alternative is to be taken, if any, and the weights fall
-abbrev pub is_right : Sort → Bool
-is_right sort =
-    list_all (is_first sort) (alternatives sort)
-    && list_all (is_followed sort) (alternatives sort)
-    && all_below 48 (λ k. at_most_one (is_open sort k) (alternatives sort))
-    && list_all (λ a. nat_lt (pending a) (weight sort)) (alternatives sort)
-    && list_any (list_all (is_below (weight sort))) (alternatives sort)

@@ -7,9 +7,7 @@ use Rattle.pq_grammar.specs.declared.mark.Lexeme.{Lexeme}
 use Rattle.pq_grammar.specs.declared.mark.Mark.{Mark}
 use Rattle.pq_grammar.specs.declared.parser.Parser.{Parser}
 use Rattle.pq_grammar.specs.declared.parser.Expected.{Expected}
-use Rattle.pq_grammar.specs.declared.fault.SentenceFault.{SentenceFault}
-use Rattle.pq_grammar.specs.declared.fault.SentenceFault.TheVariants.{Syntax, Memory}
-use Rattle.pq_grammar.specs.Sentences.{Derives, Completes, tokens, AllShallow, IsFirstFault}
+use Rattle.pq_grammar.specs.Sentences.{Derives, Completes, tokens, AllShallow}
 use Rattle.pq_grammar.specs.Ahead.{look, may_begin, follows, pending}
 
 -- the symbols may stand before what comes next, and before nothing else
@@ -70,8 +68,3 @@ IsExpected xs old new (Some e) = IsComing xs new e × (new.at ≡ old.at) × (ne
 abbrev pub HasPassed : List Lexeme → Symbol → Parser → Parser → Option Expected → Type 0
 HasPassed xs s old new None = IsAt xs new (reverse new.stack.items) × (pending (reverse new.stack.items) < pending (s ∷ reverse old.stack.items)) × (new.at ≡ old.at) × (new.start ≡ old.start)
 HasPassed xs s old new (Some e) = (new ≡ old) × Expects s old.depth e
-
--- the tokens are refused for their first fault, or for want of memory
-abbrev pub IsCause : Sort → List Lexeme → SentenceFault → Type 0
-IsCause start xs (Syntax place) = IsFirstFault start xs place
-IsCause start xs Memory = Unit {0}

@@ -6,6 +6,8 @@ use Rattle.pq_grammar.specs.declared.symbol.Symbol.TheVariants.{Token, Opening, 
 use Rattle.pq_grammar.specs.declared.mark.Lexeme.{Lexeme}
 use Rattle.pq_grammar.specs.declared.mark.Mark.{Mark}
 use Rattle.pq_grammar.specs.declared.mark.Mark.TheVariants.{Token as TokenMark, Close as CloseMark}
+use Rattle.pq_grammar.specs.declared.fault.SentenceFault.{SentenceFault}
+use Rattle.pq_grammar.specs.declared.fault.SentenceFault.TheVariants.{Syntax, Memory}
 use Rattle.pq_grammar.specs.Grammar.{alternatives}
 
 -- the symbols are one of the alternatives
@@ -59,3 +61,8 @@ pub record IsFirstFault (start : Sort) (xs : List Lexeme) (place : ℕ) : Type 0
   pub good : IsPrefix start (take place xs)
   pub bad : place < length xs → IsPrefix start (take (place + 1) xs) → ⊥
   pub short : place ≡ length xs → (ms : List Mark) → IsSentence start xs ms → ⊥
+
+-- the tokens are refused for their first fault, or for want of memory
+abbrev pub IsCause : Sort → List Lexeme → SentenceFault → Type 0
+IsCause start xs (Syntax place) = IsFirstFault start xs place
+IsCause start xs Memory = Unit {0}

@@ -6,6 +6,7 @@ mod class;
 mod classes;
 mod fault;
 mod grammar;
+mod laws;
 mod mark;
 mod parser;
 mod sort;
@@ -16,8 +17,9 @@ pub use class::Class;
 pub use classes::{class_of, lexemes_of};
 pub use fault::SentenceFault;
 pub use grammar::alternatives;
+pub use laws::{has_one_fault, has_one_tree};
 pub use mark::{Lexeme, Mark};
-pub use parser::{has_one_tree, read_marks};
+pub use parser::read_marks;
 pub use sort::Sort;
 pub use symbol::{Role, Symbol};
 

@@ -6,7 +6,9 @@ use pq_term::Token;
 /// A token, with its class.
 #[derive(Clone, Copy, Debug, PartialEq, Eq)]
 pub struct Lexeme {
+    /// What the grammar tells of it.
     pub class: Class,
+    /// Its kind, and where its bytes stand.
     pub token: Token,
 }
 

@@ -1,8 +1,8 @@
 //! The parser.
 ghost use Rattle.std.specs.Prelude.{◌≡◌, ◌+◌, ◌<◌, ◌≤◌, List, ◌∷◌, ◌++◌, length, drop, IfOk, IfErr, OnOk, reverse};
-ghost use Rattle.pq_grammar.specs.Sentences.{IsSentence};
+ghost use Rattle.pq_grammar.specs.Sentences.{IsSentence, IsCause};
 ghost use Rattle.pq_grammar.specs.Ahead.{next_class, pending};
-ghost use Rattle.pq_grammar.specs.Reading.{IsAt, HasPassed, IsExpected, IsComing, IsCause};
+ghost use Rattle.pq_grammar.specs.Reading.{IsAt, HasPassed, IsExpected, IsComing};
 
 use crate::ahead::{chosen, is_class};
 use crate::class::Class;
@@ -82,7 +82,8 @@ impl Parser {
         requires { IsAt lexemes.now self.old (Symbol.Part sort ∷ reverse self.old.stack.items) }
         ensures place { OnOk result (IsAt lexemes.now self.new (reverse self.new.stack.items)) }
         ensures falls { OnOk result (pending (reverse self.new.stack.items) < pending (Symbol.Part sort ∷ reverse self.old.stack.items)) }
-        ensures same { OnOk result ((self.new.at ≡ self.old.at) × (self.new.start ≡ self.old.start)) }
+        ensures at { OnOk result (self.new.at ≡ self.old.at) }
+        ensures start { OnOk result (self.new.start ≡ self.old.start) }
         ensures err { IfErr result (IsCause self.old.start lexemes.now) }
     {
         let Some(alternative) = chosen(sort, self.next_class(lexemes)) else {
@@ -149,7 +150,9 @@ impl Parser {
     fn read(&mut self, lexemes: &[Lexeme], expected: Expected) -> Result<(), SentenceFault>
         requires { IsComing lexemes.now self.old expected }
         ensures place { OnOk result (IsAt lexemes.now self.new (reverse self.new.stack.items)) }
-        ensures same { OnOk result ((self.new.at ≡ self.old.at + 1) × (self.new.at ≤ length lexemes.now) × (self.new.start ≡ self.old.start)) }
+        ensures at { OnOk result (self.new.at ≡ self.old.at + 1) }
+        ensures within { OnOk result (self.new.at ≤ length lexemes.now) }
+        ensures start { OnOk result (self.new.start ≡ self.old.start) }
         ensures err { IfErr result (IsCause self.old.start lexemes.now) }
     {
         let Some(lexeme) = lexemes.get(self.at) else {
@@ -191,8 +194,3 @@ pub fn read_marks(
     }
     Ok(parser.marks)
 }
-
-/// A sentence has one tree: two lists of marks that are a sentence of the start sort with the same tokens are one list.
-pub fn has_one_tree()
-    ensures { (start : Sort) (xs : List Lexeme) (ms ns : List Mark) → IsSentence start xs ms → IsSentence start xs ns → ms ≡ ns }
-{}
