@@ -18,3 +18,5 @@ pub mod Parts
 pub mod NamedSwitches
 pub mod MessageLists
 pub mod Whole
+pub mod Closed
+pub mod Exclusion

@@ -18,14 +18,14 @@ use Rattle.pq_install.proofs.Distinct.{distinct_more}
 use Rattle.pq_install.proofs.UnitLists.{all_more}
 
 -- one link before another
-abbrev Below : Link → Link → Type 0
+abbrev pub Below : Link → Link → Type 0
 Below l m = IsTrue (is_before (link_numbers l) (link_numbers m))
 
 -- an end that is before another is not the same
 ends_differ : (d e : ℕ × ℕ) → is_before (end_numbers d) (end_numbers e) ≡ true → same_end d e ≡ false
 ends_differ d e below = grind (arith, nat_tests, below)
 
-one_link : (before : List Link) (l : Link) → ends_of (before ++ l ∷ []) ≡ (ends_of before ++ l.first ∷ []) ++ l.second ∷ []
+pub one_link : (before : List Link) (l : Link) → ends_of (before ++ l ∷ []) ≡ (ends_of before ++ l.first ∷ []) ++ l.second ∷ []
 one_link before l = flat_map-append (λ (m : Link). m.first ∷ m.second ∷ []) before (l ∷ []) ∙ sym (append_assoc (ends_of before) (l.first ∷ []) (l.second ∷ []))
 
 list_any_more : {X : Type 0} (p : X → Bool) (xs : List X) (x : X) → p x ≡ false → list_any p (xs ++ x ∷ []) ≡ list_any p xs
@@ -70,7 +70,7 @@ port_among (q ∷ qs) p fit there =
     ]
 
 -- a port of a switch fits its place, and so does the switch's number
-port_fits : (ss : List Switch) (d p : ℕ) → All IsReadSwitch ss → list_any (λ q. q == p) (ports_in ss d) ≡ true → IsEnd (d, p)
+pub port_fits : (ss : List Switch) (d p : ℕ) → All IsReadSwitch ss → list_any (λ q. q == p) (ports_in ss d) ≡ true → IsEnd (d, p)
 port_fits [] d p each there = absurd cc
 port_fits (s ∷ ss) d p each there =
     by (port_fits ss d p (All-tail IsReadSwitch s ss each)) (s.datapath == d) refl

@@ -1,9 +1,9 @@
 -- The whole install.
 use Rattle.std.specs.Prelude.{◌≡◌, ℕ, ◌-◌, List, [], ◌∷◌, ◌++◌, length}
-use Rattle.std.proofs.Common.{arith, refl, ◌∙◌, inl, inr, append_assoc}
+use Rattle.std.proofs.Common.{drop, arith, refl, ◌∙◌, inl, inr, append_assoc}
 use Rattle.std.specs.List.{flat_map}
 use Rattle.std.specs.Int.{w16, to_be_bytes}
-use Rattle.std.proofs.lemmas.List.{length-append, take_at}
+use Rattle.std.proofs.lemmas.List.{length-append, take_at, drop_at}
 use Rattle.pq_model.specs.Topology.{Topology}
 use Rattle.pq_model.specs.Install.{Install, IsLawfulInstall, install_bytes, switch_bytes, link_bytes, name_bytes, row_bytes, list_bytes}
 use Rattle.pq_install.specs.declared.fault.Fault.{Fault}
@@ -57,6 +57,12 @@ lawful v i read = record {
   listed = read.listed;
   messages = λ k ms below. let list = read.messages k ms below in (list.0, λ j m here. (list.1 j m here).0);
 }
+
+-- what is left begins where the install's spelling ends
+pub rest_left : (bytes : List ℕ) (i : Install) (rest : List ℕ) → IsInstallAtFront bytes i rest → IsInstallAtFront bytes i (drop (length bytes - length rest) bytes)
+rest_left bytes i rest (v, read, parts) =
+    let left : drop (length bytes - length rest) bytes ≡ rest = rw parts (drop_at (parts_bytes v i) rest (length (parts_bytes v i ++ rest) - length rest) (omega (arith, length-append (parts_bytes v i) rest))) in
+    (v, read, rw left parts)
 
 pub lawful_at_front : (bytes : List ℕ) (i : Install) (rest : List ℕ) → IsInstallAtFront bytes i rest → IsLawfulInstall i
 lawful_at_front bytes i rest front = lawful front.0 i front.1

@@ -3,6 +3,7 @@
 
 mod fault;
 mod install;
+mod laws;
 mod lists;
 mod names;
 mod numbers;
@@ -14,6 +15,7 @@ mod write;
 
 pub use fault::InstallFault;
 pub use install::{Install, ReportRow};
+pub use laws::{bytes_begin_with_one_install, damaged_bytes_begin_with_no_install};
 pub use read::whole::read_install;
 pub use write::write_install;
 

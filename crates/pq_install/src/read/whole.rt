@@ -1,4 +1,4 @@
-ghost use Rattle.std.specs.Prelude.{IfErr, IfOk, MatchOption};
+ghost use Rattle.std.specs.Prelude.{drop, IfErr, IfOk, MatchOption};
 ghost use Rattle.pq_model.specs.Install.{IsLawfulInstall};
 ghost use Rattle.pq_install.specs.Damage.{InstallFails, IsVersion, magic_bytes};
 ghost use Rattle.pq_install.specs.Front.{IsAtFront, NoneAtFront};
@@ -51,6 +51,7 @@ fn install_at(alloc: Global, bytes: &[u8]) -> Result<(Install, &[u8]), Fault>
 /// cut or unlawful after the units before it.
 pub fn read_install(alloc: Global, bytes: &[u8]) -> Result<(Install, usize), InstallFault>
     ensures ok { IfOk result (λ r. IsInstallIn bytes.now r.0 r.1) }
+    ensures front { IfOk result (λ r. IsInstallAtFront bytes.now r.0 (drop r.1 bytes.now)) }
     ensures lawful { IfOk result (λ r. IsLawfulInstall r.0) }
     ensures err { IfErr result (IsInstallFault bytes.now) }
 {

@@ -1,0 +1,14 @@
+ghost use Rattle.std.specs.Prelude.{◌≡◌, ℕ, List};
+ghost use Rattle.pq_model.specs.Install.{Install as InstallValue};
+ghost use Rattle.pq_install.specs.Damage.{IsDamagedAt};
+ghost use Rattle.pq_install.specs.Reading.{IsInstallAtFront};
+
+/// Damaged bytes begin with no install. It does nothing when it runs.
+pub fn damaged_bytes_begin_with_no_install()
+    ensures { (bytes rest : List ℕ) (at : ℕ) (i : InstallValue) → IsDamagedAt bytes at → IsInstallAtFront bytes i rest → ⊥ }
+{}
+
+/// Bytes begin with one install at most. It does nothing when it runs.
+pub fn bytes_begin_with_one_install()
+    ensures { (bytes rest more : List ℕ) (i j : InstallValue) → IsInstallAtFront bytes i rest → IsInstallAtFront bytes j more → (i ≡ j) × (rest ≡ more) }
+{}
