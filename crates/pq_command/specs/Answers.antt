@@ -5,16 +5,17 @@ use Rattle.pq_io.specs.Faults.{Rose}
 use Rattle.pq_io.specs.Pieces.{AppendsPart}
 use Rattle.pq_small.specs.Compiled.{Compiles, IsNoForm}
 use Rattle.pq_install.specs.Damage.{IsDamagedAt}
+use Rattle.pq_inspect.specs.Inspected.{IsInspected, IsSpoiledAt}
 use Rattle.pq_replay.specs.Replay.{IsReplay, HasSyntaxFault, HasTooManyEvents}
 use Rattle.pq_command.specs.declared.outcome.Outcome.{Outcome}
 use Rattle.pq_command.specs.declared.outcome.Outcome.TheVariants.{Done, Words, ReadFault, TooLong, Syntax, NotYet, Damaged, ScheduleFull, WriteFault, Memory}
 
--- the most bytes of a document, and of the input of `replay`
+-- the most bytes of a document, and of an install with what follows it
 abbrev pub document_limit : ℕ
 document_limit = 524288
 
-abbrev pub replay_limit : ℕ
-replay_limit = 268435456
+abbrev pub install_limit : ℕ
+install_limit = 268435456
 
 -- the bytes that a source has left and a sink was put, before and after a command
 pub record Streams : Type 0 where
@@ -56,16 +57,29 @@ IsCompileAnswer ScheduleFull s = ⊥
 
 -- what `replay` says of an install and a schedule
 abbrev pub IsReplayAnswer : Outcome → Streams → Type 0
-IsReplayAnswer Done s = ReadsWhole s replay_limit (λ bytes. Puts s (IsReplay bytes))
-IsReplayAnswer WriteFault s = ReadsWhole s replay_limit (λ bytes. PutsPart s (IsReplay bytes))
-IsReplayAnswer (Damaged at) s = ReadsWhole s replay_limit (λ bytes. IsDamagedAt bytes at)
-IsReplayAnswer (Syntax at) s = ReadsWhole s replay_limit (λ bytes. HasSyntaxFault bytes at)
-IsReplayAnswer ScheduleFull s = ReadsWhole s replay_limit HasTooManyEvents
-IsReplayAnswer TooLong s = ReadsMore s replay_limit
+IsReplayAnswer Done s = ReadsWhole s install_limit (λ bytes. Puts s (IsReplay bytes))
+IsReplayAnswer WriteFault s = ReadsWhole s install_limit (λ bytes. PutsPart s (IsReplay bytes))
+IsReplayAnswer (Damaged at) s = ReadsWhole s install_limit (λ bytes. IsDamagedAt bytes at)
+IsReplayAnswer (Syntax at) s = ReadsWhole s install_limit (λ bytes. HasSyntaxFault bytes at)
+IsReplayAnswer ScheduleFull s = ReadsWhole s install_limit HasTooManyEvents
+IsReplayAnswer TooLong s = ReadsMore s install_limit
 IsReplayAnswer ReadFault s = Unit {0}
 IsReplayAnswer Memory s = Unit {0}
 IsReplayAnswer Words s = ⊥
 IsReplayAnswer NotYet s = ⊥
+
+-- what `inspect` says of an install
+abbrev pub IsInspectAnswer : Outcome → Streams → Type 0
+IsInspectAnswer Done s = ReadsWhole s install_limit (λ bytes. Puts s (IsInspected bytes))
+IsInspectAnswer WriteFault s = ReadsWhole s install_limit (λ bytes. PutsPart s (IsInspected bytes))
+IsInspectAnswer (Damaged at) s = ReadsWhole s install_limit (λ bytes. IsSpoiledAt bytes at)
+IsInspectAnswer TooLong s = ReadsMore s install_limit
+IsInspectAnswer ReadFault s = Unit {0}
+IsInspectAnswer Memory s = Unit {0}
+IsInspectAnswer Words s = ⊥
+IsInspectAnswer NotYet s = ⊥
+IsInspectAnswer (Syntax at) s = ⊥
+IsInspectAnswer ScheduleFull s = ⊥
 
 -- a source's faults rose where the outcome is a read fault, and else are as before
 abbrev pub HasReadFaults : Outcome → ℕ → ℕ → Type 0

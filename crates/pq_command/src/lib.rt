@@ -2,6 +2,7 @@
 #![tactic(auto)]
 
 mod compile;
+mod inspect;
 mod outcome;
 mod reading;
 mod replay;

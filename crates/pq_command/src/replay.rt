@@ -7,8 +7,8 @@ use pq_io::{Sink, Source};
 use pq_replay::{ReplayFault, replay_text};
 use std::alloc::Global;
 
-/// The most bytes of an install with its schedule.
-const REPLAY_LIMIT: usize = 268_435_456;
+/// The most bytes of an install with what follows it.
+pub(crate) const INSTALL_LIMIT: usize = 268_435_456;
 
 /// Reads an install and at once behind it a schedule, to the end of input, and writes where every packet is.
 pub(crate) fn replay<S: Source, K: Sink>(alloc: Global, source: &mut S, sink: &mut K) -> Outcome
@@ -17,7 +17,7 @@ pub(crate) fn replay<S: Source, K: Sink>(alloc: Global, source: &mut S, sink: &m
     ensures write_faults { HasWriteFaults result (K.faults sink.old) (K.faults sink.new) }
     ensures refusal { OnRefusal result (sink.new ≡ sink.old) }
 {
-    let bytes = match read_whole(alloc, source, REPLAY_LIMIT) {
+    let bytes = match read_whole(alloc, source, INSTALL_LIMIT) {
         Ok(bytes) => bytes,
         Err(Unread::Failed) => return Outcome::ReadFault,
         Err(Unread::TooLong) => return Outcome::TooLong,

@@ -1,3 +1,4 @@
+use crate::tests::TWO_PORTS_INSTALL;
 use crate::*;
 use pq_io::{MemorySink, MemorySource};
 use std::alloc::{AllocError, Global};
@@ -463,6 +464,80 @@ fn packets_move_as_the_tables_say(rt: HostRuntime) -> Result<(), Fail> {
             assert_eq!(rt; outcome, Outcome::Done, "{what}");
             assert_eq!(rt; put.as_slice(), expected.as_bytes(), "{what}");
         }
+    }
+    Ok(())
+}
+
+/// The install of `crate::tests`, without a schedule.
+fn two_ports(alloc: Global) -> Result<Vec<u8>, AllocError> {
+    let mut bytes = Vec::new(alloc);
+    push_hexadecimal(TWO_PORTS_INSTALL, &mut bytes)?;
+    Ok(bytes)
+}
+
+#[test]
+fn each_schedule_has_its_outcome(rt: HostRuntime) -> Result<(), Fail> {
+    let alloc = rt.alloc();
+    for (schedule, expected) in [
+        ("", Outcome::Done),
+        ("inject 1 1 eth_type=2054\nhop 0\n", Outcome::Done),
+        ("hop x\n", Outcome::Syntax { at: 290 }),
+        ("hop 0", Outcome::Syntax { at: 290 }),
+        ("\n", Outcome::Syntax { at: 290 }),
+        ("hop 0\nhop  0\n", Outcome::Syntax { at: 296 }),
+        ("hop 0\nlose 00\nhop x\n", Outcome::Syntax { at: 296 }),
+        ("inject 1 0\n", Outcome::Syntax { at: 290 }),
+        ("inject 1 4294967041\n", Outcome::Syntax { at: 290 }),
+        ("inject 1 1 vlan=4096\n", Outcome::Syntax { at: 290 }),
+        (
+            "inject 1 1 ip_proto=6 eth_type=2048\n",
+            Outcome::Syntax { at: 290 },
+        ),
+        (
+            "hop 18446744073709551615\nhop 18446744073709551616\n",
+            Outcome::Syntax { at: 315 },
+        ),
+    ] {
+        let mut bytes = two_ports(alloc)?;
+        bytes.extend_from_slice(schedule.as_bytes())?;
+        let (outcome, _) = replay(alloc, bytes)?;
+        assert_eq!(rt; outcome, expected, "{schedule}");
+    }
+    Ok(())
+}
+
+#[test]
+fn a_cut_install_is_damaged_at_the_unit_that_is_cut(rt: HostRuntime) -> Result<(), Fail> {
+    let alloc = rt.alloc();
+    let whole = two_ports(alloc)?;
+    // The magic, the counts and the switch, and the seven messages.
+    let units = [0, 4, 6, 24, 26, 28, 30, 34, 90, 106, 114, 122, 218, 282];
+    for (size, _) in whole.iter().enumerate() {
+        let mut damaged = 0;
+        for unit in units {
+            if unit <= size {
+                damaged = unit;
+            }
+        }
+        let mut bytes = Vec::from_slice(alloc, &whole)?;
+        bytes.truncate(size);
+        let (outcome, put) = replay(alloc, bytes)?;
+        assert_eq!(rt; outcome, Outcome::Damaged { at: damaged }, "{size}");
+        assert_eq!(rt; put.len(), 0);
+    }
+    Ok(())
+}
+
+#[test]
+fn a_schedule_has_100000_events_at_the_most(rt: HostRuntime) -> Result<(), Fail> {
+    let alloc = rt.alloc();
+    for (events, expected) in [(100_000, Outcome::Done), (100_001, Outcome::ScheduleFull)] {
+        let mut bytes = two_ports(alloc)?;
+        for _ in 0..events {
+            bytes.extend_from_slice(b"hop 0\n")?;
+        }
+        let (outcome, _) = replay(alloc, bytes)?;
+        assert_eq!(rt; outcome, expected);
     }
     Ok(())
 }

@@ -7,7 +7,7 @@ use std::test::Fail;
 const TWO_PORTS: &str = "switch s1 = 1 ports 1, 2; part one = filter(port=1) >> fwd(2);";
 
 // The install of these two ports, written out by hand from the standard.
-const TWO_PORTS_INSTALL: &str = "\
+pub(crate) const TWO_PORTS_INSTALL: &str = "\
     5051493100010000000000000001000200000001000000020000000000000000\
     0007040e00380000000100000000000000000000000000000000ff0300000000\
     0000ffffffffffffffffffffffff000000000001000400000000040f00100000\
@@ -191,7 +191,10 @@ fn each_outcome_has_its_status_and_its_line(rt: HostRuntime) -> Result<(), Fail>
         (Outcome::Words, 2, "words"),
         (Outcome::ReadFault, 4, "read fault"),
         (Outcome::TooLong, 1, "too long"),
+        (Outcome::Syntax { at: 290 }, 1, "syntax 290"),
         (Outcome::NotYet, 1, "not yet"),
+        (Outcome::Damaged { at: 122 }, 1, "damaged 122"),
+        (Outcome::ScheduleFull, 3, "schedule full"),
         (Outcome::WriteFault, 5, "write fault"),
         (Outcome::Memory, 6, "memory"),
     ] {

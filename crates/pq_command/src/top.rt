@@ -8,6 +8,7 @@ ghost use Rattle.pq_command.specs.Answers.{
   HasWriteFaults,
   IsCompileAnswer,
   IsDoneOrMemory,
+  IsInspectAnswer,
   IsReplayAnswer,
   OnRefusal,
   document_limit,
@@ -15,6 +16,7 @@ ghost use Rattle.pq_command.specs.Answers.{
 };
 
 use crate::compile::compile;
+use crate::inspect::inspect;
 use crate::outcome::Outcome;
 use crate::replay::replay;
 use crate::words::Command;
@@ -24,7 +26,7 @@ use std::alloc::Global;
 /// Does what the words after the program's name ask for, from the source to the sink.
 ///
 /// `compile` reads a document to its end and writes its install. `replay` reads an install and at once behind it a
-/// schedule, and writes where every packet is.
+/// schedule, and writes where every packet is. `inspect` reads an install and writes it as JSON text.
 pub fn run<S: Source, K: Sink>(
     alloc: Global,
     words: &[String],
@@ -35,6 +37,7 @@ pub fn run<S: Source, K: Sink>(
     ensures untouched { result ≡ Outcome.Words → source.new ≡ source.old }
     ensures compiles { command_of (map string_bytes words.now) ≡ Some Command.Compile → IsCompileAnswer result (streams (S.left source.old) (S.left source.new) (K.put sink.old) (K.put sink.new)) }
     ensures replays { command_of (map string_bytes words.now) ≡ Some Command.Replay → IsReplayAnswer result (streams (S.left source.old) (S.left source.new) (K.put sink.old) (K.put sink.new)) }
+    ensures inspects { command_of (map string_bytes words.now) ≡ Some Command.Inspect → IsInspectAnswer result (streams (S.left source.old) (S.left source.new) (K.put sink.old) (K.put sink.new)) }
     ensures read_faults { HasReadFaults result (S.faults source.old) (S.faults source.new) }
     ensures write_faults { HasWriteFaults result (K.faults sink.old) (K.faults sink.new) }
     ensures refusal { OnRefusal result (sink.new ≡ sink.old) }
@@ -43,6 +46,7 @@ pub fn run<S: Source, K: Sink>(
     match Command::of_words(words) {
         Some(Command::Compile) => compile(alloc, source, sink),
         Some(Command::Replay) => replay(alloc, source, sink),
+        Some(Command::Inspect) => inspect(alloc, source, sink),
         None => Outcome::Words,
     }
 }

@@ -9,6 +9,8 @@ pub enum Command {
     Compile,
     /// Write where packets are after a schedule.
     Replay,
+    /// Write an install as JSON text.
+    Inspect,
 }
 
 impl Command {
@@ -20,6 +22,9 @@ impl Command {
         }
         if word == b"replay".as_slice() {
             return Some(Command::Replay);
+        }
+        if word == b"inspect".as_slice() {
+            return Some(Command::Inspect);
         }
         None
     }

@@ -11,5 +11,7 @@ mod switch;
 #[cfg(test)]
 mod tests;
 mod text;
+mod whole;
 
 pub use inspection::inspect;
+pub use whole::inspect_bytes;

@@ -1,0 +1,27 @@
+-- What inspecting bytes gives.
+use Rattle.std.specs.Prelude.{◌≡◌, ℕ, ◌<◌, ◌⊎◌, List, length}
+use Rattle.pq_model.specs.Install.{Install}
+use Rattle.pq_install.specs.declared.fault.InstallFault.{InstallFault}
+use Rattle.pq_install.specs.declared.fault.InstallFault.TheVariants.{Damaged, Memory}
+use Rattle.pq_install.specs.Damage.{IsDamagedAt}
+use Rattle.pq_install.specs.Reading.{IsInstallIn}
+use Rattle.pq_inspect.specs.Inspection.{inspection_text}
+
+-- the bytes are an install and nothing else, and this is its text
+pub record IsInspected (bytes text : List ℕ) : Type 0 where
+  pub install : Install
+  pub whole : IsInstallIn bytes install (length bytes)
+  pub shown : text ≡ inspection_text install
+
+-- an install of this length is followed by more bytes
+abbrev pub IsFollowed : List ℕ → ℕ → Type 0
+IsFollowed bytes size = (i : Install) × IsInstallIn bytes i size × (size < length bytes)
+
+-- the bytes are damaged at the place, or follow an install there
+abbrev pub IsSpoiledAt : List ℕ → ℕ → Type 0
+IsSpoiledAt bytes at = IsDamagedAt bytes at ⊎ IsFollowed bytes at
+
+-- what a fault tells is true of the bytes; want of memory has no cause
+abbrev pub IsInspectFault : List ℕ → InstallFault → Type 0
+IsInspectFault bytes (Damaged at) = IsSpoiledAt bytes at
+IsInspectFault bytes Memory = Unit {0}
