@@ -20,3 +20,6 @@ pub mod MessageLists
 pub mod Whole
 pub mod Closed
 pub mod Exclusion
+pub mod Pigeons
+pub mod AllPorts
+pub mod Renamed

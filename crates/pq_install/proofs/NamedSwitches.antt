@@ -8,6 +8,7 @@ use Rattle.std.specs.Cmp.Lexicographic.{bytes_decides}
 use Rattle.pq_model.specs.Lawful.{Ascends}
 use Rattle.pq_model.specs.Topology.{Switch, Topology}
 use Rattle.pq_topo.specs.Named.{IsNamedTopology}
+use Rattle.pq_topo.proofs.Ascending.{rest_ascends}
 use Rattle.pq_install.specs.Links.{AreReadLinks, unlinked}
 use Rattle.pq_install.specs.Switches.{AreReadSwitches, IsReadSwitch, read_name}
 use Rattle.pq_install.proofs.LinkLists.{no_links}
@@ -33,16 +34,12 @@ differs_from_all s (t ∷ u ∷ us) fit each up =
     let above : s.datapath < u.datapath = omega (arith, up.0, up.1.0) in
     (differs, differs_from_all s (u ∷ us) fit (All-tail IsReadSwitch t (u ∷ us) each) (above, up.1.1))
 
-rest_up : (x : ℕ) (ys : List ℕ) → Ascends (x ∷ ys) → Ascends ys
-rest_up x [] up = tt
-rest_up x (y ∷ ys) up = up.1
-
 all_differ : (ss : List Switch) → All IsReadSwitch ss → Ascends (map (λ s. s.datapath) ss) → IsDistinct bytes_eq (map (λ s. s.name) ss)
 unfolding IsDistinct
 all_differ [] each up = tt
 all_differ (s ∷ ss) each up =
     let rest = All-tail IsReadSwitch s ss each in
-    (differs_from_all s ss (each 0 s (omega arith)) rest up, all_differ ss rest (rest_up s.datapath (map (λ t. t.datapath) ss) up))
+    (differs_from_all s ss (each 0 s (omega arith)) rest up, all_differ ss rest (rest_ascends s.datapath (map (λ t. t.datapath) ss) up))
 
 -- what is read of a topology is one
 pub read_is_named : (t : Topology) → length t.switches ≤ 256 → AreReadSwitches t.switches → AreReadLinks t.switches t.links → IsNamedTopology t

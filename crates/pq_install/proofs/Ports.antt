@@ -5,6 +5,7 @@ use Rattle.std.proofs.lemmas.Bool.Decides.{nat_tests}
 use Rattle.std.proofs.lemmas.List.Elements.{All-cons, All-tail}
 use Rattle.pq_model.specs.Lawful.{Ascends}
 use Rattle.pq_model.specs.MatchFields.{IsPortNumber}
+use Rattle.pq_topo.proofs.Ascending.{rest_ascends}
 use Rattle.pq_install.specs.Switches.{are_ports_above, ArePorts}
 
 -- a test that two tests both tell
@@ -38,10 +39,6 @@ from_zero : (ps : List ℕ) → Ascends ps → All IsPortNumber ps → Ascends (
 from_zero [] up fit = tt
 from_zero (p ∷ ps) up fit = (omega (arith, (fit 0 p (omega arith)).0), up)
 
-rest_up : (x : ℕ) (ps : List ℕ) → Ascends (x ∷ ps) → Ascends ps
-rest_up x [] up = tt
-rest_up x (p ∷ ps) up = up.1
-
 -- the test tells what ports a switch may have
 pub tells_ports : (ps : List ℕ) → ps ≢ [] → length ps ≤ 4096 → IsTrue (are_ports_above 0 ps) ↔ ArePorts ps
-tells_ports ps some few = (λ e. let let_in = let_through 0 ps e in (some, few, rest_up 0 ps let_in.0, let_in.1), λ are. pass 0 ps (from_zero ps are.2 are.3) are.3)
+tells_ports ps some few = (λ e. let let_in = let_through 0 ps e in (some, few, rest_ascends 0 ps let_in.0, let_in.1), λ are. pass 0 ps (from_zero ps are.2 are.3) are.3)

@@ -10,7 +10,7 @@ use Rattle.pq_install.proofs.Front.{Unique, unique_u16, unique_u32, unique_u64}
 use Rattle.pq_install.proofs.Sequences.{no_second, unique_pair, unique_counted}
 
 -- what is spelled of a switch
-abbrev Parts : Type 0
+abbrev pub Parts : Type 0
 Parts = ℕ × List ℕ
 
 abbrev AreParts : Parts → Type 0
@@ -25,7 +25,7 @@ unique_ports = unique_counted w16 IsU16 unique_u16 IsU32 (to_be_bytes w32) uniqu
 unique_parts : Unique AreParts parts_bytes
 unique_parts = unique_pair IsU64 (to_be_bytes w64) unique_u64 (AreFew IsU16 IsU32) (counted_by w16 (to_be_bytes w32)) unique_ports
 
-abbrev parts_of : Switch → Parts
+abbrev pub parts_of : Switch → Parts
 parts_of s = (s.datapath, s.ports)
 
 are_parts : (s : Switch) → IsReadSwitch s → AreParts (parts_of s)
@@ -39,7 +39,7 @@ pub no_ports : (bytes : List ℕ) (datapath : ℕ) (after : List ℕ) → IsAtFr
 no_ports bytes datapath after front none = no_parts bytes (no_second IsU64 (to_be_bytes w64) unique_u64 (AreFew IsU16 IsU32) (counted_by w16 (to_be_bytes w32)) bytes datapath after front none)
 
 -- the switch that is read from parts
-abbrev read_of : Parts → Switch
+abbrev pub read_of : Parts → Switch
 read_of p = record { name = read_name p.0; datapath = p.0; ports = p.1; limit = 0 }
 
 read_again : (s : Switch) → IsReadSwitch s → read_of (parts_of s) ≡ s

@@ -37,11 +37,11 @@ regrouped : (v : ℕ) (a b c d e f g h m : List ℕ) → (0x50 ∷ 0x51 ∷ 0x49
 regrouped v a b c d e f g h m = simp append_assoc refl
 
 -- the parts are the spelling
-old_parts : (i : Install) → parts_bytes Old i ≡ install_bytes 0x31 i
+pub old_parts : (i : Install) → parts_bytes Old i ≡ install_bytes 0x31 i
 unfolding install_bytes
 old_parts i = regrouped 0x31 (to_be_bytes w16 (length i.topology.switches)) (flat_map switch_bytes i.topology.switches) (to_be_bytes w16 (length i.topology.links)) (flat_map link_bytes i.topology.links) (to_be_bytes w16 (length i.queries)) (flat_map name_bytes i.queries) (to_be_bytes w16 (length i.report)) (flat_map row_bytes i.report) (flat_map list_bytes i.messages)
 
-new_parts : (i : Install) → parts_bytes New i ≡ install_bytes 0x32 i
+pub new_parts : (i : Install) → parts_bytes New i ≡ install_bytes 0x32 i
 unfolding install_bytes
 new_parts i = regrouped 0x32 (to_be_bytes w16 (length i.topology.switches)) (flat_map switch_bytes i.topology.switches) (to_be_bytes w16 (length i.topology.links)) (flat_map link_bytes i.topology.links) (to_be_bytes w16 (length i.queries)) (flat_map name_bytes i.queries) (to_be_bytes w16 (length i.report)) (flat_map row_bytes i.report) (flat_map list_bytes i.messages)
 

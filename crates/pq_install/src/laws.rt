@@ -1,11 +1,12 @@
-ghost use Rattle.std.specs.Prelude.{◌≡◌, ℕ, List};
-ghost use Rattle.pq_model.specs.Install.{Install as InstallValue};
+ghost use Rattle.std.specs.Prelude.{◌≡◌, ◌⊎◌, ℕ, List, take};
+ghost use Rattle.pq_model.specs.Install.{Install as InstallValue, IsSpelled, IsSpelledOld};
 ghost use Rattle.pq_install.specs.Damage.{IsDamagedAt};
 ghost use Rattle.pq_install.specs.Reading.{IsInstallAtFront};
 
-/// Damaged bytes begin with no install. It does nothing when it runs.
+/// Damaged bytes begin with no install, in neither spelling. It does nothing when it runs.
 pub fn damaged_bytes_begin_with_no_install()
-    ensures { (bytes rest : List ℕ) (at : ℕ) (i : InstallValue) → IsDamagedAt bytes at → IsInstallAtFront bytes i rest → ⊥ }
+    ensures { (bytes : List ℕ) (at n : ℕ) (i : InstallValue) → IsDamagedAt bytes at
+        → IsSpelled i (take n bytes) ⊎ IsSpelledOld i (take n bytes) → ⊥ }
 {}
 
 /// Bytes begin with one install at most. It does nothing when it runs.

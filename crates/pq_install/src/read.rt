@@ -1,3 +1,5 @@
+//! Reading an install: each part where it stands at the front of bytes.
+
 pub mod front;
 pub mod links;
 pub mod lists;
