@@ -6,7 +6,12 @@ use Rattle.pq_small.specs.SmallForm.{SmallForm, IsSmallForm}
 use Rattle.pq_small.specs.Compiled.{IsNoForm}
 use Rattle.pq_command.specs.declared.outcome.Outcome.{Outcome}
 use Rattle.pq_command.specs.declared.outcome.Outcome.TheVariants.{Done, Words, ReadFault, TooLong, Syntax, NotYet, Damaged, ScheduleFull, WriteFault, Memory}
-use Rattle.pq_command.specs.Answers.{Streams, ReadsWhole, ReadsMore, IsCompileAnswer, HasReadFaults, HasWriteFaults, IsDoneOrMemory, document_limit}
+use Rattle.pq_command.specs.Answers.{Streams, ReadsWhole, ReadsMore, IsCompileAnswer, IsReplayAnswer, IsInspectAnswer, HasReadFaults, HasWriteFaults, IsDoneOrMemory, document_limit, install_limit}
+use Rattle.pq_install.specs.Damage.{IsDamagedAt}
+use Rattle.pq_inspect.specs.Inspected.{IsWholeInstall, IsSpoiledAt}
+use Rattle.pq_inspect.proofs.Unspoiled.{not_spoiled}
+use Rattle.pq_replay.specs.Replay.{IsReplayable, HasSyntaxFault, HasTooManyEvents}
+use Rattle.pq_replay.proofs.Replayable.{not_damaged, no_syntax_fault, not_too_many}
 
 -- known bytes that were read to their end are what was read
 whole_text : (bytes text : List ℕ) (now : Option (List ℕ)) → Consumes (Some bytes) now text → IsAtEnd now → bytes ≡ text
@@ -45,3 +50,41 @@ compiled Words (Some bytes) now before after reads read writes written answer re
 compiled (Syntax at) (Some bytes) now before after reads read writes written answer read_faults write_faults no_read no_write = absurd answer
 compiled (Damaged at) (Some bytes) now before after reads read writes written answer read_faults write_faults no_read no_write = absurd answer
 compiled ScheduleFull (Some bytes) now before after reads read writes written answer read_faults write_faults no_read no_write = absurd answer
+
+pub replayed : (o : Outcome) (left now before after : Option (List ℕ)) (reads read writes written : ℕ)
+    → IsReplayAnswer o (record { left = left; rest = now; before = before; after = after }) → HasReadFaults o reads read → HasWriteFaults o writes written
+    → (Rose reads read → ⊥) → (Rose writes written → ⊥)
+    → IfSome left (λ bytes. length bytes ≤ install_limit → IsReplayable bytes → IsDoneOrMemory o)
+replayed o None now before after reads read writes written answer read_faults write_faults no_read no_write = tt
+replayed Done (Some bytes) now before after reads read writes written answer read_faults write_faults no_read no_write = λ short r. tt
+replayed Memory (Some bytes) now before after reads read writes written answer read_faults write_faults no_read no_write = λ short r. tt
+replayed ReadFault (Some bytes) now before after reads read writes written answer read_faults write_faults no_read no_write = λ short r. no_read read_faults
+replayed WriteFault (Some bytes) now before after reads read writes written answer read_faults write_faults no_read no_write = λ short r. no_write write_faults
+replayed (Damaged at) (Some bytes) now before after reads read writes written answer read_faults write_faults no_read no_write =
+    λ short r. not_damaged bytes at r (of_whole bytes now before after install_limit (λ bs. IsDamagedAt bs at) answer)
+replayed (Syntax at) (Some bytes) now before after reads read writes written answer read_faults write_faults no_read no_write =
+    λ short r. no_syntax_fault bytes at r (of_whole bytes now before after install_limit (λ bs. HasSyntaxFault bs at) answer)
+replayed ScheduleFull (Some bytes) now before after reads read writes written answer read_faults write_faults no_read no_write =
+    λ short r. not_too_many bytes r (of_whole bytes now before after install_limit HasTooManyEvents answer)
+replayed TooLong (Some bytes) now before after reads read writes written answer read_faults write_faults no_read no_write =
+    λ short r. not_more bytes now before after install_limit answer short
+replayed Words (Some bytes) now before after reads read writes written answer read_faults write_faults no_read no_write = absurd answer
+replayed NotYet (Some bytes) now before after reads read writes written answer read_faults write_faults no_read no_write = absurd answer
+
+pub inspected : (o : Outcome) (left now before after : Option (List ℕ)) (reads read writes written : ℕ)
+    → IsInspectAnswer o (record { left = left; rest = now; before = before; after = after }) → HasReadFaults o reads read → HasWriteFaults o writes written
+    → (Rose reads read → ⊥) → (Rose writes written → ⊥)
+    → IfSome left (λ bytes. length bytes ≤ install_limit → IsWholeInstall bytes → IsDoneOrMemory o)
+inspected o None now before after reads read writes written answer read_faults write_faults no_read no_write = tt
+inspected Done (Some bytes) now before after reads read writes written answer read_faults write_faults no_read no_write = λ short i. tt
+inspected Memory (Some bytes) now before after reads read writes written answer read_faults write_faults no_read no_write = λ short i. tt
+inspected ReadFault (Some bytes) now before after reads read writes written answer read_faults write_faults no_read no_write = λ short i. no_read read_faults
+inspected WriteFault (Some bytes) now before after reads read writes written answer read_faults write_faults no_read no_write = λ short i. no_write write_faults
+inspected (Damaged at) (Some bytes) now before after reads read writes written answer read_faults write_faults no_read no_write =
+    λ short i. not_spoiled bytes at i (of_whole bytes now before after install_limit (λ bs. IsSpoiledAt bs at) answer)
+inspected TooLong (Some bytes) now before after reads read writes written answer read_faults write_faults no_read no_write =
+    λ short i. not_more bytes now before after install_limit answer short
+inspected Words (Some bytes) now before after reads read writes written answer read_faults write_faults no_read no_write = absurd answer
+inspected NotYet (Some bytes) now before after reads read writes written answer read_faults write_faults no_read no_write = absurd answer
+inspected (Syntax at) (Some bytes) now before after reads read writes written answer read_faults write_faults no_read no_write = absurd answer
+inspected ScheduleFull (Some bytes) now before after reads read writes written answer read_faults write_faults no_read no_write = absurd answer

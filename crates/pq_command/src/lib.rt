@@ -15,6 +15,8 @@ pub use top::run;
 pub use words::Command;
 
 #[cfg(test)]
+mod inspect_tests;
+#[cfg(test)]
 mod replay_tests;
 #[cfg(test)]
 mod tests;

@@ -177,7 +177,8 @@ fn input(
 ) -> Result<Vec<u8>, AllocError> {
     let mut bytes = Vec::from_slice(alloc, magic)?;
     push_hexadecimal(HEAD, &mut bytes)?;
-    bytes.extend_from_slice(&(messages.len() as u32).to_be_bytes())?;
+    let count = u32::try_from(messages.len()).unwrap_or(u32::MAX);
+    bytes.extend_from_slice(&count.to_be_bytes())?;
     for message in messages {
         push_hexadecimal(message, &mut bytes)?;
     }

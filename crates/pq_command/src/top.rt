@@ -1,7 +1,9 @@
-ghost use Rattle.std.specs.Prelude.{◌≡◌, ◌↔◌, ◌≤◌, None, Some, length, map, IfSome};
+ghost use Rattle.std.specs.Prelude.{◌≡◌, ◌↔◌, ◌<◌, ◌≤◌, IfSome, None, Some, length, map};
 ghost use Rattle.std.specs.String.{string_bytes};
 ghost use Rattle.pq_io.specs.Faults.{Rose};
-ghost use Rattle.pq_small.specs.SmallForm.{SmallForm, IsSmallForm};
+ghost use Rattle.pq_small.specs.SmallForm.{IsSmallForm, SmallForm};
+ghost use Rattle.pq_replay.specs.Replay.{IsReplayable};
+ghost use Rattle.pq_inspect.specs.Inspected.{IsWholeInstall};
 ghost use Rattle.pq_command.specs.Words.{command_of};
 ghost use Rattle.pq_command.specs.Answers.{
   HasReadFaults,
@@ -12,6 +14,7 @@ ghost use Rattle.pq_command.specs.Answers.{
   IsReplayAnswer,
   OnRefusal,
   document_limit,
+  install_limit,
   streams,
 };
 
@@ -41,7 +44,9 @@ pub fn run<S: Source, K: Sink>(
     ensures read_faults { HasReadFaults result (S.faults source.old) (S.faults source.new) }
     ensures write_faults { HasWriteFaults result (K.faults sink.old) (K.faults sink.new) }
     ensures refusal { OnRefusal result (sink.new ≡ sink.old) }
-    ensures complete { (Rose (S.faults source.old) (S.faults source.new) → ⊥) → (Rose (K.faults sink.old) (K.faults sink.new) → ⊥) → command_of (map string_bytes words.now) ≡ Some Command.Compile → IfSome (S.left source.old) (λ bytes. length bytes ≤ document_limit → (s : SmallForm) → IsSmallForm bytes s → IsDoneOrMemory result) }
+    ensures completes_compile { (Rose (S.faults source.old) (S.faults source.new) → ⊥) → (Rose (K.faults sink.old) (K.faults sink.new) → ⊥) → command_of (map string_bytes words.now) ≡ Some Command.Compile → IfSome (S.left source.old) (λ bytes. length bytes ≤ document_limit → (s : SmallForm) → IsSmallForm bytes s → IsDoneOrMemory result) }
+    ensures completes_replay { (Rose (S.faults source.old) (S.faults source.new) → ⊥) → (Rose (K.faults sink.old) (K.faults sink.new) → ⊥) → command_of (map string_bytes words.now) ≡ Some Command.Replay → IfSome (S.left source.old) (λ bytes. length bytes ≤ install_limit → IsReplayable bytes → IsDoneOrMemory result) }
+    ensures completes_inspect { (Rose (S.faults source.old) (S.faults source.new) → ⊥) → (Rose (K.faults sink.old) (K.faults sink.new) → ⊥) → command_of (map string_bytes words.now) ≡ Some Command.Inspect → IfSome (S.left source.old) (λ bytes. length bytes ≤ install_limit → IsWholeInstall bytes → IsDoneOrMemory result) }
 {
     match Command::of_words(words) {
         Some(Command::Compile) => compile(alloc, source, sink),

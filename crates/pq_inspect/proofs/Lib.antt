@@ -3,3 +3,4 @@ pub mod Lists
 pub mod Floats
 pub mod Linked
 pub mod Worked
+pub mod Unspoiled

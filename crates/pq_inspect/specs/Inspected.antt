@@ -1,6 +1,6 @@
 -- What inspecting bytes gives.
 use Rattle.std.specs.Prelude.{◌≡◌, ℕ, ◌<◌, ◌⊎◌, List, length}
-use Rattle.pq_model.specs.Install.{Install}
+use Rattle.pq_model.specs.Install.{Install, IsSpelled, IsSpelledOld}
 use Rattle.pq_install.specs.declared.fault.InstallFault.{InstallFault}
 use Rattle.pq_install.specs.declared.fault.InstallFault.TheVariants.{Damaged, Memory}
 use Rattle.pq_install.specs.Damage.{IsDamagedAt}
@@ -25,3 +25,7 @@ IsSpoiledAt bytes at = IsDamagedAt bytes at ⊎ IsFollowed bytes at
 abbrev pub IsInspectFault : List ℕ → InstallFault → Type 0
 IsInspectFault bytes (Damaged at) = IsSpoiledAt bytes at
 IsInspectFault bytes Memory = Unit {0}
+
+-- the bytes are an install's spelling, or its old one, and nothing else
+abbrev pub IsWholeInstall : List ℕ → Type 0
+IsWholeInstall bytes = (i : Install) × (IsSpelled i bytes ⊎ IsSpelledOld i bytes)

@@ -3,6 +3,7 @@
 
 mod hex;
 mod inspection;
+mod laws;
 mod message;
 mod numbers;
 mod report;
@@ -14,4 +15,5 @@ mod text;
 mod whole;
 
 pub use inspection::inspect;
+pub use laws::whole_installs_have_no_fault;
 pub use whole::inspect_bytes;

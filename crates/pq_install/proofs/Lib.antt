@@ -23,3 +23,4 @@ pub mod Exclusion
 pub mod Pigeons
 pub mod AllPorts
 pub mod Renamed
+pub mod OneSpelling

@@ -1,8 +1,8 @@
 -- What replaying an install and a schedule gives.
-use Rattle.std.specs.Prelude.{◌≡◌, ℕ, ◌+◌, List, drop}
+use Rattle.std.specs.Prelude.{◌≡◌, ℕ, ◌+◌, ◌⊎◌, List, drop, take}
 use Rattle.pq_model.specs.declared.event.Event.{Event}
 use Rattle.pq_model.specs.TablesMachine.{TablesState, nothing_sent, run_sending}
-use Rattle.pq_model.specs.Install.{Install}
+use Rattle.pq_model.specs.Install.{Install, IsSpelled, IsSpelledOld}
 use Rattle.pq_install.specs.Damage.{IsDamagedAt}
 use Rattle.pq_install.specs.Reading.{IsInstallIn}
 use Rattle.pq_net.specs.Network.{installed_sender}
@@ -54,3 +54,11 @@ IsReplayFault bytes (Damaged at) = IsDamagedAt bytes at
 IsReplayFault bytes (Syntax at) = HasSyntaxFault bytes at
 IsReplayFault bytes Full = HasTooManyEvents bytes
 IsReplayFault bytes Memory = Unit {0}
+
+-- the bytes are an install's spelling, or its old one, and at once behind it a schedule
+pub record IsReplayable (bytes : List ℕ) : Type 0 where
+  pub install : Install
+  pub size : ℕ
+  pub spelled : IsSpelled install (take size bytes) ⊎ IsSpelledOld install (take size bytes)
+  pub events : List Event
+  pub scheduled : IsScheduleText (drop size bytes) events
