@@ -20,3 +20,5 @@ mod inspect_tests;
 mod replay_tests;
 #[cfg(test)]
 mod tests;
+#[cfg(test)]
+mod two_table_tests;

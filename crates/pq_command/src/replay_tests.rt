@@ -159,7 +159,7 @@ fn digit(byte: u8) -> u8 {
 }
 
 /// Appends the bytes that pairs of hexadecimal digits spell.
-fn push_hexadecimal(text: &str, into: &mut Vec<u8>) -> Result<(), AllocError> {
+pub(crate) fn push_hexadecimal(text: &str, into: &mut Vec<u8>) -> Result<(), AllocError> {
     for pair in text.as_bytes().chunks_exact(2) {
         if let [high, low] = pair {
             into.push(digit(*high).wrapping_mul(16).wrapping_add(digit(*low)))?;
@@ -525,20 +525,6 @@ fn a_cut_install_is_damaged_at_the_unit_that_is_cut(rt: HostRuntime) -> Result<(
         let (outcome, put) = replay(alloc, bytes)?;
         assert_eq!(rt; outcome, Outcome::Damaged { at: damaged }, "{size}");
         assert_eq!(rt; put.len(), 0);
-    }
-    Ok(())
-}
-
-#[test]
-fn a_schedule_has_100000_events_at_the_most(rt: HostRuntime) -> Result<(), Fail> {
-    let alloc = rt.alloc();
-    for (events, expected) in [(100_000, Outcome::Done), (100_001, Outcome::ScheduleFull)] {
-        let mut bytes = two_ports(alloc)?;
-        for _ in 0..events {
-            bytes.extend_from_slice(b"hop 0\n")?;
-        }
-        let (outcome, _) = replay(alloc, bytes)?;
-        assert_eq!(rt; outcome, expected);
     }
     Ok(())
 }
