@@ -66,7 +66,7 @@ module _ {X : Type 0} (P : X → Type 0) (spell : X → List ℕ) (unique : Uniq
       unique_counted w16 IsU16 unique_u16 P spell unique xs ys rest more (omega (arith, one.0.0, small), each xs one.0.1) (omega (arith, other.0.0, small), each ys other.0.1) (sym one.1 ∙ other.1)
 
 -- a magic that is there doesn't fail, and there is one
-one_magic : (v w : Version) (rest more : List ℕ) → magic_bytes v ++ rest ≡ magic_bytes w ++ more → (v ≡ w) × (rest ≡ more)
+pub one_magic : (v w : Version) (rest more : List ℕ) → magic_bytes v ++ rest ≡ magic_bytes w ++ more → (v ≡ w) × (rest ≡ more)
 one_magic Old Old rest more e = (refl, cc)
 one_magic Old New rest more e = absurd (grind (arith, e))
 one_magic New Old rest more e = absurd (grind (arith, e))
@@ -79,16 +79,16 @@ only_after {X = X} Fails Reads After bytes left x rest reads stands one (inr (y,
     let same = one y more other in
     subst (λ (z : X). After z rest left) same.0 (subst (λ (b : List ℕ). After y b left) same.1 after)
 
-links_have_ends : (ss : List Switch) → AreReadSwitches ss → (ls : List Link) → AreReadLinks ss ls → All HasEnds ls
+pub links_have_ends : (ss : List Switch) → AreReadSwitches ss → (ls : List Link) → AreReadLinks ss ls → All HasEnds ls
 links_have_ends ss switches ls are k l below =
     let lawful = are.each k l below in
     (port_fits ss (get_or ls k l).first.0 (get_or ls k l).first.1 switches.each lawful.0, port_fits ss (get_or ls k l).second.0 (get_or ls k l).second.1 switches.each lawful.1)
 
-rows_have_pairs : (queries : ℕ) → queries ≤ 256 → (rows : List Row) → AreReadRows queries rows → All HasPairs rows
+pub rows_have_pairs : (queries : ℕ) → queries ≤ 256 → (rows : List Row) → AreReadRows queries rows → All HasPairs rows
 rows_have_pairs queries few rows are k row below = lawful_has_pairs queries few (get_or rows k row) (are.each k row below)
 
 -- two messages at one front are the same
-unique_message : (v : Version) → Unique (IsReadMessage v) message_bytes
+pub unique_message : (v : Version) → Unique (IsReadMessage v) message_bytes
 unique_message v m n a b fm fn e =
     let same = one_message m n a b fm.0 fn.0 e in
     (same, append_cancel_left (message_bytes n) a b (subst (λ (x : Message). message_bytes x ++ a ≡ message_bytes n ++ b) same e))

@@ -24,3 +24,5 @@ pub mod Pigeons
 pub mod AllPorts
 pub mod Renamed
 pub mod OneSpelling
+pub mod Cuts
+pub mod CutUnits

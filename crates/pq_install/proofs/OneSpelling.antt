@@ -1,5 +1,5 @@
 -- No spelling of an install begins another's.
-use Rattle.std.proofs.Common.{◌≡◌, ℕ, ◌≤◌, List, ◌++◌, ◌⊎◌, inl, inr, refl, ap, sym, ◌∙◌, length, take, drop, take-append-drop, length-drop, arith}
+use Rattle.std.proofs.Common.{◌≡◌, ℕ, ◌≤◌, List, ◌⊎◌, inl, inr, refl, ap, sym, ◌∙◌, length, take, drop, take-append-drop, length-drop, arith}
 use Rattle.pq_model.specs.Install.{Install, IsSpelled, IsSpelledOld}
 use Rattle.pq_install.specs.Reading.{IsInstallAtFront}
 use Rattle.pq_install.proofs.Renamed.{spelled_at_front, spelled_old_at_front}

@@ -11,7 +11,7 @@ use Rattle.pq_model.specs.TablesMachine.{Row}
 use Rattle.pq_model.specs.Install.{Install, IsLawfulInstall, IsLawfulRow, IsLawfulSwitch, IsLawfulTopology, IsOldInstall, IsSpelled, IsSpelledOld, install_bytes, port_count, switch_bytes}
 use Rattle.pq_install.specs.declared.version.Version.TheVariants.{Old, New}
 use Rattle.pq_install.specs.Damage.{IsDamagedAt, IsReadReport, IsReadTopology}
-use Rattle.pq_install.specs.Reading.{IsInstallAtFront}
+use Rattle.pq_install.specs.Reading.{IsInstallAtFront, IsReadIn}
 use Rattle.pq_install.specs.Switches.{IsReadSwitch}
 use Rattle.pq_install.proofs.AllPorts.{few_links}
 use Rattle.pq_install.proofs.Exclusion.{install_stands}
@@ -19,10 +19,10 @@ use Rattle.pq_install.proofs.SwitchUnits.{read_of, parts_of}
 use Rattle.pq_install.proofs.Whole.{old_parts, new_parts}
 
 -- a switch as it is read
-abbrev as_read : Switch → Switch
+abbrev pub as_read : Switch → Switch
 as_read s = read_of (parts_of s)
 
-abbrev all_as_read : List Switch → List Switch
+abbrev pub all_as_read : List Switch → List Switch
 all_as_read ss = map as_read ss
 
 same_bytes : (ss : List Switch) → flat_map switch_bytes (all_as_read ss) ≡ flat_map switch_bytes ss
@@ -54,7 +54,7 @@ few_ascending most x [] up fit = omega (arith, fit 0 x (omega arith))
 few_ascending most x (y ∷ ys) up fit = omega (arith, up.0, few_ascending most y ys up.1 (All-tail (λ z. z ≤ most) x (y ∷ ys) fit))
 
 -- an install as it is read
-abbrev install_as_read : Install → Install
+abbrev pub install_as_read : Install → Install
 install_as_read i = record i { topology = record { switches = all_as_read i.topology.switches; links = i.topology.links } }
 
 same_spelling : (n : ℕ) (i : Install) → install_bytes n (install_as_read i) ≡ install_bytes n i
@@ -99,28 +99,35 @@ report_as_read i lawful = record {
   rows = record { each = lawful.rows; ascending = lawful.tags_ascend };
 }
 
+-- its parts keep their rules
+pub new_as_read : (i : Install) → IsLawfulInstall i → IsReadIn New (install_as_read i)
+new_as_read i lawful = record {
+  topology = topology_as_read i.topology lawful.topology;
+  report = report_as_read i lawful;
+  listed = rw (length-map i.topology.switches as_read) lawful.listed;
+  messages = λ k ms below. let list = lawful.messages k ms below in (list.0, λ j m here. (list.1 j m here, tt));
+}
+
+pub old_as_read : (i : Install) → IsLawfulInstall i → IsOldInstall i → IsReadIn Old (install_as_read i)
+old_as_read i lawful old = record {
+  topology = topology_as_read i.topology lawful.topology;
+  report = report_as_read i lawful;
+  listed = rw (length-map i.topology.switches as_read) lawful.listed;
+  messages = λ k ms below. let list = lawful.messages k ms below in (list.0, λ j m here. (list.1 j m here, old k ms below j m here));
+}
+
 -- an install that is spelled at the front is there as it is read
 pub spelled_at_front : (bytes : List ℕ) (i : Install) (rest : List ℕ) → IsLawfulInstall i → bytes ≡ install_bytes 0x32 i ++ rest → IsInstallAtFront bytes (install_as_read i) rest
 spelled_at_front bytes i rest lawful e = (
   New,
-  record {
-    topology = topology_as_read i.topology lawful.topology;
-    report = report_as_read i lawful;
-    listed = rw (length-map i.topology.switches as_read) lawful.listed;
-    messages = λ k ms below. let list = lawful.messages k ms below in (list.0, λ j m here. (list.1 j m here, tt));
-  },
+  new_as_read i lawful,
   e ∙ ap (λ (spelled : List ℕ). spelled ++ rest) (sym (new_parts (install_as_read i) ∙ same_spelling 0x32 i)),
 )
 
 pub spelled_old_at_front : (bytes : List ℕ) (i : Install) (rest : List ℕ) → IsLawfulInstall i → IsOldInstall i → bytes ≡ install_bytes 0x31 i ++ rest → IsInstallAtFront bytes (install_as_read i) rest
 spelled_old_at_front bytes i rest lawful old e = (
   Old,
-  record {
-    topology = topology_as_read i.topology lawful.topology;
-    report = report_as_read i lawful;
-    listed = rw (length-map i.topology.switches as_read) lawful.listed;
-    messages = λ k ms below. let list = lawful.messages k ms below in (list.0, λ j m here. (list.1 j m here, old k ms below j m here));
-  },
+  old_as_read i lawful old,
   e ∙ ap (λ (spelled : List ℕ). spelled ++ rest) (sym (old_parts (install_as_read i) ∙ same_spelling 0x31 i)),
 )
 

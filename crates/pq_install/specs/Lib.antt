@@ -7,3 +7,4 @@ pub mod Names
 pub mod Rows
 pub mod Damage
 pub mod Reading
+pub mod Cut
