@@ -34,7 +34,7 @@ use Rattle.pq_install.proofs.Sequences.{unique_counted}
 
 module _ {X : Type 0} (P : X → Type 0) (spell : X → List ℕ) (unique : Unique P spell) where
   -- of two lists at one front the shorter begins the longer
-  goes_on : (xs ys : List X) (rest more : List ℕ) → All P xs → All P ys → length xs < length ys → flat_map spell xs ++ rest ≡ flat_map spell ys ++ more → (y : X) × (back : List X) × (ys ≡ xs ++ y ∷ back) × (rest ≡ spell y ++ (flat_map spell back ++ more))
+  pub goes_on : (xs ys : List X) (rest more : List ℕ) → All P xs → All P ys → length xs < length ys → flat_map spell xs ++ rest ≡ flat_map spell ys ++ more → (y : X) × (back : List X) × (ys ≡ xs ++ y ∷ back) × (rest ≡ spell y ++ (flat_map spell back ++ more))
   goes_on [] [] rest more px py shorter e = absurd (omega (arith, shorter))
   goes_on [] (y ∷ ys) rest more px py shorter e = (y, ys, refl, e ∙ append_assoc (spell y) (flat_map spell ys) more)
   goes_on (x ∷ xs) [] rest more px py shorter e = absurd (omega (arith, shorter))
@@ -93,7 +93,7 @@ unique_message v m n a b fm fn e =
     let same = one_message m n a b fm.0 fn.0 e in
     (same, append_cancel_left (message_bytes n) a b (subst (λ (x : Message). message_bytes x ++ a ≡ message_bytes n ++ b) same e))
 
-unique_messages : (v : Version) → Unique (IsReadList v) list_bytes
+pub unique_messages : (v : Version) → Unique (IsReadList v) list_bytes
 unique_messages v = unique_counted w32 IsU32 unique_u32 (IsReadMessage v) message_bytes (unique_message v)
 
 -- the topology
@@ -108,7 +108,7 @@ module _ (bytes : List ℕ) (t : Topology) (rest : List ℕ) (front : IsAtFront 
   links_front : IsSection 65535 (AreReadLinks t.switches) link_bytes behind_switches t.links rest
   links_front = ((front.0.few_links, front.0.links), refl)
 
-  topology_stands : (left : ℕ) → TopologyFails bytes left → ⊥
+  pub topology_stands : (left : ℕ) → TopologyFails bytes left → ⊥
   topology_stands left fails =
       let links = only_after (CountedFails 256 AreReadSwitches switch_bytes) (IsSection 256 AreReadSwitches switch_bytes) (λ ss. CountedFails 65535 (AreReadLinks ss) link_bytes) bytes left t.switches behind_switches switches_front
       (section_stands IsReadSwitch switch_bytes unique_switch 256 (omega arith) AreReadSwitches (λ ss are. are.each) switches_closed bytes t.switches behind_switches left switches_front)
@@ -116,7 +116,7 @@ module _ (bytes : List ℕ) (t : Topology) (rest : List ℕ) (front : IsAtFront 
       fails in
       section_stands HasEnds link_bytes unique_link 65535 (omega arith) (AreReadLinks t.switches) (links_have_ends t.switches front.0.switches) (links_closed t.switches) behind_switches t.links rest left links_front links
 
-one_topology : (bytes : List ℕ) (t u : Topology) (rest more : List ℕ) → IsAtFront IsReadTopology topology_bytes bytes t rest → IsAtFront IsReadTopology topology_bytes bytes u more → (t ≡ u) × (rest ≡ more)
+pub one_topology : (bytes : List ℕ) (t u : Topology) (rest more : List ℕ) → IsAtFront IsReadTopology topology_bytes bytes t rest → IsAtFront IsReadTopology topology_bytes bytes u more → (t ≡ u) × (rest ≡ more)
 one_topology bytes t u rest more one other =
     let switches = one_section IsReadSwitch switch_bytes unique_switch 256 (omega arith) AreReadSwitches (λ zs are. are.each) bytes t.switches u.switches _ _ (switches_front bytes t rest one) (switches_front bytes u more other) in
     let links = unique_counted w16 IsU16 unique_u16 HasEnds link_bytes unique_link t.links u.links rest more (omega (arith, one.0.few_links), links_have_ends t.switches one.0.switches t.links one.0.links) (omega (arith, other.0.few_links), links_have_ends u.switches other.0.switches u.links other.0.links) switches.1 in
@@ -137,7 +137,7 @@ module _ (bytes : List ℕ) (r : Reporting) (rest : List ℕ) (front : IsAtFront
   rows_front : IsSection 4094 (AreReadRows (length r.0)) row_bytes behind_names r.1 rest
   rows_front = ((front.0.few_rows, front.0.rows), refl)
 
-  report_stands : (left : ℕ) → ReportFails bytes left → ⊥
+  pub report_stands : (left : ℕ) → ReportFails bytes left → ⊥
   report_stands left fails =
       let rows = only_after (CountedFails 256 AreReadNames name_bytes) (IsSection 256 AreReadNames name_bytes) (λ names. CountedFails 4094 (AreReadRows (length names)) row_bytes) bytes left r.0 behind_names names_front
       (section_stands IsName name_bytes unique_name 256 (omega arith) AreReadNames (λ names are. are.each) names_closed bytes r.0 behind_names left names_front)
@@ -145,7 +145,7 @@ module _ (bytes : List ℕ) (r : Reporting) (rest : List ℕ) (front : IsAtFront
       fails in
       section_stands HasPairs row_bytes unique_row 4094 (omega arith) (AreReadRows (length r.0)) (rows_have_pairs (length r.0) front.0.few_names) (rows_closed (length r.0)) behind_names r.1 rest left rows_front rows
 
-one_report : (bytes : List ℕ) (q r : Reporting) (rest more : List ℕ) → IsAtFront IsReadReport report_bytes bytes q rest → IsAtFront IsReadReport report_bytes bytes r more → (q ≡ r) × (rest ≡ more)
+pub one_report : (bytes : List ℕ) (q r : Reporting) (rest more : List ℕ) → IsAtFront IsReadReport report_bytes bytes q rest → IsAtFront IsReadReport report_bytes bytes r more → (q ≡ r) × (rest ≡ more)
 one_report bytes q r rest more one other =
     let names = one_section IsName name_bytes unique_name 256 (omega arith) AreReadNames (λ zs are. are.each) bytes q.0 r.0 _ _ (names_front bytes q rest one) (names_front bytes r more other) in
     let rows = unique_counted w16 IsU16 unique_u16 HasPairs row_bytes unique_row q.1 r.1 rest more (omega (arith, one.0.few_rows), rows_have_pairs (length q.0) one.0.few_names q.1 one.0.rows) (omega (arith, other.0.few_rows), rows_have_pairs (length r.0) other.0.few_names r.1 other.0.rows) names.1 in
@@ -156,7 +156,7 @@ one_report bytes q r rest more one other =
 
 -- the messages
 
-list_stands_at : (v : Version) (bytes : List ℕ) (ms : List Message) (rest : List ℕ) (left : ℕ) → IsAtFront (IsReadList v) list_bytes bytes ms rest → ListFailsAt v bytes left → ⊥
+pub list_stands_at : (v : Version) (bytes : List ℕ) (ms : List Message) (rest : List ℕ) (left : ℕ) → IsAtFront (IsReadList v) list_bytes bytes ms rest → ListFailsAt v bytes left → ⊥
 list_stands_at v bytes ms rest left front fails =
     let count : IsAtFront IsU32 (to_be_bytes w32) bytes (length ms) (flat_map message_bytes ms ++ rest) = (front.0.0, front.1 ∙ append_assoc (to_be_bytes w32 (length ms)) (flat_map message_bytes ms) rest) in
     let messages = only_after (UnitFails IsU32 (to_be_bytes w32)) (IsAtFront IsU32 (to_be_bytes w32)) (λ n. ListFails (All (IsReadMessage v)) message_bytes n) bytes left (length ms) (flat_map message_bytes ms ++ rest) count

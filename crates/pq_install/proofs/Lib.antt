@@ -26,3 +26,4 @@ pub mod Renamed
 pub mod OneSpelling
 pub mod Cuts
 pub mod CutUnits
+pub mod OneDamage

@@ -32,3 +32,13 @@ pub fn cut_installs_are_damaged()
     ensures old { (i : InstallValue) (n : ℕ) → IsLawfulInstall i → IsOldInstall i → n < length (install_bytes 0x31 i)
         → IsDamagedAt (take n (install_bytes 0x31 i)) (unit_start (install_units 0x31 i) n) }
 {}
+
+/// Bytes are damaged in one place at most. So an install that is cut short is damaged only at the first byte of the
+/// unit that has the first byte that is missing. It does nothing when it runs.
+pub fn bytes_are_damaged_in_one_place()
+    ensures one { (bytes : List ℕ) (at other : ℕ) → IsDamagedAt bytes at → IsDamagedAt bytes other → at ≡ other }
+    ensures cut_new { (i : InstallValue) (n at : ℕ) → IsLawfulInstall i → n < length (install_bytes 0x32 i)
+        → IsDamagedAt (take n (install_bytes 0x32 i)) at → at ≡ unit_start (install_units 0x32 i) n }
+    ensures cut_old { (i : InstallValue) (n at : ℕ) → IsLawfulInstall i → IsOldInstall i → n < length (install_bytes 0x31 i)
+        → IsDamagedAt (take n (install_bytes 0x31 i)) at → at ≡ unit_start (install_units 0x31 i) n }
+{}

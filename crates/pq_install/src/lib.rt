@@ -16,8 +16,8 @@ mod write;
 pub use fault::InstallFault;
 pub use install::{Install, ReportRow};
 pub use laws::{
-    bytes_begin_with_one_install, cut_installs_are_damaged, damaged_bytes_begin_with_no_install,
-    no_spelling_begins_another,
+    bytes_are_damaged_in_one_place, bytes_begin_with_one_install, cut_installs_are_damaged,
+    damaged_bytes_begin_with_no_install, no_spelling_begins_another,
 };
 pub use read::whole::read_install;
 pub use write::write_install;
