@@ -1,3 +1,4 @@
 pub mod Order
 pub mod Packet
+pub mod Pred
 pub mod Stored

@@ -5,14 +5,18 @@ mod field;
 mod label;
 mod order;
 mod packet;
+mod pred;
 mod presence;
+mod truth;
 mod widths;
 
 pub use field::Field;
 pub use label::Label;
 pub use order::packets_are_ordered_by_numbers;
 pub use packet::{Packet, fits};
+pub use pred::Pred;
 pub use presence::has;
+pub use truth::holds;
 pub use widths::width;
 
 #[cfg(test)]

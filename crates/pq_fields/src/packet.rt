@@ -94,7 +94,7 @@ impl Packet {
     }
 
     /// A field's number, whatever its width.
-    fn number(&self, field: Field) -> u128
+    pub(crate) fn number(&self, field: Field) -> u128
         ensures { result ≡ number_in field self.now }
     {
         match field {

@@ -1,0 +1,100 @@
+-- Predicates on packets.
+use Rattle.std.specs.Prelude.{ℕ, ◌-◌, ◌/◌, ◌^◌, ◌<◌, ◌≤◌, ◌≡◌, ◌≢◌, Bool, true, false, not, List, [], ◌∷◌, map, ◌==◌, ◌&&◌, nat_lt}
+use Rattle.std.specs.List.{list_all, list_any}
+use Rattle.pq_fields.specs.declared.field.Field.{Field}
+use Rattle.pq_fields.specs.declared.pred.Pred.{Pred}
+use Rattle.pq_fields.specs.declared.pred.Pred.TheOpen.{Pred-F}
+use Rattle.pq_fields.specs.declared.pred.Pred.TheFolds.{fold-Pred}
+use Rattle.pq_fields.specs.Packet.{Numbers, has_field, number_in, width_of, is_wide, rank}
+
+-- what stands at the top of a predicate
+pub data PredTop : Type 0 where
+  Always : PredTop
+  Never : PredTop
+  Equals : Field → ℕ → PredTop
+  Leads : Field → ℕ → ℕ → PredTop
+  LeadsWide : Field → ℕ → ℕ → PredTop
+  Every : PredTop
+  Some : PredTop
+  Negated : PredTop
+
+-- predicates as plain data: the top of the first, its operands, and the predicates after it
+pub data Preds : Type 0 where
+  none : Preds
+  put : PredTop → Preds → Preds → Preds
+
+-- a predicate as plain data
+pub record PredTree : Type 0 where
+  pub top : PredTop
+  pub below : Preds
+
+-- predicates one after another
+abbrev pub preds : List PredTree → Preds
+preds [] = none
+preds (p ∷ ps) = put p.top p.below (preds ps)
+
+abbrev pub leaf : PredTop → PredTree
+leaf top = record { top = top; below = none }
+
+abbrev pub pred_step : Pred-F PredTree → PredTree
+pred_step Pred-F.True = leaf Always
+pred_step Pred-F.False = leaf Never
+pred_step (Pred-F.Equal f n) = leaf (Equals f n)
+pred_step (Pred-F.Prefix f n len) = leaf (Leads f n len)
+pred_step (Pred-F.Wide f n len) = leaf (LeadsWide f n len)
+pred_step (Pred-F.And ps) = record { top = Every; below = preds ps.items }
+pred_step (Pred-F.Or ps) = record { top = Some; below = preds ps.items }
+pred_step (Pred-F.Not p) = record { top = Negated; below = preds (p.value ∷ []) }
+
+-- a predicate as plain data
+abbrev pub pred_tree : Pred → PredTree
+pred_tree = fold-Pred PredTree pred_step
+
+abbrev pub pred_trees : List Pred → Preds
+pred_trees ps = preds (map pred_tree ps)
+
+-- the leading bits of a number of the field, so many
+abbrev pub leading : Field → ℕ → ℕ → ℕ
+leading f len n = n / 2 ^ (width_of f - len)
+
+-- whether what stands at the top holds of the packet, given whether the operands do
+abbrev pub is_true : PredTop → List Bool → Numbers → Bool
+is_true Always bs x = true
+is_true Never bs x = false
+is_true (Equals f n) bs x = has_field f x && (number_in f x == n)
+is_true (Leads f n len) bs x = has_field f x && (leading f len (number_in f x) == leading f len n)
+is_true (LeadsWide f n len) bs x = has_field f x && (leading f len (number_in f x) == leading f len n)
+is_true Every bs x = list_all (λ b. b) bs
+is_true Some bs x = list_any (λ b. b) bs
+is_true Negated bs x = not (list_any (λ b. b) bs)
+
+-- whether each of the predicates holds of the packet
+abbrev pub truths : Preds → Numbers → List Bool
+truths none x = []
+truths (put top below rest) x = is_true top (truths below x) x ∷ truths rest x
+
+-- whether the predicate holds of the packet
+abbrev pub holds : PredTree → Numbers → Bool
+holds p x = is_true p.top (truths p.below x) x
+
+-- the field is an IPv4 address
+abbrev pub is_prefixed : Field → Bool
+is_prefixed f = nat_lt 5 (rank f) && nat_lt (rank f) 8
+
+-- each number fits the width of its field, prefixes are of addresses and no longer than they, and no list of operands is empty
+abbrev pub IsLawfulTop : PredTop → Preds → Type 0
+IsLawfulTop Always below = Unit {0}
+IsLawfulTop Never below = Unit {0}
+IsLawfulTop (Equals f n) below = (is_wide f ≡ false) × (n < 2 ^ width_of f)
+IsLawfulTop (Leads f n len) below = (is_prefixed f ≡ true) × (n < 2 ^ 32) × (len ≤ 32)
+IsLawfulTop (LeadsWide f n len) below = (is_wide f ≡ true) × (n < 2 ^ 128) × (len ≤ 128)
+IsLawfulTop Every below = below ≢ none
+IsLawfulTop Some below = below ≢ none
+IsLawfulTop Negated below = below ≢ none
+
+abbrev pub AreLawful : Preds → Type 0
+AreLawful none = Unit {0}
+AreLawful (put top below rest) = IsLawfulTop top below × AreLawful below × AreLawful rest
+
+abbrev pub IsLawfulPred : PredTree → Type 0
+IsLawfulPred p = AreLawful (preds (p ∷ []))
