@@ -1,3 +1,4 @@
+pub mod Names
 pub mod Order
 pub mod Packet
 pub mod Pred

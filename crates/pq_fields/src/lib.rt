@@ -3,6 +3,7 @@
 
 mod field;
 mod label;
+mod names;
 mod order;
 mod packet;
 mod pred;
@@ -12,6 +13,7 @@ mod widths;
 
 pub use field::Field;
 pub use label::Label;
+pub use names::{field_name, field_named};
 pub use order::packets_are_ordered_by_numbers;
 pub use packet::{Packet, fits};
 pub use pred::Pred;

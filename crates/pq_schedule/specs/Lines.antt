@@ -10,7 +10,8 @@ use Rattle.pq_model.specs.declared.event.Event.{Event}
 use Rattle.pq_model.specs.declared.event.Event.TheVariants.{Inject, Hop, Lose}
 use Rattle.pq_schedule.specs.declared.key.Key.{Key}
 use Rattle.pq_schedule.specs.declared.key.Key.TheVariants.{Vlan, Header}
-use Rattle.pq_schedule.specs.Values.{field_name, field_number}
+use Rattle.pq_fields.specs.Names.{field_name}
+use Rattle.pq_schedule.specs.Values.{field_number}
 
 -- the words of a line: what stands between spaces
 abbrev pub words_of : List ℕ → List (List ℕ)

@@ -7,7 +7,8 @@ use Rattle.pq_fields.specs.Packet.{Numbers, has_field, number_in}
 use Rattle.pq_model.specs.Tagged.{TaggedPacket}
 use Rattle.pq_model.specs.Buckets.{BucketEntry}
 use Rattle.pq_model.specs.TablesMachine.{TablesState}
-use Rattle.pq_schedule.specs.Values.{field_name, form_of, text_in}
+use Rattle.pq_fields.specs.Names.{field_name}
+use Rattle.pq_schedule.specs.Values.{form_of, text_in}
 
 -- the fourteen fields, in field order
 abbrev pub fields : List Field

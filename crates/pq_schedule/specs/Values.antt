@@ -1,4 +1,4 @@
--- The names of fields, and how their numbers are written: in schedules, and of packets that are printed.
+-- How the numbers of fields are written: in schedules, and of packets that are printed.
 use Rattle.std.specs.Prelude.{ℕ, ◌-◌, ◌/◌, ◌%◌, ◌^◌, Bool, false, not, ◌&&◌, ◌||◌, if◌then◌else◌, List, [], ◌∷◌, map, length, ◌==◌, codes, decimal, Option, None}
 use Rattle.std.specs.Fmt.{digits, digit_glyph}
 use Rattle.std.specs.Char.{is_ascii_uppercase}
@@ -17,23 +17,6 @@ pub data Form : Type 0 where
   Mac : Form
   Ipv4 : Form
   Ipv6 : Form
-
--- the name of a field
-abbrev pub field_name : Field → List ℕ
-field_name Switch = codes "switch"
-field_name Port = codes "port"
-field_name EthType = codes "eth_type"
-field_name IpProto = codes "ip_proto"
-field_name EthSrc = codes "eth_src"
-field_name EthDst = codes "eth_dst"
-field_name Ipv4Src = codes "ipv4_src"
-field_name Ipv4Dst = codes "ipv4_dst"
-field_name TcpSrc = codes "tcp_src"
-field_name TcpDst = codes "tcp_dst"
-field_name UdpSrc = codes "udp_src"
-field_name UdpDst = codes "udp_dst"
-field_name Ipv6Src = codes "ipv6_src"
-field_name Ipv6Dst = codes "ipv6_dst"
 
 -- how a field's numbers are written
 abbrev pub form_of : Field → Form

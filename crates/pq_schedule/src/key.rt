@@ -3,8 +3,7 @@ ghost use Rattle.std.specs.Prelude.{◌≡◌, ◌<◌, bytes_eq, find};
 ghost use Rattle.pq_fields.specs.Packet.{rank};
 ghost use Rattle.pq_schedule.specs.Lines.{key_name, key_named, place_of};
 
-use crate::names::field_name;
-use pq_fields::Field;
+use pq_fields::{Field, field_name};
 
 /// What a number is stated for, besides the packet's switch and its port.
 #[derive(Clone, Copy, Debug, PartialEq, Eq)]

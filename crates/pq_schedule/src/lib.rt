@@ -4,7 +4,6 @@
 mod event_line;
 mod injection;
 mod key;
-mod names;
 mod numbers;
 mod packet_text;
 mod schedule;

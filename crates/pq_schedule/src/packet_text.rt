@@ -5,9 +5,8 @@ ghost use Rattle.pq_fields.specs.Packet.{has_field, number_in};
 ghost use Rattle.pq_schedule.specs.States.{field_text, packet_text};
 ghost use Rattle.pq_schedule.specs.Values.{form_of, text_in};
 
-use crate::names::field_name;
 use crate::numbers::{write_decimal, write_ipv4, write_ipv6, write_mac};
-use pq_fields::{Field, Packet, has};
+use pq_fields::{Field, Packet, field_name, has};
 use std::alloc::AllocError;
 
 /// The fields behind the first, in field order.
