@@ -72,7 +72,7 @@ fn class_in(table: &[(&[u8], Class)], other: Class, text: &[u8]) -> Class
 }
 
 /// The class of a token of the kind with this text.
-fn class_of_text(kind: Kind, text: &[u8]) -> Class
+pub fn class_of_text(kind: Kind, text: &[u8]) -> Class
     ensures { result ≡ class_of_text kind text.now }
 {
     match kind {

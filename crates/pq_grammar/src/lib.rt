@@ -14,7 +14,7 @@ mod symbol;
 mod tables;
 
 pub use class::Class;
-pub use classes::{class_of, lexemes_of};
+pub use classes::{class_of, class_of_text, lexemes_of};
 pub use fault::SentenceFault;
 pub use grammar::alternatives;
 pub use laws::{has_one_fault, has_one_tree};
