@@ -1,5 +1,5 @@
 -- What the parser looks at, sort by sort.
-use Rattle.std.specs.Prelude.{ℕ, Bool, true, false, List, [], ◌∷◌}
+use Rattle.std.specs.Prelude.{ℕ, Bool, true, false, List, [], ◌∷◌, ◌==◌}
 use Rattle.pq_grammar.specs.declared.class.Class.{Class}
 use Rattle.pq_grammar.specs.declared.class.Class.TheVariants.{SwitchWord, PortsWord, LimitWord, LinkWord, PartWord, QueryWord, RemoveWord, TrueWord, FalseWord, NotWord, AndWord, OrWord, FilterWord, ModWord, FwdWord, FloodWord, DropWord, IdentityWord, IfWord, OfWord, InAtom, OutAtom, InOutAtom, InGroup, OutGroup, InOutGroup, EndAtom, Name, Number, Mac, Ipv4, Ipv4Prefix, Ipv6, Equals, Semicolon, Comma, Left, Right, LeftBracket, RightBracket, Plus, Then, Caret, Bar, Ampersand, Tilde, Star}
 use Rattle.pq_grammar.specs.declared.sort.Sort.{Sort}
@@ -54,6 +54,10 @@ number Bar = 43
 number Ampersand = 44
 number Tilde = 45
 number Star = 46
+
+-- the classes are one: they have one number
+abbrev pub is_class : Class → Class → Bool
+is_class a b = number a == number b
 
 -- whether a phrase of the sort may have no token
 abbrev pub may_be_empty : Sort → Bool

@@ -4,18 +4,11 @@ ghost use Rattle.std.specs.Option.{option_map};
 ghost use Rattle.pq_grammar.specs.Tables.{number};
 ghost use Rattle.pq_grammar.specs.Ahead.{ahead, has, follows, may_begin, is_open, chosen};
 
-use crate::class::Class;
+use crate::class::{Class, is_class};
 use crate::grammar::alternatives;
 use crate::sort::Sort;
 use crate::symbol::Symbol;
 use crate::tables::{first, follow, may_be_empty};
-
-/// Whether the two classes are one.
-pub(crate) fn is_class(class: Class, other: Class) -> bool
-    ensures { MatchBool result (class ≡ other) (class ≡ other → ⊥) }
-{
-    class == other
-}
 
 /// Whether the next token is of the class.
 #[tactic(auto, using(crate::proofs::Numbers::class_numbers, crate::proofs::Numbers::no_class))]

@@ -1,4 +1,6 @@
 //! Classes of tokens.
+ghost use Rattle.std.specs.Prelude.{◌≡◌, MatchBool};
+ghost use Rattle.pq_grammar.specs.Tables.{is_class};
 
 /// What the grammar tells of a token: which reserved word or symbol it is, or else its kind.
 #[derive(Clone, Copy, Debug, PartialEq, Eq)]
@@ -97,4 +99,12 @@ pub enum Class {
     Tilde,
     /// `*`
     Star,
+}
+
+/// Whether the two classes are one.
+pub fn is_class(class: Class, other: Class) -> bool
+    ensures same { MatchBool result (class ≡ other) (class ≡ other → ⊥) }
+    ensures number { result ≡ is_class class other }
+{
+    class == other
 }

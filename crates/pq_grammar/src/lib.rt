@@ -13,7 +13,7 @@ mod sort;
 mod symbol;
 mod tables;
 
-pub use class::Class;
+pub use class::{Class, is_class};
 pub use classes::{class_of, class_of_text, lexemes_of};
 pub use fault::SentenceFault;
 pub use grammar::alternatives;

@@ -4,7 +4,8 @@ ghost use Rattle.pq_grammar.specs.Sentences.{IsSentence, IsCause};
 ghost use Rattle.pq_grammar.specs.Ahead.{next_class, pending};
 ghost use Rattle.pq_grammar.specs.Reading.{IsAt, HasPassed, IsExpected, IsComing};
 
-use crate::ahead::{chosen, is_class};
+use crate::ahead::chosen;
+use crate::class::is_class;
 use crate::class::Class;
 use crate::fault::SentenceFault;
 use crate::mark::{Lexeme, Mark};

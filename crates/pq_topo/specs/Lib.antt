@@ -1,2 +1,4 @@
 pub mod Named
+pub mod Naming
+pub mod Statements
 pub mod Stored

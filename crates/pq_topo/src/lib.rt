@@ -1,10 +1,12 @@
 //! The network that a document describes: its switches, their ports and the links between them.
 #![tactic(auto)]
 
+mod fault;
 mod link;
 mod switch;
 mod topology;
 
+pub use fault::{NameFault, NameKind};
 pub use link::Link;
 pub use switch::Switch;
 pub use topology::Topology;

@@ -9,7 +9,7 @@ returns-in_default-clause-err c = let (s, at, expects) = c.requires in refuses_e
 
 -- a token of another class comes
 pub returns-then-not-is_class-clause-err : goal.returns-then-not-is_class-clause-err
-returns-then-not-is_class-clause-err c = let (s, at, expects) = c.requires in refuses_class _ _ _ _ s _ _ _ c.in-Some.lexeme.now at expects (got _ _ c.in-Some.lexeme c.in-Some.ensures.lookup).1 c.if-not-is_class.ensures
+returns-then-not-is_class-clause-err c = let (s, at, expects) = c.requires in refuses_class _ _ _ _ s _ _ _ c.in-Some.lexeme.now at expects (got _ _ c.in-Some.lexeme c.in-Some.ensures.lookup).1 c.if-not-is_class.ensures.same
 
 -- one comes that opens too deep a bracket
 pub returns-then-expected-gt-MOST_OPEN-clause-err : goal.returns-then-expected-gt-MOST_OPEN-clause-err
@@ -21,4 +21,4 @@ returns-clause-place c =
     let (s, at, expects) = c.requires in
     let next = got _ _ c.in-Some.lexeme c.in-Some.ensures.lookup in
     let pushed = chosen _ _ _ _ c.push.ensures.items (sym c.map_err.ensures.variant ∙ ap is_ok c.in_ok-map_err.was) in
-    read_place _ _ _ _ _ s _ _ _ c.in-Some.lexeme.now at expects next.0 next.1 c.if-not-is_class.ensures c.if-expected-gt-MOST_OPEN.false pushed
+    read_place _ _ _ _ _ s _ _ _ c.in-Some.lexeme.now at expects next.0 next.1 c.if-not-is_class.ensures.same c.if-expected-gt-MOST_OPEN.false pushed

@@ -1,0 +1,128 @@
+-- The topology that a document's statements describe.
+use Rattle.std.specs.Prelude.{ℕ, ◌+◌, Bool, not, ◌&&◌, if◌then◌else◌, List, [], ◌∷◌, ◌++◌, length, ◌==◌, nat_le, bytes_eq, Option, Some, None, Ok}
+use Rattle.std.specs.List.{list_any}
+use Rattle.std.specs.Option.{unwrap_or}
+use Rattle.pq_term.specs.declared.token.Token.{Token}
+use Rattle.pq_term.specs.Numbers.{number_of}
+use Rattle.pq_grammar.specs.declared.class.Class.{Class}
+use Rattle.pq_grammar.specs.declared.class.Class.TheVariants.{SwitchWord, LinkWord}
+use Rattle.pq_grammar.specs.Tables.{is_class}
+use Rattle.pq_tree.specs.Trees.{Forest, nothing, grown}
+use Rattle.pq_tree.specs.Texts.{text_in, class_in_text}
+use Rattle.pq_fields.specs.Packet.{is_before}
+use Rattle.pq_model.specs.Sorting.{sort_by}
+use Rattle.pq_model.specs.Topology.{Switch, Link, Topology, is_port, named_in, is_end}
+use Rattle.pq_model.specs.Install.{port_count, end_numbers, link_numbers, ends_of}
+use Rattle.pq_topo.specs.declared.fault.NameKind.TheVariants.{Many, Doubled, BadValue, UnknownSwitch, UnknownPort}
+use Rattle.pq_topo.specs.Naming.{Reading, faulty, unless, next}
+
+-- the number that a token spells, and 0 where it spells none
+abbrev pub number_in : List ℕ → Token → ℕ
+number_in bytes t = unwrap_or (number_of (text_in bytes t)) 0
+
+-- a number that a port may have
+abbrev pub may_be_port : ℕ → Bool
+may_be_port n = nat_le 1 n && nat_le n 4294967040
+
+-- Switches.
+
+-- ports of a switch, after those of earlier switches, so many, and after earlier ones of its own
+abbrev pub port_of : List ℕ → ℕ → List ℕ → Token → Reading ℕ
+port_of bytes before ports t =
+    let n = number_in bytes t in
+    unless t ((not (may_be_port n), BadValue) ∷ (list_any (λ p. p == n) ports, Doubled) ∷ (nat_le 4096 (before + length ports), Many) ∷ []) n
+
+-- the ports of a list, in text order
+abbrev pub ports_after : List ℕ → ℕ → List ℕ → Forest → Reading (List ℕ)
+ports_after bytes before ports nothing = Ok ports
+ports_after bytes before ports (grown head below rest) = next (port_of bytes before ports head) (λ n. ports_after bytes before (ports ++ n ∷ []) rest)
+
+-- the limit that is stated, and 2000 where none is
+abbrev pub limit_in : List ℕ → Forest → Reading ℕ
+limit_in bytes nothing = Ok 2000
+limit_in bytes (grown head nothing rest) = Ok 2000
+limit_in bytes (grown head (grown t below more) rest) =
+    let n = number_in bytes t in
+    unless t ((not (nat_le 1 n && nat_le n 16384), BadValue) ∷ []) n
+
+-- the name of a switch, which no earlier one has
+abbrev pub name_of : List ℕ → List Switch → Token → Reading (List ℕ)
+name_of bytes earlier t =
+    let name = text_in bytes t in
+    unless t ((list_any (λ s. bytes_eq s.name name) earlier, Doubled) ∷ []) name
+
+-- the datapath number of a switch, which no earlier one has
+abbrev pub datapath_of : List ℕ → List Switch → Token → Reading ℕ
+datapath_of bytes earlier t =
+    let n = number_in bytes t in
+    unless t ((list_any (λ s. s.datapath == n) earlier, Doubled) ∷ []) n
+
+-- a switch with these ports, in ascending order
+abbrev pub switch_with : List ℕ → ℕ → List ℕ → ℕ → Switch
+switch_with name datapath ports limit = record { name = name; datapath = datapath; ports = sort_by (λ p. p ∷ []) ports; limit = limit }
+
+-- the switch of a statement, after earlier ones: its name, its datapath number, its ports and its limit; what has other parts is no statement of a sentence
+abbrev pub switch_of : List ℕ → List Switch → Token → Forest → Reading Switch
+switch_of bytes earlier keyword (grown name x (grown datapath y (grown list (grown port z ports) rest))) =
+    next (unless keyword ((nat_le 256 (length earlier), Many) ∷ []) keyword) (λ _.
+    next (name_of bytes earlier name) (λ name.
+    next (datapath_of bytes earlier datapath) (λ datapath.
+    next (ports_after bytes (port_count earlier) [] (grown port z ports)) (λ ports.
+    next (limit_in bytes rest) (λ limit. Ok (switch_with name datapath ports limit))))))
+switch_of bytes earlier keyword _ = faulty keyword BadValue
+
+-- the statement begins with this keyword
+abbrev pub begins_with : List ℕ → Class → Token → Bool
+begins_with bytes class head = is_class (class_in_text bytes head) class
+
+-- the switches of the statements, in text order, after earlier ones
+abbrev pub switches_after : List ℕ → List Switch → Forest → Reading (List Switch)
+switches_after bytes earlier nothing = Ok earlier
+switches_after bytes earlier (grown head below rest) =
+    if begins_with bytes SwitchWord head then next (switch_of bytes earlier head below) (λ s. switches_after bytes (earlier ++ s ∷ []) rest)
+    else switches_after bytes earlier rest
+
+-- the switches of the statements, by their datapath numbers
+abbrev pub by_datapath : List Switch → List Switch
+by_datapath switches = sort_by (λ s. s.datapath ∷ []) switches
+
+-- Links.
+
+-- the datapath number of the switch that has the name
+abbrev pub switch_at : List ℕ → List Switch → Token → Reading ℕ
+switch_at bytes switches t = by (named_in switches (text_in bytes t)) where
+  by : Option ℕ → Reading ℕ
+  by (Some datapath) = Ok datapath
+  by None = faulty t UnknownSwitch
+
+-- an end of a link at a switch, which is among no earlier ones
+abbrev pub end_of : List ℕ → List Switch → List (ℕ × ℕ) → Token → Token → Reading (ℕ × ℕ)
+end_of bytes switches ends name port =
+    next (switch_at bytes switches name) (λ d.
+    let n = number_in bytes port in
+    unless port ((not (is_port (record { switches = switches; links = [] }) d n), UnknownPort) ∷ (list_any (λ e. is_end e d n) ends, Doubled) ∷ []) (d, n))
+
+-- the link between two ends, the smaller one first
+abbrev pub link_between : ℕ × ℕ → ℕ × ℕ → Link
+link_between d e = if is_before (end_numbers e) (end_numbers d) then record { first = e; second = d } else record { first = d; second = e }
+
+-- the link of a statement, after earlier ones
+abbrev pub link_of : List ℕ → List Switch → List Link → Token → Forest → Reading Link
+link_of bytes switches earlier keyword (grown name x (grown port y (grown other z (grown peer w rest)))) =
+    next (end_of bytes switches (ends_of earlier) name port) (λ d.
+    next (end_of bytes switches (ends_of earlier ++ d ∷ []) other peer) (λ e. Ok (link_between d e)))
+link_of bytes switches earlier keyword _ = faulty keyword BadValue
+
+-- the links of the statements, in text order, after earlier ones
+abbrev pub links_after : List ℕ → List Switch → List Link → Forest → Reading (List Link)
+links_after bytes switches earlier nothing = Ok earlier
+links_after bytes switches earlier (grown head below rest) =
+    if begins_with bytes LinkWord head then next (link_of bytes switches earlier head below) (λ l. links_after bytes switches (earlier ++ l ∷ []) rest)
+    else links_after bytes switches earlier rest
+
+-- the topology of the statements: its switches by datapath number, and its links in ascending order
+abbrev pub topology_of : List ℕ → Forest → Reading Topology
+topology_of bytes statements =
+    next (switches_after bytes [] statements) (λ switches.
+    next (links_after bytes (by_datapath switches) [] statements) (λ links.
+    Ok (record { switches = by_datapath switches; links = sort_by link_numbers links })))
