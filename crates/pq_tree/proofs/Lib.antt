@@ -1,1 +1,4 @@
 pub mod Folds
+pub mod Closing
+pub mod OneReading
+pub mod OneEdit
