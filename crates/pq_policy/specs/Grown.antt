@@ -19,13 +19,8 @@ at_port p x = record x { port = p }
 abbrev pub with_other_port : ℕ → Numbers → List Numbers → List Numbers
 with_other_port p x ys = if p == x.port then ys else with_packet (at_port p x) ys
 
--- the set with the packet at each of these ports but its own
-abbrev pub with_ports : List ℕ → Numbers → List Numbers → List Numbers
-with_ports [] x ys = ys
-with_ports (p ∷ ps) x ys = with_ports ps x (with_other_port p x ys)
-
--- the set grown for each of the packets in turn
-abbrev pub on_each : (Numbers → List Numbers → List Numbers) → List Numbers → List Numbers → List Numbers
+-- the set grown for each of the list in turn
+abbrev pub on_each : {X : Type 0} → (X → List Numbers → List Numbers) → List X → List Numbers → List Numbers
 on_each grow [] ys = ys
 on_each grow (x ∷ xs) ys = on_each grow xs (grow x ys)
 
@@ -33,7 +28,7 @@ on_each grow (x ∷ xs) ys = on_each grow xs (grow x ys)
 abbrev pub grown_by : Topology → PolicyTop → (Joint → Numbers → List Numbers → List Numbers) → Numbers → List Numbers → List Numbers
 grown_by t Pass grow x ys = with_packet x ys
 grown_by t Discard grow x ys = ys
-grown_by t Spread grow x ys = with_ports (ports_of t x.switch) x ys
+grown_by t Spread grow x ys = on_each (λ p. with_other_port p x) (ports_of t x.switch) ys
 grown_by t (Only p) grow x ys = if holds p x then with_packet x ys else ys
 grown_by t (Write f n) grow x ys = with_packet (written f n x) ys
 grown_by t (Forward n) grow x ys = with_packet (at_port n x) ys

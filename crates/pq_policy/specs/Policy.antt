@@ -100,10 +100,10 @@ abbrev pub IsInPacketOrder : List Numbers → Type 0
 IsInPacketOrder [] = Unit {0}
 IsInPacketOrder (x ∷ xs) = All (λ y. is_before (numbers x) (numbers y) ≡ true) xs × IsInPacketOrder xs
 
--- the list of the packets that a policy yields on x, each once, in packet order
-pub record IsListOfYields (t : Topology) (p : PolicyTree) (x : Numbers) (ys : List Numbers) : Type 0 where
+-- the list of the packets of P, each once, in packet order
+pub record IsListOf (P : Numbers → Type 0) (ys : List Numbers) : Type 0 where
   pub ordered : IsInPacketOrder ys
-  pub exact : (y : Numbers) → Contains ys y ↔ yields t p x y
+  pub exact : (y : Numbers) → Contains ys y ↔ P y
 
 -- a policy may write the field: it is an address of 32 or 48 bits or a port of TCP or UDP
 abbrev pub is_writable : Field → Bool

@@ -4,22 +4,37 @@ ghost use Rattle.pq_fields.specs.Packet.{has_field, width_of, with_number};
 ghost use Rattle.pq_fields.specs.Pred.{holds, pred_tree};
 ghost use Rattle.pq_policy.specs.Grown.{grown, grown_together, on_each, with_packet};
 ghost use Rattle.pq_policy.specs.Policy.{
-  AnyOne, AreLawfulPolicies, Chained, IsLawfulPolicy, IsListOfYields, is_writable, policy_tree, policy_trees, written,
+  AnyOne,
+  AreLawfulPolicies,
+  Chained,
+  IsLawfulPolicy,
+  IsListOf,
+  is_writable,
+  policy_tree,
+  policy_trees,
+  written,
+  yields,
 };
 
 use crate::policy::Policy;
 use crate::sets::{at_port, listed, put, put_at_others, put_each};
-use pq_fields::{Field, Packet, Pred, has, holds};
+use pq_fields::{Field, Packet, Pred, has, holds, packets_are_ordered_by_numbers};
 use pq_topo::Topology;
 use std::alloc::{AllocError, Global};
 use std::collections::BTreeSet;
 
 /// The packets that the policy gives on the packet, each once, in packet order; it fails only where there is no memory
 /// for them.
-pub fn apply_plain(alloc: Global, policy: &Policy, topology: &Topology, x: &Packet) -> Result<Vec<Packet>, AllocError>
+pub fn apply_plain(
+    alloc: Global,
+    policy: &Policy,
+    topology: &Topology,
+    x: &Packet,
+) -> Result<Vec<Packet>, AllocError>
     requires { IsLawfulPolicy (policy_tree policy.now) }
-    ensures { IfOk result (λ ys. IsListOfYields topology.now (policy_tree policy.now) x.now ys.items) }
+    ensures { IfOk result (λ ys. IsListOf (yields topology.now (policy_tree policy.now) x.now) ys.items) }
 {
+    packets_are_ordered_by_numbers();
     let mut given = BTreeSet::new(alloc);
     add(alloc, policy, topology, x, &mut given)?;
     listed(alloc, given)
@@ -94,7 +109,12 @@ fn add_chained(
 
 /// What the policy gives on any of the packets, each once, in packet order.
 #[cycle(apply)]
-fn next(alloc: Global, policy: &Policy, topology: &Topology, xs: &[Packet]) -> Result<Vec<Packet>, AllocError>
+fn next(
+    alloc: Global,
+    policy: &Policy,
+    topology: &Topology,
+    xs: &[Packet],
+) -> Result<Vec<Packet>, AllocError>
     requires { IsLawfulPolicy (policy_tree policy.now) }
     ensures { IfOk result (λ ys. ys.items ≡ on_each (grown topology.now (policy_tree policy.now)) xs.now []) }
 {

@@ -2,7 +2,7 @@
 ghost use Rattle.std.specs.Prelude.{◌≡◌, ◌≤◌, IfOk, OnOk};
 ghost use Rattle.std.specs.List.Sorted.{IsStrictlySortedBy};
 ghost use Rattle.pq_fields.specs.Order.{packet_cmp};
-ghost use Rattle.pq_policy.specs.Grown.{at_port, on_each, with_other_port, with_packet, with_ports};
+ghost use Rattle.pq_policy.specs.Grown.{at_port, on_each, with_other_port, with_packet};
 
 use pq_fields::{Field, Packet};
 use std::alloc::{AllocError, Global};
@@ -29,8 +29,12 @@ pub(crate) fn put_each(xs: &[Packet], into: &mut BTreeSet<Packet>) -> Result<(),
 }
 
 /// Puts the packet at each of these ports but its own into the set.
-pub(crate) fn put_at_others(ports: &[u32], x: &Packet, into: &mut BTreeSet<Packet>) -> Result<(), AllocError>
-    ensures { OnOk result (into.new.keys ≡ with_ports ports.now x.now into.old.keys) }
+pub(crate) fn put_at_others(
+    ports: &[u32],
+    x: &Packet,
+    into: &mut BTreeSet<Packet>,
+) -> Result<(), AllocError>
+    ensures { OnOk result (into.new.keys ≡ on_each (λ p. with_other_port p x.now) ports.now into.old.keys) }
 {
     for port in ports {
         put_at_other(*port, x, into)?;
@@ -58,7 +62,7 @@ pub(crate) fn at_port(port: u32, x: Packet) -> Packet
 /// The packets of the set, in packet order.
 pub(crate) fn listed(alloc: Global, set: BTreeSet<Packet>) -> Result<Vec<Packet>, AllocError>
     ensures packets { IfOk result (λ xs. xs.items ≡ set.keys) }
-    ensures ordered { IfOk result (λ xs. IsStrictlySortedBy packet_cmp xs.items) }
+    ensures ordered { IsStrictlySortedBy packet_cmp set.keys }
 {
     let mut xs = Vec::with_capacity(alloc, set.len())?;
     for x in set {
