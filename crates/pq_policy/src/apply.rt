@@ -23,8 +23,8 @@ use pq_topo::Topology;
 use std::alloc::{AllocError, Global};
 use std::collections::BTreeSet;
 
-/// The packets that the policy gives on the packet, each once, in packet order; it fails only where there is no memory
-/// for them.
+/// The packets that a lawful policy gives on the packet, each once, in packet order; it fails only where there is no
+/// memory for them.
 pub fn apply_plain(
     alloc: Global,
     policy: &Policy,

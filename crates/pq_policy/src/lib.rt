@@ -7,3 +7,6 @@ mod sets;
 
 pub use apply::apply_plain;
 pub use policy::Policy;
+
+#[cfg(test)]
+mod tests;
