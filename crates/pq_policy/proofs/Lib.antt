@@ -1,0 +1,3 @@
+mod Exact
+mod Members
+mod Yielded
