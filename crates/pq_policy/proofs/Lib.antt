@@ -1,3 +1,4 @@
 mod Exact
 mod Members
 mod Yielded
+pub mod Choices

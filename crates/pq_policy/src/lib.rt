@@ -3,10 +3,13 @@
 
 mod apply;
 mod policy;
+mod resolve;
 mod sets;
+mod writes;
 
 pub use apply::apply_plain;
 pub use policy::Policy;
+pub use resolve::resolve_policy;
 
 #[cfg(test)]
 mod tests;

@@ -6,4 +6,4 @@ mod tests_of_fields;
 mod values;
 
 pub use predicates::resolve_pred;
-pub use values::{field_at, value_of};
+pub use values::{faulty, field_at, port_value, value_of};

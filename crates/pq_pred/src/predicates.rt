@@ -6,7 +6,7 @@ ghost use Rattle.pq_topo.specs.Naming.{IsAnswer, gathered};
 ghost use Rattle.pq_pred.specs.Predicates.{joined, negation, pred_of, pred_readings, test_at, test_below};
 
 use crate::tests_of_fields::test_of;
-use crate::values::field_at;
+use crate::values::{faulty, field_at};
 use pq_fields::Pred;
 use pq_grammar::{Class, is_class};
 use pq_term::Token;
@@ -67,25 +67,15 @@ fn resolve_all(
     Ok(found)
 }
 
-/// A token that is faulty as no token of a sentence is.
-fn misplaced(head: &Token) -> NameFault
-    ensures { result ≡ NameFault.Name head.now.at NameKind.BadValue }
-{
-    NameFault::Name {
-        at: head.at,
-        kind: NameKind::BadValue,
-    }
-}
-
 /// The negation of the one operand.
 fn negation(alloc: Global, head: &Token, mut operands: Vec<Pred>) -> Result<Pred, NameFault>
     ensures { IsAnswer pred_tree result (negation head.now (map pred_tree operands.items)) }
 {
     if operands.len() != 1 {
-        return Err(misplaced(head));
+        return Err(faulty(head, NameKind::BadValue));
     }
     let Some(operand) = operands.pop() else {
-        return Err(misplaced(head));
+        return Err(faulty(head, NameKind::BadValue));
     };
     match Box::new(alloc, operand) {
         Ok(operand) => Ok(Pred::Not(operand)),
@@ -98,7 +88,7 @@ fn every(head: &Token, operands: Vec<Pred>) -> Result<Pred, NameFault>
     ensures { IsAnswer pred_tree result (joined head.now Every (map pred_tree operands.items)) }
 {
     if operands.is_empty() {
-        return Err(misplaced(head));
+        return Err(faulty(head, NameKind::BadValue));
     }
     Ok(Pred::And(operands))
 }
@@ -108,7 +98,7 @@ fn some(head: &Token, operands: Vec<Pred>) -> Result<Pred, NameFault>
     ensures { IsAnswer pred_tree result (joined head.now SomeHold (map pred_tree operands.items)) }
 {
     if operands.is_empty() {
-        return Err(misplaced(head));
+        return Err(faulty(head, NameKind::BadValue));
     }
     Ok(Pred::Or(operands))
 }
@@ -125,7 +115,7 @@ fn test_at(
     let name = field_at(bytes, field)?;
     match test_of(topology, name, text_in(bytes, value)) {
         Ok(pred) => Ok(pred),
-        Err(kind) => Err(NameFault::Name { at: value.at, kind }),
+        Err(kind) => Err(faulty(value, kind)),
     }
 }
 
@@ -140,6 +130,6 @@ fn test_below(
 {
     match children {
         [value, ..] => test_at(field, &value.head, bytes, topology),
-        [] => Err(misplaced(field)),
+        [] => Err(faulty(field, NameKind::BadValue)),
     }
 }

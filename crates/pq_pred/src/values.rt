@@ -1,5 +1,6 @@
 //! Fields and their values, by what a text calls them.
-ghost use Rattle.std.specs.Prelude.{◌≡◌, option_map};
+ghost use Rattle.std.specs.Prelude.{◌≡◌, ◌≤◌, option_map, IfOk};
+ghost use Rattle.pq_term.specs.Numbers.{number_of};
 ghost use Rattle.pq_topo.specs.Naming.{IsAnswer};
 ghost use Rattle.pq_pred.specs.Values.{field_at, name_in, or_else, switch_value, value_of, within};
 
@@ -8,26 +9,41 @@ use pq_term::{Name, Token, ipv4_value, mac_value, number_value};
 use pq_topo::{NameFault, NameKind, Topology};
 use pq_tree::text_in;
 
+/// The fault of a token that breaks a rule.
+pub fn faulty(token: &Token, kind: NameKind) -> NameFault
+    ensures { result ≡ NameFault.Name token.now.at kind }
+{
+    NameFault::Name { at: token.at, kind }
+}
+
 /// The field that a token names.
 pub fn field_at(bytes: &[u8], token: &Token) -> Result<Field, NameFault>
     ensures { IsAnswer (λ f. f) result (field_at bytes.now token.now) }
 {
     match field_named(text_in(bytes, token)) {
         Some(field) => Ok(field),
-        None => Err(NameFault::Name {
-            at: token.at,
-            kind: NameKind::UnknownField,
-        }),
+        None => Err(faulty(token, NameKind::UnknownField)),
     }
 }
 
 /// The number, where there is one between these two.
 fn within(least: u64, most: u64, number: Option<u64>) -> Result<u64, NameKind>
-    ensures { result ≡ within least most number }
+    ensures value { result ≡ within least most number }
+    ensures most { IfOk result (λ n. n ≤ most) }
 {
     match number {
         Some(value) if least <= value && value <= most => Ok(value),
         _ => Err(NameKind::BadValue),
+    }
+}
+
+/// The number of a port, from 1 to 4294967040.
+pub fn port_value(text: &[u8]) -> Result<u32, NameKind>
+    ensures { result ≡ within 1 4294967040 (number_of text.now) }
+{
+    match within(1, 4_294_967_040, number_value(text)) {
+        Ok(port) => Ok(port as u32),
+        Err(kind) => Err(kind),
     }
 }
 
