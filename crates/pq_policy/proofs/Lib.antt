@@ -1,3 +1,4 @@
 mod Exact
 mod Members
+pub mod OneList
 mod Yielded
