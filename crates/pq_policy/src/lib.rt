@@ -2,12 +2,14 @@
 #![tactic(auto)]
 
 mod apply;
+mod laws;
 mod policy;
 mod resolve;
 mod sets;
 mod writes;
 
 pub use apply::apply_plain;
+pub use laws::policies_yield_one_list;
 pub use policy::Policy;
 pub use resolve::resolve_policy;
 
