@@ -2,3 +2,4 @@ pub mod Folds
 pub mod Closing
 pub mod OneReading
 pub mod OneEdit
+pub mod Worked

@@ -37,10 +37,7 @@ fn terms_from<'a, 'b>(terms: &'b [Term<'a>], from: usize) -> &'b [Term<'a>]
 }
 
 /// The terms, in the arena.
-pub(crate) fn kept<'a>(
-    bump: &'a Bump<Global>,
-    terms: &[Term<'a>],
-) -> Result<&'a [Term<'a>], AllocError>
+fn kept<'a>(bump: &'a Bump<Global>, terms: &[Term<'a>]) -> Result<&'a [Term<'a>], AllocError>
     ensures { IfOk result (λ row. row.now ≡ terms.now) }
 {
     let row = bump.try_alloc_slice_copy(terms)?;
