@@ -145,7 +145,8 @@ fn are_lawful(fields: Fields) -> bool
 
 /// The match that states the fields, where they keep the rules on a match.
 pub fn lawful(fields: Fields) -> Option<Match>
-    ensures { IsLawfulMatch fields → result ≡ Some fields }
+    ensures whole { IsLawfulMatch fields → result ≡ Some fields }
+    ensures same { IfSome result (λ m. m ≡ fields) }
 {
     if !are_lawful(fields) {
         return None;

@@ -66,6 +66,35 @@ const PORT_ALONE: [u8; 16] = [
     0x00, 0x01, 0x00, 0x0a, 0x80, 0x00, 0x1c, 0x02, 0x00, 0x50, 0x00, 0x00, 0x00, 0x00, 0x00, 0x00,
 ];
 
+// The bytes of IPv4 packets from 10.0.0.0: type and length take 4 bytes, ETH_TYPE 6 and IPV4_SRC 8, so 6 are left.
+const FROM_TEN_BYTES: [u8; 24] = [
+    0x00, 0x01, 0x00, 0x12, 0x80, 0x00, 0x0a, 0x02, 0x08, 0x00, 0x80, 0x00, 0x16, 0x04, 0x0a, 0x00,
+    0x00, 0x00, 0x00, 0x00, 0x00, 0x00, 0x00, 0x00,
+];
+
+// The same address with the mask ffffffff.
+const FROM_TEN_WITH_ONES: [u8; 24] = [
+    0x00, 0x01, 0x00, 0x16, 0x80, 0x00, 0x0a, 0x02, 0x08, 0x00, 0x80, 0x00, 0x17, 0x08, 0x0a, 0x00,
+    0x00, 0x00, 0xff, 0xff, 0xff, 0xff, 0x00, 0x00,
+];
+
+// The address 10.0.0.1 with the mask ff000000, which has a zero where the address has its last bit.
+const BIT_UNDER_A_ZERO: [u8; 24] = [
+    0x00, 0x01, 0x00, 0x16, 0x80, 0x00, 0x0a, 0x02, 0x08, 0x00, 0x80, 0x00, 0x17, 0x08, 0x0a, 0x00,
+    0x00, 0x01, 0xff, 0x00, 0x00, 0x00, 0x00, 0x00,
+];
+
+// IPv4 packets to TCP port 80 without an IP protocol.
+const TCP_WITHOUT_PROTOCOL: [u8; 16] = [
+    0x00, 0x01, 0x00, 0x10, 0x80, 0x00, 0x0a, 0x02, 0x08, 0x00, 0x80, 0x00, 0x1c, 0x02, 0x00, 0x50,
+];
+
+// The same with the IP protocol of UDP.
+const TCP_BESIDE_UDP: [u8; 24] = [
+    0x00, 0x01, 0x00, 0x15, 0x80, 0x00, 0x0a, 0x02, 0x08, 0x00, 0x80, 0x00, 0x14, 0x01, 0x11, 0x80,
+    0x00, 0x1c, 0x02, 0x00, 0x50, 0x00, 0x00, 0x00,
+];
+
 /// Two lower-case digits for each byte.
 fn hexadecimal(alloc: Global, bytes: &[u8]) -> Result<String, AllocError> {
     let mut text = String::new(alloc);
@@ -169,6 +198,29 @@ fn matches_that_are_cut_are_refused(rt: HostRuntime) {
     for length in 0..WEB_BYTES.len() {
         assert!(rt; is_refused(rt.alloc(), &WEB_BYTES[..length]));
     }
+}
+
+// The offset behind the match that stands at the first byte.
+fn end_of(alloc: Global, bytes: &[u8]) -> Result<usize, Fail> {
+    let found = read_match(alloc, bytes, 0).ok().ok_or("a match")?;
+    Ok(found.1)
+}
+
+#[test]
+fn an_address_is_read_only_as_it_is_spelled(rt: HostRuntime) -> Result<(), Fail> {
+    let alloc = rt.alloc();
+    assert_eq!(rt; end_of(alloc, &FROM_TEN_BYTES)?, 24);
+    assert!(rt; is_read_back(alloc, &FROM_TEN_BYTES)?);
+    // Without its last six bytes, and with the length 0x10.
+    assert!(rt; is_refused(alloc, &FROM_TEN_BYTES[..18]));
+    let mut shorter = FROM_TEN_BYTES;
+    shorter[3] = 0x10;
+    assert!(rt; is_refused(alloc, &shorter));
+    assert!(rt; is_refused(alloc, &FROM_TEN_WITH_ONES));
+    assert!(rt; is_refused(alloc, &BIT_UNDER_A_ZERO));
+    assert!(rt; is_refused(alloc, &TCP_WITHOUT_PROTOCOL));
+    assert!(rt; is_refused(alloc, &TCP_BESIDE_UDP));
+    Ok(())
 }
 
 #[test]

@@ -1,1 +1,5 @@
 pub mod Folds
+pub mod Closing
+pub mod OneReading
+pub mod OneEdit
+pub mod Worked

@@ -1,2 +1,4 @@
 pub mod Trees
 pub mod Texts
+pub mod Growth
+pub mod Reading

@@ -28,4 +28,4 @@ returns c = λ m more law is.
     let count : c.from-length.result - 4 ≡ length (match_oxms m) = omega (arith, parts.count, c.from_be_bytes.ensures, c.from-length.ensures) in
     let said : c.fields_of.result ≡ m = c.fields_of.ensures ∙ ap (λ k. fields_of (take k (drop 4 c.args.bytes.now))) count ∙ ap fields_of parts.oxms ∙ fields_read m law in
     let lawful : IsLawfulMatch c.fields_of.result = subst IsLawfulMatch (sym said) law in
-    c.lawful.ensures lawful ∙ ap Some said
+    c.lawful.ensures.whole lawful ∙ ap Some said
