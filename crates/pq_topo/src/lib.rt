@@ -3,6 +3,7 @@
 
 mod fault;
 mod link;
+mod resolve;
 mod switch;
 mod topology;
 
