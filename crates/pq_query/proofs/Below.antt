@@ -1,5 +1,5 @@
 -- What stands below a tree.
-use Rattle.std.proofs.Common.{◌≡◌, ℕ, ◌≤◌, true, List, [], ◌∷◌, length, refl, arith}
+use Rattle.std.proofs.Common.{◌≡◌, ◌≤◌, true, List, [], ◌∷◌, length, refl, arith}
 use Rattle.pq_tree.specs.declared.term.Term.{Term}
 use Rattle.pq_tree.specs.Trees.{trees}
 use Rattle.pq_query.specs.Resolved.{has_values}

@@ -1,5 +1,5 @@
 -- The query that a tree of a sentence stands for.
-use Rattle.std.specs.Prelude.{ℕ, not, ◌==◌, ◌&&◌, if◌then◌else◌, Bool, true, false, List, [], ◌∷◌, ◌++◌, nat_le, Option, Some, None, Ok}
+use Rattle.std.specs.Prelude.{ℕ, not, ◌==◌, ◌&&◌, if◌then◌else◌, Bool, true, false, List, [], ◌∷◌, ◌++◌, nat_le, Some, None, Ok}
 use Rattle.std.specs.List.{list_any}
 use Rattle.pq_term.specs.declared.token.Token.{Token}
 use Rattle.pq_grammar.specs.declared.class.Class.TheVariants.{InAtom, OutAtom, InOutAtom, EndAtom, InGroup, OutGroup, InOutGroup, Caret, Bar, Ampersand, Tilde, Star}
