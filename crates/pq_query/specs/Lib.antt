@@ -1,0 +1,5 @@
+pub mod Groups
+pub mod Query
+pub mod Resolved
+pub mod Labels
+pub mod Language
