@@ -35,6 +35,7 @@ tells v w = (apart, λ same. subst (λ w. (bytes_eq (padded v) (padded w) && (le
     apart h =
         let p = parts (bytes_eq (padded v) (padded w)) (length v == length w) h in
         stored_alike v w ((bytes_eq-Decides (padded v) (padded w)).0 p.0) (eqb-true (length v) (length w) p.1)
+
     alike : (bytes_eq (padded v) (padded v) && (length v == length v)) ≡ true
     alike = both (bytes_eq (padded v) (padded v)) (length v == length v) ((bytes_eq-Decides (padded v) (padded v)).1 refl) (eq-eqb (length v) (length v) refl)
 

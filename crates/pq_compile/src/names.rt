@@ -42,7 +42,11 @@ fn add_name(names: &mut IndexSet<Name>, name: Name) -> Result<(), NameFault>
 }
 
 /// The name that a token spells, which no earlier statement of the sort has.
-pub(crate) fn name_at(bytes: &[u8], names: &mut IndexSet<Name>, token: &Token) -> Result<Name, NameFault>
+pub(crate) fn name_at(
+    bytes: &[u8],
+    names: &mut IndexSet<Name>,
+    token: &Token,
+) -> Result<Name, NameFault>
     ensures name { IsAnswer (λ n. n) result (name_at bytes.now names.old.keys token.now) }
     ensures kept { IfOk result (λ name. names.new.keys ≡ names.old.keys ++ name ∷ []) }
 {

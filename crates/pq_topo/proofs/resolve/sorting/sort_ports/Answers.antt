@@ -2,7 +2,7 @@ use Rattle.std.proofs.Common.{◌≡◌, ℕ, List, [], ◌∷◌, ap, ◌∙◌
 use Rattle.std.proofs.lemmas.List.Sorted.{answers_always}
 use Rattle.std.proofs.lemmas.Result.{on_ok_weaker}
 use Rattle.std.specs.Ordering.{is_lt, nat_cmp}
-use Rattle.pq_switch.proofs.Sorted.{before_is_order, sorted_stably}
+use Rattle.pq_model.proofs.Sorted.{before_is_order, sorted_stably}
 use Rattle.pq_topo.proofs.Compared.{less_is_before}
 use Rattle.pq_topo.proofs.resolve.sorting.sort_ports.Goals as goal
 
