@@ -1,9 +1,9 @@
 -- The names of parts and of queries.
-use Rattle.std.specs.Prelude.{ℕ, List, [], ◌∷◌, ◌++◌, map, length, nat_le, bytes_eq, Option, Some, None, Ok}
+use Rattle.std.specs.Prelude.{ℕ, List, [], ◌∷◌, ◌++◌, map, if◌then◌else◌, length, nat_le, bytes_eq, Option, Some, None, Ok}
 use Rattle.std.specs.List.{list_any}
 use Rattle.pq_term.specs.declared.token.Token.{Token}
 use Rattle.pq_grammar.specs.declared.class.Class.{Class}
-use Rattle.pq_tree.specs.Trees.{Forest, grown, Tree}
+use Rattle.pq_tree.specs.Trees.{Forest, nothing, grown, Tree}
 use Rattle.pq_tree.specs.Texts.{text_in}
 use Rattle.pq_topo.specs.declared.fault.NameKind.TheVariants.{Many, Doubled, BadValue}
 use Rattle.pq_topo.specs.Naming.{Reading, faulty, unless, next}
