@@ -61,7 +61,8 @@ fn links_in_order(
 impl Topology {
     /// Reads the switch and link statements among the trees of a document's statements. The error is the first token
     /// in text order, of the statements of switches and then of those of links, that breaks a naming rule, with the
-    /// first rule that it breaks; or there is not enough memory.
+    /// first rule that it breaks; or there is not enough memory. A statement with fewer parts than any sentence gives
+    /// it is refused at its keyword, with `BadValue`.
     pub fn resolve(alloc: Global, terms: &[Term<'_>], bytes: &[u8]) -> Result<Topology, NameFault>
         ensures { IsAnswer (λ topology. topology) result (topology_of bytes.now (trees terms.now)) }
     {
