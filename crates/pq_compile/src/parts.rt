@@ -38,3 +38,47 @@ fn part_from(
     let policy = resolve_policy(alloc, body, bytes, topology)?;
     Ok((name, policy))
 }
+
+/// The part of a statement; its name joins those of earlier parts.
+#[tactic(auto, using(pq_topo::proofs::Terms::trees_first))]
+fn part_of(
+    alloc: Global,
+    keyword: &Token,
+    children: &[Term<'_>],
+    bytes: &[u8],
+    topology: &Topology,
+    names: &mut IndexSet<Name>,
+) -> Result<(Name, Policy), NameFault>
+    ensures part { IsAnswer part_tree result (named_of bytes.now 1024 (policy_of topology.now bytes.now) names.old.keys keyword.now (trees children.now)) }
+    ensures kept { IfOk result (λ p. names.new.keys ≡ names.old.keys ++ p.0 ∷ []) }
+{
+    match children {
+        [name, body, ..] => part_from(alloc, keyword, &name.head, body, bytes, topology, names),
+        _ => Err(faulty(keyword, NameKind::BadValue)),
+    }
+}
+
+/// The parts of the statements, in text order.
+pub(crate) fn read_parts(
+    alloc: Global,
+    terms: &[Term<'_>],
+    bytes: &[u8],
+    topology: &Topology,
+) -> Result<Vec<(Name, Policy)>, NameFault>
+    ensures { IsAnswer (λ parts. map part_tree parts.items) result (parts_of topology.now bytes.now (trees terms.now)) }
+{
+    let mut names = IndexSet::new(alloc);
+    let mut parts = Vec::new(alloc);
+    for term in terms {
+        if is_class(class_in_text(bytes, &term.head), Class::PartWord) {
+            match part_of(alloc, &term.head, term.children, bytes, topology, &mut names) {
+                Ok(part) => match parts.push(part) {
+                    Ok(()) => {}
+                    Err(_) => return Err(NameFault::Memory),
+                },
+                Err(fault) => return Err(fault),
+            }
+        }
+    }
+    Ok(parts)
+}
