@@ -4,9 +4,11 @@ pub mod Falling
 pub mod Kept
 pub mod Lookups
 pub mod Passing
+pub mod Patterns
 pub mod Places
 pub mod Ranges
 pub mod Rows
+pub mod Scan
 pub mod SentOrder
 pub mod Sorted
 pub mod SortedParts

@@ -1,40 +1,74 @@
 ghost use Rattle.std.specs.Prelude.{◌≡◌, ℕ};
 ghost use Rattle.std.specs.List.{AllByRecursion};
+ghost use Rattle.std.specs.List.Sorted.{IsStrictlySortedBy};
+ghost use Rattle.std.specs.Map.{keys_of, values_of};
 ghost use Rattle.std.specs.Option.{option_copied, option_map};
-ghost use Rattle.pq_model.specs.MatchFields.{vlan_word};
-ghost use Rattle.pq_switch.specs.Added.{IsKept};
+ghost use Rattle.pq_model.specs.SwitchMachine.{taken};
+ghost use Rattle.pq_switch.specs.Added.{AreKept, IsKept, entries_of, in_turn};
 ghost use Rattle.pq_switch.specs.Choice.{best_of, comes_before, counts, is_beaten, preferred};
-ghost use Rattle.pq_switch.specs.Ranges.{range_of};
+ghost use Rattle.pq_switch.specs.Places.{place_cmp};
+ghost use Rattle.pq_switch.specs.Ranges.{first_from, in_table, range_of};
 
 use crate::entry::{Entry, Slot};
-use crate::place::{Headers, Place};
+use crate::pattern::Pattern;
+use crate::place::Place;
 use pq_model::Tagged;
 use std::collections::BTreeMap;
 
-/// The best of the covering entries of a table whose matches state this arriving port and this VLAN word, and the
-/// best so far.
-pub(crate) fn best_in<'a>(
+/// The covering entry of highest priority in a table; of several, the one added first.
+///
+/// It looks for the shapes of the table's matches one after another, and in each for the one match of this shape that
+/// covers the packet (tuple space search; Srinivasan, Suri and Varghese, SIGCOMM 1999).
+pub(crate) fn best_in_table<'a>(
     slots: &'a BTreeMap<Place, Slot>,
     table: u8,
-    in_port: Option<u64>,
-    vlan: Option<u64>,
+    x: &Tagged,
+) -> Option<&'a Slot>
+    requires { (next : ℕ) × AreKept next slots.now.entries }
+    ensures { option_map (λ s. s.entry) (option_copied result) ≡ taken (entries_of (in_turn (values_of slots.now.entries))) table x.now }
+{
+    let mut best = None;
+    let mut from = Place::first(table);
+    while let Some(place) = next_place(slots, from) {
+        let pattern = place.shape.projected(&x.packet, x.vlan);
+        best = best_in(slots, table, pattern, x, best);
+        from = Place {
+            behind: true,
+            ..place
+        };
+    }
+    best
+}
+
+// The first place of the same table from this one on.
+fn next_place(slots: &BTreeMap<Place, Slot>, from: Place) -> Option<Place>
+    ensures value { result ≡ in_table from.table (first_from from slots.now.entries) }
+    ensures ordered { IsStrictlySortedBy place_cmp (keys_of slots.now.entries) }
+{
+    match slots.range(from..).next() {
+        Some((place, _)) => {
+            if place.table == from.table {
+                return Some(*place);
+            }
+            None
+        }
+        None => None,
+    }
+}
+
+// The best of the covering entries of a table whose matches state this pattern, and the best so far.
+fn best_in<'a>(
+    slots: &'a BTreeMap<Place, Slot>,
+    table: u8,
+    pattern: Pattern,
     x: &Tagged,
     mut best: Option<&'a Slot>,
 ) -> Option<&'a Slot>
     requires { (next : ℕ) × AllByRecursion (IsKept next) slots.now.entries }
-    ensures { option_copied result ≡ best_of table x.now (range_of table in_port vlan slots.now.entries) (option_copied best.entry) }
+    ensures { option_copied result ≡ best_of table x.now (range_of table pattern slots.now.entries) (option_copied best.entry) }
 {
-    let first = Place {
-        table,
-        in_port,
-        vlan,
-        down: 0,
-        headers: Headers::NONE,
-    };
-    let last = Place {
-        down: 0x1_0001,
-        ..first
-    };
+    let first = Place::at(table, pattern, 0);
+    let last = Place::at(table, pattern, 0x1_0001);
     for (_, slot) in slots.range(first..last) {
         // The priorities fall from here on.
         if is_beaten(slot, best) {
@@ -79,16 +113,6 @@ fn preferred<'a>(table: u8, x: &Tagged, slot: &'a Slot, best: Option<&'a Slot>) 
     match best {
         Some(other) if !comes_before(slot, other) => best,
         _ => Some(slot),
-    }
-}
-
-/// The VLAN_VID word of a packet: 0 without a header (OpenFlow 1.3.5, section 7.2.3.7).
-pub(crate) fn vlan_word(x: &Tagged) -> u64
-    ensures { result ≡ vlan_word x.now.vlan }
-{
-    match x.vlan {
-        Some(number) => 0x1000 + u64::from(number),
-        None => 0,
     }
 }
 
