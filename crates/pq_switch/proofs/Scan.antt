@@ -1,5 +1,5 @@
 -- The shapes of a table are found one after another, and the best of all covering entries with them.
-use Rattle.std.proofs.Common.{◌≡◌, ℕ, ◌+◌, ◌-◌, ◌<◌, ◌≤◌, Bool, true, false, cond, if◌then◌else◌, ◌==◌, ◌&&◌, List, [], ◌∷◌, ◌++◌, length, refl, sym, ap, subst, ◌∙◌, arith, inl, inr}
+use Rattle.std.proofs.Common.{◌≡◌, ◌⊎◌, ℕ, ◌+◌, ◌-◌, ◌<◌, ◌≤◌, Bool, true, false, cond, if◌then◌else◌, ◌==◌, ◌&&◌, List, [], ◌∷◌, ◌++◌, length, refl, sym, ap, subst, ◌∙◌, arith, inl, inr}
 use Rattle.std.proofs.lemmas.Bool.{true≢false}
 use Rattle.std.proofs.lemmas.Bool.Decides.{nat_tests}
 use Rattle.std.specs.declared.cmp.Ordering.{Ordering}
@@ -19,10 +19,10 @@ use Rattle.pq_model.specs.MatchFields.{covers}
 use Rattle.pq_model.specs.SwitchMachine.{Entry, taken}
 use Rattle.pq_model.specs.Tagged.{TaggedPacket}
 use Rattle.pq_switch.specs.Added.{AreKept, IsKept, entries_of, in_turn, place_in}
-use Rattle.pq_switch.specs.Choice.{best_of, counts}
+use Rattle.pq_switch.specs.Choice.{best_of, best_of_few, counts, preferred}
 use Rattle.pq_switch.specs.Patterns.{pattern_of, projected, shape_of}
 use Rattle.pq_switch.specs.Places.{first_of, past, pattern_cmp, place_cmp}
-use Rattle.pq_switch.specs.Ranges.{first_from, in_table, range_of}
+use Rattle.pq_switch.specs.Ranges.{onward, range_of}
 use Rattle.pq_switch.specs.declared.entry.Slot.{Slot}
 use Rattle.pq_switch.specs.declared.place.Place.{Place}
 use Rattle.pq_switch.proofs.Choice.{IsBest, IsIn, best-all, best-among, best-is_taken, in-either, in-left, in-right}
@@ -101,85 +101,6 @@ past-first : (q : Place) → q.behind ≡ false → is_le (place_cmp q (past q))
 past-first q real =
     (λ i. is_le (ordering_then (tied_itself nat_cmp_total q.table i) (ordering_then (tied_itself pattern_total q.shape i) (ordering_then (bool_cmp (real i) true) (ordering_then (pattern_cmp q.pattern q.pattern) (nat_cmp q.down q.down))))))
 
--- The first place from a bound on.
-
-none-before : (from : Place) (es : List (Place × Slot)) → first_from from es ≡ None → (e : Place × Slot) → IsIn e es → is_le (place_cmp from e.0) ≡ false
-none-before from [] h e i = absurd i
-none-before from (d ∷ es) h e i = by (is_le (place_cmp from d.0)) refl h i (λ g. none-before from es g e)
-  where
-    by : (b : Bool) → is_le (place_cmp from d.0) ≡ b → (if b then Some d.0 else first_from from es) ≡ None → IsIn e (d ∷ es) → (first_from from es ≡ None → IsIn e es → is_le (place_cmp from e.0) ≡ false) → is_le (place_cmp from e.0) ≡ false
-    by true is h i more = some_is_no_none d.0 h
-    by false is h (inl same) more = ap (λ (r : Place × Slot). is_le (place_cmp from r.0)) same ∙ is
-    by false is h (inr i) more = more h i
-
-pub record IsFirst (from q : Place) (es : List (Place × Slot)) : Type 0 where
-  pub slot : Slot
-  pub among : IsIn (q, slot) es
-  pub reached : is_le (place_cmp from q) ≡ true
-  pub least : (e : Place × Slot) → IsIn e es → is_le (place_cmp from e.0) ≡ true → is_le (place_cmp q e.0) ≡ true
-
-pub is_first : (from q : Place) (es : List (Place × Slot)) → IsStrictlySortedBy place_cmp (keys_of es) → first_from from es ≡ Some q → IsFirst from q es
-unfolding IsStrictlySortedBy
-is_first from q [] sorted h = some_is_no_none q (sym h)
-is_first from q (d ∷ es) (later, sorted) h = by (is_le (place_cmp from d.0)) refl h (is_first from q es sorted)
-  where
-    by : (b : Bool) → is_le (place_cmp from d.0) ≡ b → (if b then Some d.0 else first_from from es) ≡ Some q → (first_from from es ≡ Some q → IsFirst from q es) → IsFirst from q (d ∷ es)
-    by true is h more =
-        let same : d.0 ≡ q = ap (value_of q) h in
-        record {
-          slot = d.1;
-          among = inl (λ i. (sym same i, d.1));
-          reached = ap (λ z. is_le (place_cmp from z)) (sym same) ∙ is;
-          least = λ e i reach. ap (λ z. is_le (place_cmp z e.0)) (sym same) ∙ elim i as (λ _. is_le (place_cmp d.0 e.0) ≡ true) [
-            | inl at ↦ ap (λ (r : Place × Slot). is_le (place_cmp d.0 r.0)) at ∙ le-Equal _ (tied_itself place_cmp_total d.0)
-            | inr j ↦ le-Less _ (all-in (λ z. place_cmp d.0 z ≡ Less) e.0 (keys_of es) later (key-in e es j))
-          ];
-        }
-    by false is h more =
-        let rest = more h in
-        record {
-          slot = rest.slot;
-          among = inr rest.among;
-          reached = rest.reached;
-          least = λ e i reach. elim i as (λ _. is_le (place_cmp q e.0) ≡ true) [
-            | inl at ↦ absurd (true≢false (sym reach ∙ ap (λ (r : Place × Slot). is_le (place_cmp from r.0)) at ∙ is))
-            | inr j ↦ rest.least e j reach
-          ];
-        }
-
--- whether a place is one of a table
-
-pub in-same : (n : ℕ) (q : Place) → (q.table == n) ≡ true → in_table n (Some q) ≡ Some q
-in-same n q h = ap (λ b. if b then Some q else None) h
-
-pub in-another : (n : ℕ) (q : Place) → (q.table == n) ≡ false → in_table n (Some q) ≡ None
-in-another n q h = ap (λ b. if b then Some q else None) h
-
--- what a range without an end begins with
-
-abbrev pub onward : Place → List (Place × Slot) → List (Place × Slot)
-onward from es = entries_between place_cmp (Included from) Unbounded es
-
-pub first-some : (from : Place) (es : List (Place × Slot)) (e : Place × Slot) (rest : List (Place × Slot)) → onward from es ≡ e ∷ rest → first_from from es ≡ Some e.0
-first-some from [] e rest h = absurd (cc)
-first-some from (d ∷ es) e rest h = by (is_le (place_cmp from d.0)) h (first-some from es e rest)
-  where
-    head_of : List (Place × Slot) → Place
-    head_of [] = d.0
-    head_of (r ∷ rs) = r.0
-
-    by : (b : Bool) → cond (b && true) (d ∷ onward from es) (onward from es) ≡ e ∷ rest → (onward from es ≡ e ∷ rest → first_from from es ≡ Some e.0) → (if b then Some d.0 else first_from from es) ≡ Some e.0
-    by true h more = ap (λ z. Some z) (ap head_of h)
-    by false h more = more h
-
-pub first-none : (from : Place) (es : List (Place × Slot)) → onward from es ≡ [] → first_from from es ≡ None
-first-none from [] h = refl
-first-none from (d ∷ es) h = by (is_le (place_cmp from d.0)) h (first-none from es)
-  where
-    by : (b : Bool) → cond (b && true) (d ∷ onward from es) (onward from es) ≡ [] → (onward from es ≡ [] → first_from from es ≡ None) → (if b then Some d.0 else first_from from es) ≡ None
-    by true h more = absurd (cc)
-    by false h more = more h
-
 -- How many entries are left.
 
 abbrev pub left : Place → List (Place × Slot) → ℕ
@@ -244,93 +165,192 @@ module _ (n : ℕ) (x : TaggedPacket) (es : List (Place × Slot)) where
       all = λ e i before c. absurd (true≢false (sym (first_of-first n e.0 (here-of e i c)) ∙ before));
     }
 
-    module _ (sorted : IsStrictlySortedBy place_cmp (keys_of es)) (from : Place) (table : from.table ≡ n) where
-      in_table-none : (q : Place) → in_table from.table (Some q) ≡ None → q.table ≡ n → ⊥
-      in_table-none q h same = some_is_no_none q (sym (ap (λ b. if b then Some q else None) (tells q.table from.table (same ∙ sym table))) ∙ h)
-        where
-          tells : (a b : ℕ) → a ≡ b → (a == b) ≡ true
-          tells a b e = grind (arith, nat_tests)
+    -- what is still to come from a place on
+    abbrev Beyond : Option Place → Place → Type 0
+    Beyond None p = ⊥
+    Beyond (Some q) p = is_le (place_cmp q p) ≡ true
 
-      -- none is left in the table
-      none_counts : in_table from.table (first_from from es) ≡ None → (e : Place × Slot) → IsIn e es → is_le (place_cmp from e.0) ≡ true → counts n x e.1 ≡ true → ⊥
-      none_counts h e i reach c = by (first_from from es) refl h
-        where
-          by : (o : Option Place) → first_from from es ≡ o → in_table from.table o ≡ None → ⊥
-          by None is h = true≢false (sym reach ∙ none-before from es is e i)
-          by (Some q) is h =
-              let first = is_first from q es sorted is in
-              let up : from.table ≤ q.table = table_le from q first.reached in
-              let down : q.table ≤ e.0.table = table_le q e.0 (first.least e i reach) in
-              let here : e.0.table ≡ n = here-of e i c in
-              in_table-none q h (omega (arith, up, down, here, table))
+    -- the place is that of one of these, in the table
+    abbrev Stands : Option Place → List (Place × Slot) → Type 0
+    Stands None rest = Unit {0}
+    Stands (Some q) rest = (slot : Slot) × IsIn (q, slot) rest × (q.table ≡ n)
 
-      pub ends : (best : Option Slot) → IsBestBefore from best → in_table from.table (first_from from es) ≡ None → taken (entries_of (in_turn (values_of es))) n x ≡ option_map (λ s. s.entry) best
-      ends best so_far h = best-is_taken n x (values_of es) kept.climb best (best-among n x so_far.some (values_of es) best so_far.inside found so_far.is_best)
-        where
-          found : (t : Slot) → IsIn t (values_of es) → counts n x t ≡ true → IsIn t so_far.some
-          found t i c = let at = under t es i in by at.at at.among (is_le (place_cmp from at.at)) refl
-            where
-              by : (q : Place) → IsIn (q, t) es → (b : Bool) → is_le (place_cmp from q) ≡ b → IsIn t so_far.some
-              by q i true reach = absurd (none_counts h (q, t) i reach c)
-              by q i false before = so_far.all (q, t) i before c
+    -- the best of some that has all that count, but for what is beyond
+    record IsScanned (rest : List (Place × Slot)) (r : Option Slot × Option Place) : Type 0 where
+      some : List Slot
+      is_best : IsBest n x some r.0
+      inside : (t : Slot) → IsIn t some → IsIn t (values_of es)
+      all : (e : Place × Slot) → IsIn e es → counts n x e.1 ≡ true → IsIn e.1 some ⊎ Beyond r.1 e.0
+      at : Stands r.1 rest
 
-      module _ (q : Place) (found : in_table from.table (first_from from es) ≡ Some q) where
-        same_place : (o : Option Place) → in_table from.table o ≡ Some q → o ≡ Some q
-        same_place None h = some_is_no_none q (sym h)
-        same_place (Some p) h = by (p.table == from.table) h
-          where
-            by : (b : Bool) → (if b then Some p else None) ≡ Some q → Some p ≡ Some q
-            by true h = h
-            by false h = some_is_no_none q (sym h)
+    stands-more : (o : Option Place) (e : Place × Slot) (rest : List (Place × Slot)) → Stands o rest → Stands o (e ∷ rest)
+    stands-more None e rest h = tt
+    stands-more (Some q) e rest h = (h.0, inr h.1, h.2)
 
-        first : IsFirst from q es
-        first = is_first from q es sorted (same_place (first_from from es) found)
+    equal_numbers : (a b : ℕ) → (a == b) ≡ true → a ≡ b
+    equal_numbers a b e = grind (arith, nat_tests)
 
-        pub table_stays : q.table ≡ n
-        table_stays = by (first_from from es) refl found
-          where
-            by : (o : Option Place) → first_from from es ≡ o → in_table from.table o ≡ Some q → q.table ≡ n
-            by None is h = some_is_no_none q (sym h)
-            by (Some p) is h = test (p.table == from.table) refl h
-              where
-                test : (b : Bool) → (p.table == from.table) ≡ b → (if b then Some p else None) ≡ Some q → q.table ≡ n
-                test true e h = ap (λ (r : Place). r.table) (sym (ap (value_of p) h)) ∙ equal p.table from.table e ∙ table
-                  where
-                    equal : (a b : ℕ) → (a == b) ≡ true → a ≡ b
-                    equal a b e = grind (arith, nat_tests)
-                test false e h = some_is_no_none q (sym h)
+    other_numbers : (a b : ℕ) → (a == b) ≡ false → a ≡ b → ⊥
+    other_numbers a b e f = absurd (true≢false (sym (ap (λ c. c == b) f ∙ own b) ∙ e))
+      where
+        own : (b : ℕ) → (b == b) ≡ true
+        own b = grind (arith, nat_tests)
 
-        real : q.behind ≡ false
-        real = sym (ap (λ (p : Place). p.behind) (placed (q, first.slot) first.among))
+    -- a few, one after another
+    scans : (k : ℕ) (rest : List (Place × Slot)) → IsStrictlySortedBy place_cmp (keys_of rest) → ((e : Place × Slot) → IsIn e rest → IsIn e es) → ((e : Place × Slot) → IsIn e rest → n ≤ e.0.table) →
+        (some : List Slot) (best : Option Slot) → IsBest n x some best → ((t : Slot) → IsIn t some → IsIn t (values_of es)) →
+        ((e : Place × Slot) → IsIn e es → counts n x e.1 ≡ true → IsIn e.1 some ⊎ IsIn e rest) → IsScanned rest (best_of_few k n x rest best)
+    unfolding IsStrictlySortedBy
+    scans k [] sorted sub above some best is_best inside cover = record {
+      some = some;
+      is_best = is_best;
+      inside = inside;
+      all = λ e i c. elim (cover e i c) [ inl j ↦ inl j | inr none ↦ absurd none ];
+      at = tt;
+    }
+    scans k (d ∷ rest) (later, sorted) sub above some best is_best inside cover =
+        by (d.0.table == n) refl (k == 0) refl (scans (k - 1) rest sorted (λ e i. sub e (inr i)) (λ e i. above e (inr i)) (some ++ d.1 ∷ []) (preferred n x d.1 best)
+        (best-all n x some (d.1 ∷ []) best is_best) within covered_more)
+      where
+        within : (t : Slot) → IsIn t (some ++ d.1 ∷ []) → IsIn t (values_of es)
+        within t i = elim (in-either t some (d.1 ∷ []) i) [ inl j ↦ inside t j | inr j ↦ elim j [ inl same ↦ subst (λ s. IsIn s (values_of es)) (sym same) (value-in d es (sub d (inl refl))) | inr none ↦ absurd none ] ]
 
-        further : (p : Place) → is_le (place_cmp (past q) p) ≡ true → is_le (place_cmp from p) ≡ true
-        further p h = chained from q p first.reached (chained q (past q) p (past-first q real) h)
+        covered_more : (e : Place × Slot) → IsIn e es → counts n x e.1 ≡ true → IsIn e.1 (some ++ d.1 ∷ []) ⊎ IsIn e rest
+        covered_more e i c = elim (cover e i c) [
+          | inl j ↦ inl (in-left e.1 some (d.1 ∷ []) j)
+          | inr j ↦ elim j [ inl same ↦ inl (in-right e.1 some (d.1 ∷ []) (inl (ap (λ (r : Place × Slot). r.1) same))) | inr more ↦ inr more ]
+        ]
 
-        pub gets_shorter : left (past q) es < left from es
-        gets_shorter = fewer_left from (past q) further es (q, first.slot) first.among first.reached (past-later q real)
+        from_here : (e : Place × Slot) → IsIn e (d ∷ rest) → is_le (place_cmp d.0 e.0) ≡ true
+        from_here e (inl same) = ap (λ (r : Place × Slot). is_le (place_cmp d.0 r.0)) same ∙ le-Equal _ (tied_itself place_cmp_total d.0)
+        from_here e (inr j) = le-Less _ (all-in (λ z. place_cmp d.0 z ≡ Less) e.0 (keys_of rest) later (key-in e rest j))
 
-        -- what lies before the next shape has this one
-        shape-of : (e : Place × Slot) → IsIn e es → is_le (place_cmp from e.0) ≡ true → is_le (place_cmp (past q) e.0) ≡ false → q.shape ≡ e.0.shape
-        shape-of e i reach before =
-            let one = squeezed (nat_cmp q.table e.0.table) _ _ (first.least e i reach) before in
-            let two = squeezed (pattern_cmp q.shape e.0.shape) _ _ one.from one.past in
-            pattern-exact q.shape e.0.shape two.equal
-
-        pub goes_on : (best : Option Slot) → IsBestBefore from best → IsBestBefore (past q) (best_of n x (range_of n (projected q.shape x) es) best)
-        goes_on best so_far = record {
-          some = so_far.some ++ more;
-          is_best = best-all n x so_far.some more best so_far.is_best;
-          inside = λ t i. elim (in-either t so_far.some more i) [ inl j ↦ so_far.inside t j | inr j ↦ from_range n (projected q.shape x) es t j ];
-          all = λ e i before c. by e i before c (is_le (place_cmp from e.0)) refl;
+        by : (b : Bool) → (d.0.table == n) ≡ b → (c : Bool) → (k == 0) ≡ c → IsScanned rest (best_of_few (k - 1) n x rest (preferred n x d.1 best)) →
+            IsScanned (d ∷ rest) (if b then (if c then (best, Some d.0) else best_of_few (k - 1) n x rest (preferred n x d.1 best)) else (best, None))
+        by true here true last more = record {
+          some = some;
+          is_best = is_best;
+          inside = inside;
+          all = λ e i c. elim (cover e i c) [ inl j ↦ inl j | inr j ↦ inr (from_here e j) ];
+          at = (d.1, inl refl, equal_numbers d.0.table n here);
         }
-          where
-            more : List Slot
-            more = range_of n (projected q.shape x) es
+        by true here false last more = record {
+          some = more.some;
+          is_best = more.is_best;
+          inside = more.inside;
+          all = more.all;
+          at = stands-more _ d rest more.at;
+        }
+        by false here c last more = record {
+          some = some;
+          is_best = is_best;
+          inside = inside;
+          all = λ e i count. elim (cover e i count) [
+            | inl j ↦ inl j
+            | inr j ↦
+                let up : n ≤ d.0.table = above d (inl refl) in
+                let down : d.0.table ≤ e.0.table = table_le d.0 e.0 (from_here e j) in
+                let there : e.0.table ≡ n = here-of e i count in
+                absurd (other_numbers d.0.table n here (omega (arith, up, down, there)))
+          ];
+          at = tt;
+        }
 
-            by : (e : Place × Slot) → IsIn e es → is_le (place_cmp (past q) e.0) ≡ false → counts n x e.1 ≡ true → (b : Bool) → is_le (place_cmp from e.0) ≡ b → IsIn e.1 (so_far.some ++ more)
-            by e i before c false is = in-left e.1 so_far.some more (so_far.all e i is c)
-            by e i before c true is =
-                let p = pattern_of e.1.entry.matching in
-                let shape : q.shape ≡ shape_of p = shape-of e i is before ∙ ap (λ (r : Place). r.shape) (sym (placed e i)) in
-                let states : p ≡ projected q.shape x = covered e.1.entry.matching x (second_so (e.1.entry.table == n) (covers e.1.entry.matching x) c) ∙ sym (shape-decides p x) ∙ ap (λ s. projected s x) (sym shape) in
-                in-right e.1 so_far.some more (in_range next n (projected q.shape x) es kept.each e.1 (value-in e es i) (table-of e.1 c) states)
+    in-onward : (from : Place) (e : Place × Slot) (ds : List (Place × Slot)) → IsIn e ds → is_le (place_cmp from e.0) ≡ true → IsIn e (onward from ds)
+    in-onward from e (d ∷ ds) (inl same) reach =
+        let reached = ap (λ (r : Place × Slot). is_le (place_cmp from r.0)) (sym same) ∙ reach in
+        subst (λ b. IsIn e (cond (b && true) (d ∷ onward from ds) (onward from ds))) (sym reached) (inl same)
+    in-onward from e (d ∷ ds) (inr i) reach = by (is_le (place_cmp from d.0)) (in-onward from e ds i reach)
+      where
+        by : (b : Bool) → IsIn e (onward from ds) → IsIn e (cond (b && true) (d ∷ onward from ds) (onward from ds))
+        by true more = inr more
+        by false more = more
+    in-onward from e [] i reach = absurd i
+
+    out-onward : (from : Place) (e : Place × Slot) (ds : List (Place × Slot)) → IsIn e (onward from ds) → IsIn e ds × (is_le (place_cmp from e.0) ≡ true)
+    out-onward from e [] i = absurd i
+    out-onward from e (d ∷ ds) i = by (is_le (place_cmp from d.0)) refl i (out-onward from e ds)
+      where
+        by : (b : Bool) → is_le (place_cmp from d.0) ≡ b → IsIn e (cond (b && true) (d ∷ onward from ds) (onward from ds)) → (IsIn e (onward from ds) → IsIn e ds × (is_le (place_cmp from e.0) ≡ true)) → IsIn e (d ∷ ds) × (is_le (place_cmp from e.0) ≡ true)
+        by true is (inl same) more = (inl same, ap (λ (r : Place × Slot). is_le (place_cmp from r.0)) same ∙ is)
+        by true is (inr i) more = let m = more i in (inr m.0, m.1)
+        by false is i more = let m = more i in (inr m.0, m.1)
+
+    keys-onward : (P : Place → Type 0) (from : Place) (ds : List (Place × Slot)) → AllByRecursion P (keys_of ds) → AllByRecursion P (keys_of (onward from ds))
+    keys-onward P from [] all = tt
+    keys-onward P from (d ∷ ds) (here, all) = by (is_le (place_cmp from d.0)) (keys-onward P from ds all)
+      where
+        by : (b : Bool) → AllByRecursion P (keys_of (onward from ds)) → AllByRecursion P (keys_of (cond (b && true) (d ∷ onward from ds) (onward from ds)))
+        by true more = (here, more)
+        by false more = more
+
+    sorted-onward : (from : Place) (ds : List (Place × Slot)) → IsStrictlySortedBy place_cmp (keys_of ds) → IsStrictlySortedBy place_cmp (keys_of (onward from ds))
+    unfolding IsStrictlySortedBy
+    sorted-onward from [] sorted = tt
+    sorted-onward from (d ∷ ds) (later, sorted) = by (is_le (place_cmp from d.0)) (sorted-onward from ds sorted)
+      where
+        by : (b : Bool) → IsStrictlySortedBy place_cmp (keys_of (onward from ds)) → IsStrictlySortedBy place_cmp (keys_of (cond (b && true) (d ∷ onward from ds) (onward from ds)))
+        by true more = (keys-onward (λ z. place_cmp d.0 z ≡ Less) from ds later, more)
+        by false more = more
+
+    module _ (sorted : IsStrictlySortedBy place_cmp (keys_of es)) (from : Place) (table : from.table ≡ n) (best : Option Slot) (so_far : IsBestBefore from best) (k : ℕ) where
+      scanned : IsScanned (onward from es) (best_of_few k n x (onward from es) best)
+      scanned = scans k (onward from es) (sorted-onward from es sorted) (λ e i. (out-onward from e es i).0) (λ e i. above e i) so_far.some best so_far.is_best so_far.inside (λ e i c. cover e i c (is_le (place_cmp from e.0)) refl)
+        where
+          above : (e : Place × Slot) → IsIn e (onward from es) → n ≤ e.0.table
+          above e i = let up : from.table ≤ e.0.table = table_le from e.0 (out-onward from e es i).1 in omega (arith, up, table)
+
+          cover : (e : Place × Slot) → IsIn e es → counts n x e.1 ≡ true → (b : Bool) → is_le (place_cmp from e.0) ≡ b → IsIn e.1 so_far.some ⊎ IsIn e (onward from es)
+          cover e i c true is = inr (in-onward from e es i is)
+          cover e i c false is = inl (so_far.all e i is c)
+
+      module _ (found : Option Slot) where
+        pub ends : best_of_few k n x (onward from es) best ≡ (found, None) → taken (entries_of (in_turn (values_of es))) n x ≡ option_map (λ s. s.entry) found
+        ends is =
+            let done = subst (IsScanned (onward from es)) is scanned in
+            best-is_taken n x (values_of es) kept.climb found (best-among n x done.some (values_of es) found done.inside (λ t i c. let at = under t es i in elim (done.all (at.at, t) at.among c) [ inl j ↦ j | inr none ↦ absurd none ]) done.is_best)
+
+        module _ (q : Place) (is : best_of_few k n x (onward from es) best ≡ (found, Some q)) where
+          done : IsScanned (onward from es) (found, Some q)
+          done = subst (IsScanned (onward from es)) is scanned
+
+          pub table_stays : q.table ≡ n
+          table_stays = done.at.2
+
+          place_in_range : IsIn (q, done.at.0) es × (is_le (place_cmp from q) ≡ true)
+          place_in_range = out-onward from (q, done.at.0) es done.at.1
+
+          real : q.behind ≡ false
+          real = sym (ap (λ (p : Place). p.behind) (placed (q, done.at.0) place_in_range.0))
+
+          further : (p : Place) → is_le (place_cmp (past q) p) ≡ true → is_le (place_cmp from p) ≡ true
+          further p h = chained from q p place_in_range.1 (chained q (past q) p (past-first q real) h)
+
+          pub gets_shorter : left (past q) es < left from es
+          gets_shorter = fewer_left from (past q) further es (q, done.at.0) place_in_range.0 place_in_range.1 (past-later q real)
+
+          -- what lies from the place on and before the next shape has this one
+          shape-of : (p : Place) → is_le (place_cmp q p) ≡ true → is_le (place_cmp (past q) p) ≡ false → q.shape ≡ p.shape
+          shape-of p reach before =
+              let one = squeezed (nat_cmp q.table p.table) _ _ reach before in
+              let two = squeezed (pattern_cmp q.shape p.shape) _ _ one.from one.past in
+              pattern-exact q.shape p.shape two.equal
+
+          pub goes_on : IsBestBefore (past q) (best_of n x (range_of n (projected q.shape x) es) found)
+          goes_on = record {
+            some = done.some ++ more;
+            is_best = best-all n x done.some more found done.is_best;
+            inside = λ t i. elim (in-either t done.some more i) [ inl j ↦ done.inside t j | inr j ↦ from_range n (projected q.shape x) es t j ];
+            all = λ e i before c. by e i before c (done.all e i c);
+          }
+            where
+              more : List Slot
+              more = range_of n (projected q.shape x) es
+
+              by : (e : Place × Slot) → IsIn e es → is_le (place_cmp (past q) e.0) ≡ false → counts n x e.1 ≡ true → IsIn e.1 done.some ⊎ (is_le (place_cmp q e.0) ≡ true) → IsIn e.1 (done.some ++ more)
+              by e i before c (inl j) = in-left e.1 done.some more j
+              by e i before c (inr reach) =
+                  let p = pattern_of e.1.entry.matching in
+                  let shape : q.shape ≡ shape_of p = shape-of e.0 reach before ∙ ap (λ (r : Place). r.shape) (sym (placed e i)) in
+                  let states : p ≡ projected q.shape x = covered e.1.entry.matching x (second_so (e.1.entry.table == n) (covers e.1.entry.matching x) c) ∙ sym (shape-decides p x) ∙ ap (λ s. projected s x) (sym shape) in
+                  in-right e.1 done.some more (in_range next n (projected q.shape x) es kept.each e.1 (value-in e es i) (table-of e.1 c) states)

@@ -5,9 +5,9 @@ ghost use Rattle.std.specs.Map.{keys_of, values_of};
 ghost use Rattle.std.specs.Option.{option_copied, option_map};
 ghost use Rattle.pq_model.specs.SwitchMachine.{taken};
 ghost use Rattle.pq_switch.specs.Added.{AreKept, IsKept, entries_of, in_turn};
-ghost use Rattle.pq_switch.specs.Choice.{best_of, comes_before, counts, is_beaten, preferred};
+ghost use Rattle.pq_switch.specs.Choice.{best_of, best_of_few, comes_before, counts, is_beaten, preferred};
 ghost use Rattle.pq_switch.specs.Places.{place_cmp};
-ghost use Rattle.pq_switch.specs.Ranges.{first_from, in_table, range_of};
+ghost use Rattle.pq_switch.specs.Ranges.{onward, range_of};
 
 use crate::entry::{Entry, Slot};
 use crate::pattern::Pattern;
@@ -15,10 +15,13 @@ use crate::place::Place;
 use pq_model::Tagged;
 use std::collections::BTreeMap;
 
+/// The most entries that are compared one by one before a whole shape is passed at once.
+const FEW: u8 = 32;
+
 /// The covering entry of highest priority in a table; of several, the one added first.
 ///
-/// It looks for the shapes of the table's matches one after another, and in each for the one match of this shape that
-/// covers the packet (tuple space search; Srinivasan, Suri and Varghese, SIGCOMM 1999).
+/// The entries stand by shape. After a few entries it looks among those of the next shape for the one match that covers
+/// the packet, and goes on behind them (tuple space search; Srinivasan, Suri and Varghese, SIGCOMM 1999).
 pub(crate) fn best_in_table<'a>(
     slots: &'a BTreeMap<Place, Slot>,
     table: u8,
@@ -29,31 +32,43 @@ pub(crate) fn best_in_table<'a>(
 {
     let mut best = None;
     let mut from = Place::first(table);
-    while let Some(place) = next_place(slots, from) {
+    'shapes: loop {
+        let (found, behind) = best_of_few(slots, from, table, x, best);
+        let Some(place) = behind else {
+            return found;
+        };
         let pattern = place.shape.projected(&x.packet, x.vlan);
-        best = best_in(slots, table, pattern, x, best);
+        best = best_in(slots, table, pattern, x, found);
         from = Place {
             behind: true,
             ..place
         };
     }
-    best
 }
 
-// The first place of the same table from this one on.
-fn next_place(slots: &BTreeMap<Place, Slot>, from: Place) -> Option<Place>
-    ensures value { result ≡ in_table from.table (first_from from slots.now.entries) }
+// The best of a few entries of a table from a place on, and of the best so far; and the place of the next one.
+fn best_of_few<'a>(
+    slots: &'a BTreeMap<Place, Slot>,
+    from: Place,
+    table: u8,
+    x: &Tagged,
+    mut best: Option<&'a Slot>,
+) -> (Option<&'a Slot>, Option<Place>)
+    ensures value { (option_copied result.0, result.1) ≡ best_of_few 32 table x.now (onward from slots.now.entries) (option_copied best.entry) }
     ensures ordered { IsStrictlySortedBy place_cmp (keys_of slots.now.entries) }
 {
-    match slots.range(from..).next() {
-        Some((place, _)) => {
-            if place.table == from.table {
-                return Some(*place);
-            }
-            None
+    let mut left = FEW;
+    for (place, slot) in slots.range(from..) {
+        if place.table != table {
+            return (best, None);
         }
-        None => None,
+        if left == 0 {
+            return (best, Some(*place));
+        }
+        best = preferred(table, x, slot, best);
+        left -= 1;
     }
+    (best, None)
 }
 
 // The best of the covering entries of a table whose matches state this pattern, and the best so far.
