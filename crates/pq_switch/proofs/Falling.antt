@@ -7,7 +7,6 @@ use Rattle.std.specs.declared.cmp.Ordering.TheVariants.{Less, Equal, Greater}
 use Rattle.std.specs.declared.option.Option.{Option}
 use Rattle.std.specs.declared.option.Option.TheVariants.{None, Some}
 use Rattle.std.specs.Cmp.{first_so, second_so}
-use Rattle.std.specs.FinMap.{nat_cmp-IsAntisymmetric}
 use Rattle.std.specs.List.{AllByRecursion, filter}
 use Rattle.std.specs.List.Sorted.{IsStrictlySortedBy}
 use Rattle.std.specs.Map.{keys_of, values_of}
@@ -16,11 +15,11 @@ use Rattle.pq_model.specs.Tagged.{TaggedPacket}
 use Rattle.pq_switch.specs.Added.{IsKept, place_in}
 use Rattle.pq_switch.specs.Choice.{best_of, comes_before, counts, is_beaten}
 use Rattle.pq_switch.specs.Patterns.{shape_of}
-use Rattle.pq_switch.specs.Places.{pattern_cmp, place_at, place_cmp}
+use Rattle.pq_switch.specs.Places.{block_at, block_cmp, pattern_cmp, place_at, place_cmp}
 use Rattle.pq_switch.specs.declared.entry.Slot.{Slot}
 use Rattle.pq_switch.specs.declared.pattern.Pattern.{Pattern}
 use Rattle.pq_switch.specs.declared.place.Place.{Place}
-use Rattle.pq_switch.proofs.Places.{bool-exact, pattern-exact, place-exact}
+use Rattle.pq_switch.proofs.Places.{block-exact, bool-exact, pattern-exact, place-exact}
 use Rattle.pq_switch.proofs.Ranges.{by_down, lies}
 
 -- none has a higher priority than one before it
@@ -52,15 +51,15 @@ module _ (n : ℕ) (p : Pattern) where
   shaped q h =
       let from = first_so _ _ h in
       let past = not_true _ (second_so _ _ h) in
-      let one = squeezed (nat_cmp n q.table) _ _ from past in
+      let one = squeezed (block_cmp (block_at n p.in_port p.vlan) q.block) _ _ from past in
       let two = squeezed (pattern_cmp (shape_of p) q.shape) _ _ one.from one.past in
       let three = squeezed (bool_cmp false q.behind) _ _ two.from two.past in
       let four = squeezed (pattern_cmp p q.pattern) _ _ three.from three.past in
-      let table = nat_cmp-IsAntisymmetric n q.table one.equal in
+      let block = block-exact (block_at n p.in_port p.vlan) q.block one.equal in
       let shape = pattern-exact (shape_of p) q.shape two.equal in
       let behind = bool-exact false q.behind three.equal in
       let pattern = pattern-exact p q.pattern four.equal in
-      sym (λ i. record { table = table i; shape = shape i; behind = behind i; pattern = pattern i; down = q.down })
+      sym (λ i. record { block = block i; shape = shape i; behind = behind i; pattern = pattern i; down = q.down })
 
   lower : (q r : Place) → lies n p q ≡ true → lies n p r ≡ true → place_cmp q r ≡ Less → q.down ≤ r.down
   lower q r h k less =

@@ -17,8 +17,9 @@ use Rattle.pq_model.specs.MatchFields.{MatchFields, same_number, same_masked, sa
 use Rattle.pq_model.specs.Mods.{FlowValue}
 use Rattle.pq_model.specs.SwitchMachine.{Entry, is_placed}
 use Rattle.pq_switch.specs.Patterns.{no_pattern, pattern_of, shape_of}
-use Rattle.pq_switch.specs.Places.{first_of, pattern_cmp, place_cmp, place_of}
+use Rattle.pq_switch.specs.Places.{block_at, block_cmp, first_of, pattern_cmp, place_cmp, place_of}
 use Rattle.pq_switch.specs.declared.pattern.Pattern.{Pattern}
+use Rattle.pq_switch.specs.declared.place.Block.{Block}
 use Rattle.pq_switch.specs.declared.place.Place.{Place}
 
 pub number_total : IsTotalOrder (option_cmp nat_cmp)
@@ -37,9 +38,12 @@ pattern_total =
     (then_total (on_total (λ h. h.udp_src) number_total) (then_total (on_total (λ h. h.udp_dst) number_total)
     (then_total (on_total (λ h. h.ipv6_src) masked_total) (on_total (λ h. h.ipv6_dst) masked_total)))))))))))))
 
+pub block_total : IsTotalOrder block_cmp
+block_total = then_total (on_total (λ b. b.table) nat_cmp_total) (then_total (on_total (λ b. b.in_port) number_total) (on_total (λ b. b.vlan) number_total))
+
 pub place_cmp_total : IsTotalOrder place_cmp
 place_cmp_total =
-    then_total (on_total (λ p. p.table) nat_cmp_total) (then_total (on_total (λ p. p.shape) pattern_total)
+    then_total (on_total (λ p. p.block) block_total) (then_total (on_total (λ p. p.shape) pattern_total)
     (then_total (on_total (λ p. p.behind) bool_cmp_total) (then_total (on_total (λ p. p.pattern) pattern_total) (on_total (λ p. p.down) nat_cmp_total))))
 
 pub both_equal : (r s : Ordering) → is_eq (ordering_then r s) ≡ is_eq r && is_eq s
@@ -193,15 +197,23 @@ bool-exact false true h = less_is_not h
 bool-exact true false h = greater_is_not h
 bool-exact true true h = refl
 
+pub block-exact : (b c : Block) → block_cmp b c ≡ Equal → b ≡ c
+block-exact b c h =
+    let e = chain-each (nat_cmp b.table c.table) (option_cmp nat_cmp b.in_port c.in_port ∷ option_cmp nat_cmp b.vlan c.vlan ∷ []) h in
+    let table = nat_cmp-IsAntisymmetric b.table c.table e.0 in
+    let in_port = number-exact b.in_port c.in_port e.1.0 in
+    let vlan = number-exact b.vlan c.vlan e.1.1.0 in
+    λ i. record { table = table i; in_port = in_port i; vlan = vlan i }
+
 pub place-exact : (p q : Place) → place_cmp p q ≡ Equal → p ≡ q
 place-exact p q h =
-    let e = chain-each (nat_cmp p.table q.table) (pattern_cmp p.shape q.shape ∷ bool_cmp p.behind q.behind ∷ pattern_cmp p.pattern q.pattern ∷ nat_cmp p.down q.down ∷ []) h in
-    let table = nat_cmp-IsAntisymmetric p.table q.table e.0 in
+    let e = chain-each (block_cmp p.block q.block) (pattern_cmp p.shape q.shape ∷ bool_cmp p.behind q.behind ∷ pattern_cmp p.pattern q.pattern ∷ nat_cmp p.down q.down ∷ []) h in
+    let block = block-exact p.block q.block e.0 in
     let shape = pattern-exact p.shape q.shape e.1.0 in
     let behind = bool-exact p.behind q.behind e.1.1.0 in
     let pattern = pattern-exact p.pattern q.pattern e.1.1.1.0 in
     let down = nat_cmp-IsAntisymmetric p.down q.down e.1.1.1.1.0 in
-    λ i. record { table = table i; shape = shape i; behind = behind i; pattern = pattern i; down = down i }
+    λ i. record { block = block i; shape = shape i; behind = behind i; pattern = pattern i; down = down i }
 
 -- the first place of a table
 
@@ -264,35 +276,51 @@ false-first true = refl
 zero-first : (n : ℕ) → is_le (nat_cmp 0 n) ≡ true
 zero-first n = grind (arith, nat_tests)
 
-pub first_of-first : (n : ℕ) (q : Place) → q.table ≡ n → is_le (place_cmp (first_of n) q) ≡ true
-first_of-first n q table = chain-le (nat_cmp n q.table) (pattern_cmp no_pattern q.shape ∷ bool_cmp false q.behind ∷ pattern_cmp no_pattern q.pattern ∷ nat_cmp 0 q.down ∷ [])
-    (ap (λ t. is_le (nat_cmp n t)) table ∙ ap is_le (tied_itself nat_cmp_total n), (no_pattern-first q.shape, (false-first q.behind, (no_pattern-first q.pattern, (zero-first q.down, tt)))))
+pub first_of-first : (b : Block) (q : Place) → q.block ≡ b → is_le (place_cmp (first_of b) q) ≡ true
+first_of-first b q block = chain-le (block_cmp b q.block) (pattern_cmp no_pattern q.shape ∷ bool_cmp false q.behind ∷ pattern_cmp no_pattern q.pattern ∷ nat_cmp 0 q.down ∷ [])
+    (ap (λ c. is_le (block_cmp b c)) block ∙ ap is_le (tied_itself block_total b), (no_pattern-first q.shape, (false-first q.behind, (no_pattern-first q.pattern, (zero-first q.down, tt)))))
 
 downs : (p q : ℕ) → p < 0x10000 → q < 0x10000 → is_eq (nat_cmp (0x10000 - p) (0x10000 - q)) ≡ (p == q)
 downs p q a b = grind (arith, nat_tests)
 
+same_patterns : (m n : MatchFields) → same_match m n ≡ true → pattern_of m ≡ pattern_of n
+same_patterns m n h = pattern-exact (pattern_of m) (pattern_of n) ((Equal-is (pattern_cmp (pattern_of m) (pattern_of n))).0 (pattern-equal m n ∙ h))
+
 -- a pattern has one shape
 one_shape : (m n : MatchFields) → same_match m n ≡ true → is_eq (pattern_cmp (shape_of (pattern_of m)) (shape_of (pattern_of n))) ≡ true
 one_shape m n h =
-    let same = pattern-exact (pattern_of m) (pattern_of n) ((Equal-is (pattern_cmp (pattern_of m) (pattern_of n))).0 (pattern-equal m n ∙ h)) in
-    ap (λ p. is_eq (pattern_cmp (shape_of (pattern_of m)) (shape_of p))) (sym same) ∙ ap is_eq (tied_itself pattern_total (shape_of (pattern_of m)))
+    ap (λ p. is_eq (pattern_cmp (shape_of (pattern_of m)) (shape_of p))) (sym (same_patterns m n h)) ∙ ap is_eq (tied_itself pattern_total (shape_of (pattern_of m)))
 
-shuffled : (t s r p : Bool) → (r ≡ true → s ≡ true) → t && (s && (true && (r && p))) ≡ t && p && r
-shuffled false s r p h = refl
-shuffled true true true true h = refl
-shuffled true true true false h = refl
-shuffled true true false true h = refl
-shuffled true true false false h = refl
-shuffled true false true p h = absurd (true≢false (sym (h refl)))
-shuffled true false false true h = refl
-shuffled true false false false h = refl
+abbrev ends_equal : Pattern → Pattern → Bool
+ends_equal p q = is_eq (option_cmp nat_cmp p.in_port q.in_port) && is_eq (option_cmp nat_cmp p.vlan q.vlan)
+
+one_end : (m n : MatchFields) → same_match m n ≡ true → ends_equal (pattern_of m) (pattern_of n) ≡ true
+one_end m n h =
+    ap (ends_equal (pattern_of m)) (sym (same_patterns m n h))
+    ∙ (λ i. is_eq (tied_itself number_total m.in_port i) && is_eq (tied_itself number_total m.vlan i))
+
+shuffled : (t e s r p : Bool) → (r ≡ true → e ≡ true) → (r ≡ true → s ≡ true) → (t && e) && (s && (true && (r && p))) ≡ t && p && r
+shuffled false e s r p g h = refl
+shuffled true true true true true g h = refl
+shuffled true true true true false g h = refl
+shuffled true true true false true g h = refl
+shuffled true true true false false g h = refl
+shuffled true true false true p g h = absurd (true≢false (sym (h refl)))
+shuffled true true false false true g h = refl
+shuffled true true false false false g h = refl
+shuffled true false s true p g h = absurd (true≢false (sym (g refl)))
+shuffled true false s false true g h = refl
+shuffled true false s false false g h = refl
 
 -- two places are the same exactly where the tables, the matches and the priorities are
 places-equal : (t u : ℕ) (m n : MatchFields) (p q : ℕ) → p < 0x10000 → q < 0x10000 → is_eq (place_cmp (place_of t m p) (place_of u n q)) ≡ (t == u) && (p == q) && same_match m n
 places-equal t u m n p q a b =
-    chain-equal (nat_cmp t u) (pattern_cmp (shape_of (pattern_of m)) (shape_of (pattern_of n)) ∷ bool_cmp false false ∷ pattern_cmp (pattern_of m) (pattern_of n) ∷ nat_cmp (0x10000 - p) (0x10000 - q) ∷ [])
-    ∙ (λ i. same_numbers t u i && (is_eq (pattern_cmp (shape_of (pattern_of m)) (shape_of (pattern_of n))) && (true && (pattern-equal m n i && downs p q a b i))))
-    ∙ shuffled (t == u) (is_eq (pattern_cmp (shape_of (pattern_of m)) (shape_of (pattern_of n)))) (same_match m n) (p == q) (one_shape m n)
+    chain-equal (block_cmp (block_at t m.in_port m.vlan) (block_at u n.in_port n.vlan)) (pattern_cmp (shape_of (pattern_of m)) (shape_of (pattern_of n)) ∷ bool_cmp false false ∷ pattern_cmp (pattern_of m) (pattern_of n) ∷ nat_cmp (0x10000 - p) (0x10000 - q) ∷ [])
+    ∙ (λ i. block i && (is_eq (pattern_cmp (shape_of (pattern_of m)) (shape_of (pattern_of n))) && (true && (pattern-equal m n i && downs p q a b i))))
+    ∙ shuffled (t == u) (ends_equal (pattern_of m) (pattern_of n)) (is_eq (pattern_cmp (shape_of (pattern_of m)) (shape_of (pattern_of n)))) (same_match m n) (p == q) (one_end m n) (one_shape m n)
+  where
+    block : is_eq (block_cmp (block_at t m.in_port m.vlan) (block_at u n.in_port n.vlan)) ≡ (t == u) && ends_equal (pattern_of m) (pattern_of n)
+    block = chain-equal (nat_cmp t u) (option_cmp nat_cmp m.in_port n.in_port ∷ option_cmp nat_cmp m.vlan n.vlan ∷ []) ∙ ap (λ c. c && ends_equal (pattern_of m) (pattern_of n)) (same_numbers t u)
 
 pub placed-equal : (f : FlowValue) (e : Entry) → f.priority < 0x10000 → e.priority < 0x10000 →
     is_eq (place_cmp (place_of f.table f.matching f.priority) (place_of e.table e.matching e.priority)) ≡ is_placed f e

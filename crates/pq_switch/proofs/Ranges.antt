@@ -5,20 +5,20 @@ use Rattle.std.specs.declared.cmp.Ordering.{Ordering}
 use Rattle.std.specs.declared.cmp.Ordering.TheVariants.{Less, Equal, Greater}
 use Rattle.std.specs.declared.ops.Bound.TheVariants.{Included, Excluded}
 use Rattle.std.specs.BTreeMap.Range.{range_contains}
-use Rattle.std.specs.Cmp.{alike_right, nat_cmp_total, tied_itself}
+use Rattle.std.specs.Cmp.{alike_right, tied_itself}
 use Rattle.std.specs.List.{AllByRecursion, filter}
 use Rattle.std.specs.Map.{values_of}
 use Rattle.std.specs.Ordering.{is_gt, is_le, nat_cmp, ordering_then}
 use Rattle.pq_model.specs.SwitchMachine.{Entry}
 use Rattle.pq_switch.specs.Added.{IsKept, place_in}
 use Rattle.pq_switch.specs.Patterns.{pattern_of, shape_of}
-use Rattle.pq_switch.specs.Places.{pattern_cmp, place_at, place_cmp}
+use Rattle.pq_switch.specs.Places.{block_at, block_cmp, pattern_cmp, place_at, place_cmp}
 use Rattle.pq_switch.specs.Ranges.{range_of}
 use Rattle.pq_switch.specs.declared.entry.Slot.{Slot}
 use Rattle.pq_switch.specs.declared.pattern.Pattern.{Pattern}
 use Rattle.pq_switch.specs.declared.place.Place.{Place}
-use Rattle.pq_switch.proofs.Choice.{IsIn}
-use Rattle.pq_switch.proofs.Places.{pattern_total, place-exact, place_cmp_total}
+use Rattle.pq_switch.specs.Choice.{IsIn}
+use Rattle.pq_switch.proofs.Places.{block_total, pattern_total, place-exact, place_cmp_total}
 
 module _ (n : ℕ) (p : Pattern) where
   abbrev pub lies : Place → Bool
@@ -28,7 +28,7 @@ module _ (n : ℕ) (p : Pattern) where
   joined_by r s t a b c u = λ i. ordering_then (a i) (ordering_then (b i) (ordering_then Equal (ordering_then (c i) u)))
 
   pub by_down : (a b : ℕ) → place_cmp (place_at n p a) (place_at n p b) ≡ nat_cmp a b
-  by_down a b = joined_by (nat_cmp n n) (pattern_cmp (shape_of p) (shape_of p)) (pattern_cmp p p) (tied_itself nat_cmp_total n) (tied_itself pattern_total (shape_of p)) (tied_itself pattern_total p) (nat_cmp a b)
+  by_down a b = joined_by (block_cmp (block_at n p.in_port p.vlan) (block_at n p.in_port p.vlan)) (pattern_cmp (shape_of p) (shape_of p)) (pattern_cmp p p) (tied_itself block_total (block_at n p.in_port p.vlan)) (tied_itself pattern_total (shape_of p)) (tied_itself pattern_total p) (nat_cmp a b)
 
   less : (a b : ℕ) → a < b → nat_cmp a b ≡ Less
   less a b h = grind (arith, nat_tests)

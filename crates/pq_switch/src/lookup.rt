@@ -5,13 +5,13 @@ ghost use Rattle.std.specs.Map.{keys_of, values_of};
 ghost use Rattle.std.specs.Option.{option_copied, option_map};
 ghost use Rattle.pq_model.specs.SwitchMachine.{taken};
 ghost use Rattle.pq_switch.specs.Added.{AreKept, IsKept, entries_of, in_turn};
-ghost use Rattle.pq_switch.specs.Choice.{best_of, best_of_few, comes_before, counts, is_beaten, preferred};
-ghost use Rattle.pq_switch.specs.Places.{place_cmp};
+ghost use Rattle.pq_switch.specs.Choice.{IsBestWith, best_of, best_of_few, comes_before, counts, is_beaten, preferred};
+ghost use Rattle.pq_switch.specs.Places.{block_at, place_cmp};
 ghost use Rattle.pq_switch.specs.Ranges.{onward, range_of};
 
 use crate::entry::{Entry, Slot};
-use crate::pattern::Pattern;
-use crate::place::Place;
+use crate::pattern::{Pattern, vlan_word};
+use crate::place::{Block, Place};
 use pq_model::Tagged;
 use std::collections::BTreeMap;
 
@@ -20,8 +20,7 @@ const FEW: u8 = 32;
 
 /// The covering entry of highest priority in a table; of several, the one added first.
 ///
-/// The entries stand by shape. After a few entries it looks among those of the next shape for the one match that covers
-/// the packet, and goes on behind them (tuple space search; Srinivasan, Suri and Varghese, SIGCOMM 1999).
+/// Its match states the packet's arriving port or none, and the packet's VLAN word or none.
 pub(crate) fn best_in_table<'a>(
     slots: &'a BTreeMap<Place, Slot>,
     table: u8,
@@ -30,10 +29,41 @@ pub(crate) fn best_in_table<'a>(
     requires { (next : ℕ) × AreKept next slots.now.entries }
     ensures { option_map (λ s. s.entry) (option_copied result) ≡ taken (entries_of (in_turn (values_of slots.now.entries))) table x.now }
 {
-    let mut best = None;
-    let mut from = Place::first(table);
+    let port = Some(x.packet.port);
+    let word = Some(vlan_word(x.vlan));
+    let best = best_in_block(slots, block(table, port, word), table, x, None);
+    let best = best_in_block(slots, block(table, port, None), table, x, best);
+    let best = best_in_block(slots, block(table, None, word), table, x, best);
+    best_in_block(slots, block(table, None, None), table, x, best)
+}
+
+fn block(table: u8, in_port: Option<u64>, vlan: Option<u64>) -> Block
+    ensures { result ≡ block_at table in_port vlan }
+{
+    Block {
+        table,
+        in_port,
+        vlan,
+    }
+}
+
+// The best of the covering entries of a block, and the best so far.
+//
+// The entries stand by shape. After a few entries it looks among those of the next shape for the one match that covers
+// the packet, and goes on behind them (tuple space search; Srinivasan, Suri and Varghese, SIGCOMM 1999).
+fn best_in_block<'a>(
+    slots: &'a BTreeMap<Place, Slot>,
+    block: Block,
+    table: u8,
+    x: &Tagged,
+    mut best: Option<&'a Slot>,
+) -> Option<&'a Slot>
+    requires { (next : ℕ) × AreKept next slots.now.entries }
+    ensures { IsBestWith table x.now slots.now.entries block (option_copied best.entry) (option_copied result) }
+{
+    let mut from = Place::first(block);
     'shapes: loop {
-        let (found, behind) = best_of_few(slots, from, table, x, best);
+        let (found, behind) = best_of_few(slots, from, block, table, x, best);
         let Some(place) = behind else {
             return found;
         };
@@ -46,20 +76,21 @@ pub(crate) fn best_in_table<'a>(
     }
 }
 
-// The best of a few entries of a table from a place on, and of the best so far; and the place of the next one.
+// The best of a few entries of a block from a place on, and of the best so far; and the place of the next one.
 fn best_of_few<'a>(
     slots: &'a BTreeMap<Place, Slot>,
     from: Place,
+    block: Block,
     table: u8,
     x: &Tagged,
     mut best: Option<&'a Slot>,
 ) -> (Option<&'a Slot>, Option<Place>)
-    ensures value { (option_copied result.0, result.1) ≡ best_of_few 32 table x.now (onward from slots.now.entries) (option_copied best.entry) }
+    ensures value { (option_copied result.0, result.1) ≡ best_of_few 32 block table x.now (onward from slots.now.entries) (option_copied best.entry) }
     ensures ordered { IsStrictlySortedBy place_cmp (keys_of slots.now.entries) }
 {
     let mut left = FEW;
     for (place, slot) in slots.range(from..) {
-        if place.table != table {
+        if !place.is_in(block) {
             return (best, None);
         }
         if left == 0 {

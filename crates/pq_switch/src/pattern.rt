@@ -8,8 +8,8 @@ use pq_model::Match;
 /// What a match states: a number for each field, and for an address its mask too.
 #[derive(Clone, Copy, PartialEq, Eq, PartialOrd, Ord)]
 pub(crate) struct Pattern {
-    in_port: Option<u64>,
-    vlan: Option<u64>,
+    pub(crate) in_port: Option<u64>,
+    pub(crate) vlan: Option<u64>,
     eth_type: Option<u64>,
     ip_proto: Option<u64>,
     eth_src: Option<u64>,
@@ -110,8 +110,8 @@ impl Pattern {
     }
 }
 
-// The VLAN_VID word of a packet: 0 without a header (OpenFlow 1.3.5, section 7.2.3.7).
-fn vlan_word(vlan: Option<u16>) -> u64
+/// The VLAN_VID word of a packet: 0 without a header (OpenFlow 1.3.5, section 7.2.3.7).
+pub(crate) fn vlan_word(vlan: Option<u16>) -> u64
     ensures { result ≡ vlan_word vlan }
 {
     match vlan {

@@ -1,16 +1,26 @@
 ghost use Rattle.std.specs.Prelude.{◌≡◌, ◌<◌};
-ghost use Rattle.pq_switch.specs.Places.{first_of, place_at, place_of};
+ghost use Rattle.std.specs.Ordering.{is_eq};
+ghost use Rattle.pq_switch.specs.Places.{block_cmp, first_of, place_at, place_of};
 
 use crate::pattern::Pattern;
 use pq_model::Match;
+use std::cmp::Ordering;
+
+/// The table of an entry, and the arriving port and the VLAN word that its match states.
+#[derive(Clone, Copy, PartialEq, Eq, PartialOrd, Ord)]
+pub(crate) struct Block {
+    pub(crate) table: u8,
+    pub(crate) in_port: Option<u64>,
+    pub(crate) vlan: Option<u64>,
+}
 
 /// The place of an entry: no two entries have the same.
 ///
-/// Places are ordered so that the entries of a table whose matches have the same shape stand together, and of these the
+/// Places are ordered so that the entries of a block whose matches have the same shape stand together, and of these the
 /// entries of one match by falling priority.
 #[derive(Clone, Copy, PartialEq, Eq, PartialOrd, Ord)]
 pub(crate) struct Place {
-    pub(crate) table: u8,
+    pub(crate) block: Block,
     pub(crate) shape: Pattern,
     /// Not so for an entry: a place behind all entries of its shape.
     pub(crate) behind: bool,
@@ -34,7 +44,11 @@ impl Place {
         ensures { result ≡ place_at table pattern down }
     {
         Place {
-            table,
+            block: Block {
+                table,
+                in_port: pattern.in_port,
+                vlan: pattern.vlan,
+            },
             shape: pattern.shape(),
             behind: false,
             pattern,
@@ -42,16 +56,23 @@ impl Place {
         }
     }
 
-    /// The place before all entries of a table.
-    pub(crate) fn first(table: u8) -> Place
-        ensures { result ≡ first_of table }
+    /// The place before all entries of a block.
+    pub(crate) fn first(block: Block) -> Place
+        ensures { result ≡ first_of block }
     {
         Place {
-            table,
+            block,
             shape: Pattern::NONE,
             behind: false,
             pattern: Pattern::NONE,
             down: 0,
         }
+    }
+
+    /// Whether the place is in the block.
+    pub(crate) fn is_in(&self, block: Block) -> bool
+        ensures { result ≡ is_eq (block_cmp self.now.block block) }
+    {
+        matches!(self.block.cmp(&block), Ordering::Equal)
     }
 }

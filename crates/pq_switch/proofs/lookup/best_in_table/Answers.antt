@@ -1,50 +1,27 @@
-use Rattle.std.proofs.Common.{◌≡◌, ap, sym, subst, ◌∙◌}
+use Rattle.std.proofs.Common.{◌≡◌, ap, subst, ◌∙◌}
+use Rattle.std.specs.declared.option.Option.TheVariants.{None, Some}
 use Rattle.std.specs.Option.{option_copied}
-use Rattle.pq_switch.specs.Choice.{best_of}
-use Rattle.pq_switch.specs.Patterns.{projected}
-use Rattle.pq_switch.specs.Places.{past}
-use Rattle.pq_switch.specs.Ranges.{range_of}
-use Rattle.pq_switch.specs.declared.place.Place.{Place}
-use Rattle.pq_switch.proofs.Scan.{IsBestBefore, begins, ends, gets_shorter, goes_on, table_stays}
+use Rattle.pq_model.specs.declared.tagged.Tagged.TheInside.{Inside}
+use Rattle.pq_model.specs.MatchFields.{vlan_word}
+use Rattle.pq_model.specs.Tagged.{TaggedPacket}
+use Rattle.pq_switch.specs.Choice.{IsBestWith}
+use Rattle.pq_switch.specs.Places.{block_at}
+use Rattle.pq_switch.proofs.Scan.{best_of_blocks}
 use Rattle.pq_switch.proofs.lookup.best_in_table.Goals as goal
 
-pub shapes-init : goal.shapes-init
-shapes-init c =
-    let n = c.args.table in
-    let es = c.args.slots.now.entries in
-    record {
-      table = ap (λ (q : Place). q.table) c.first-from.ensures;
-      best = subst (λ q. IsBestBefore n c.args.x.now es q _) (sym c.first-from.ensures) (begins n c.args.x.now es c.requires.0 c.requires.1);
-    }
-
-pub returns-in_default : goal.returns-in_default
-returns-in_default c =
-    let n = c.args.table in
-    let es = c.args.slots.now.entries in
-    let found = option_copied c.best_of_few-behind.result.0 in
-    let is = sym c.best_of_few-behind.ensures.value ∙ ap (λ q. (found, q)) c.in_default.is in
-    sym (ends n c.args.x.now es c.requires.0 c.requires.1 c.best_of_few-behind.ensures.ordered c.shapes.from c.shapes.invariant.table (option_copied c.shapes.best) c.shapes.invariant.best 32 found is)
-
-pub shapes-smaller : goal.shapes-smaller
-shapes-smaller c =
-    let n = c.args.table in
-    let es = c.args.slots.now.entries in
-    let found = option_copied c.best_of_few-behind.result.0 in
-    let is = sym c.best_of_few-behind.ensures.value ∙ ap (λ q. (found, q)) c.in-Some.is in
-    gets_shorter n c.args.x.now es c.requires.0 c.requires.1 c.best_of_few-behind.ensures.ordered c.shapes.from c.shapes.invariant.table (option_copied c.shapes.best) c.shapes.invariant.best 32 found c.in-Some.place is
-
-pub shapes-preserved : goal.shapes-preserved
-shapes-preserved c =
+pub returns : goal.returns
+returns c =
     let n = c.args.table in
     let x = c.args.x.now in
     let es = c.args.slots.now.entries in
-    let q = c.in-Some.place in
-    let found = option_copied c.best_of_few-behind.result.0 in
-    let is = sym c.best_of_few-behind.ensures.value ∙ ap (λ p. (found, p)) c.in-Some.is in
-    let pattern : c.projected-pattern.result ≡ projected q.shape x = c.projected-pattern.ensures ∙ ap (projected q.shape) c.x.view_is in
-    let best = c.best_in-best.ensures ∙ ap (λ p. best_of n x (range_of n p es) found) pattern in
-    record {
-      table = table_stays n x es c.requires.0 c.requires.1 c.best_of_few-behind.ensures.ordered c.shapes.from c.shapes.invariant.table (option_copied c.shapes.best) c.shapes.invariant.best 32 found q is;
-      best = subst (IsBestBefore n x es (past q)) (sym best)
-          (goes_on n x es c.requires.0 c.requires.1 c.best_of_few-behind.ensures.ordered c.shapes.from c.shapes.invariant.table (option_copied c.shapes.best) c.shapes.invariant.best 32 found q is);
-    }
+    let port = ap (λ (y : Inside). y.packet.port) c.x-inside.view_is ∙ ap (λ (y : TaggedPacket). y.packet.port) c.x.view_is in
+    let word = c.vlan_word.ensures ∙ ap (λ (y : Inside). vlan_word y.vlan) c.x-inside.view_is ∙ ap (λ (y : TaggedPacket). vlan_word y.vlan) c.x.view_is in
+    let one = option_copied c.best_in_block-best.result in
+    let two = option_copied c.best_in_block-best-2.result in
+    let three = option_copied c.best_in_block-best-3.result in
+    let four = option_copied c.best_in_block.result in
+    best_of_blocks n x es c.requires.0 c.requires.1 one two three four
+    (subst (λ b. IsBestWith n x es b None one) (c.block.ensures ∙ (λ i. block_at n (Some (port i)) (Some (word i)))) c.best_in_block-best.ensures)
+    (subst (λ b. IsBestWith n x es b one two) (c.block-2.ensures ∙ (λ i. block_at n (Some (port i)) None)) c.best_in_block-best-2.ensures)
+    (subst (λ b. IsBestWith n x es b two three) (c.block-3.ensures ∙ (λ i. block_at n None (Some (word i)))) c.best_in_block-best-3.ensures)
+    (subst (λ b. IsBestWith n x es b three four) c.block-4.ensures c.best_in_block.ensures)
