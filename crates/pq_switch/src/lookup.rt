@@ -31,10 +31,10 @@ pub(crate) fn best_in_table<'a>(
 {
     let port = Some(x.packet.port);
     let word = Some(vlan_word(x.vlan));
-    let best = best_in_block(slots, block(table, port, word), table, x, None);
-    let best = best_in_block(slots, block(table, port, None), table, x, best);
-    let best = best_in_block(slots, block(table, None, word), table, x, best);
-    best_in_block(slots, block(table, None, None), table, x, best)
+    let best = best_in_block(slots, block(table, port, word), x, None);
+    let best = best_in_block(slots, block(table, port, None), x, best);
+    let best = best_in_block(slots, block(table, None, word), x, best);
+    best_in_block(slots, block(table, None, None), x, best)
 }
 
 fn block(table: u8, in_port: Option<u64>, vlan: Option<u64>) -> Block
@@ -54,21 +54,20 @@ fn block(table: u8, in_port: Option<u64>, vlan: Option<u64>) -> Block
 fn best_in_block<'a>(
     slots: &'a BTreeMap<Place, Slot>,
     block: Block,
-    table: u8,
     x: &Tagged,
     mut best: Option<&'a Slot>,
 ) -> Option<&'a Slot>
     requires { (next : ℕ) × AreKept next slots.now.entries }
-    ensures { IsBestWith table x.now slots.now.entries block (option_copied best.entry) (option_copied result) }
+    ensures { IsBestWith block.table x.now slots.now.entries block (option_copied best.entry) (option_copied result) }
 {
     let mut from = Place::first(block);
     'shapes: loop {
-        let (found, behind) = best_of_few(slots, from, block, table, x, best);
+        let (found, behind) = best_of_few(slots, from, block, x, best);
         let Some(place) = behind else {
             return found;
         };
         let pattern = place.shape.projected(&x.packet, x.vlan);
-        best = best_in(slots, table, pattern, x, found);
+        best = best_in(slots, block.table, pattern, x, found);
         from = Place {
             behind: true,
             ..place
@@ -81,11 +80,10 @@ fn best_of_few<'a>(
     slots: &'a BTreeMap<Place, Slot>,
     from: Place,
     block: Block,
-    table: u8,
     x: &Tagged,
     mut best: Option<&'a Slot>,
 ) -> (Option<&'a Slot>, Option<Place>)
-    ensures value { (option_copied result.0, result.1) ≡ best_of_few 32 block table x.now (onward from slots.now.entries) (option_copied best.entry) }
+    ensures value { (option_copied result.0, result.1) ≡ best_of_few 32 block block.table x.now (onward from slots.now.entries) (option_copied best.entry) }
     ensures ordered { IsStrictlySortedBy place_cmp (keys_of slots.now.entries) }
 {
     let mut left = FEW;
@@ -96,7 +94,7 @@ fn best_of_few<'a>(
         if left == 0 {
             return (best, Some(*place));
         }
-        best = preferred(table, x, slot, best);
+        best = preferred(block.table, x, slot, best);
         left -= 1;
     }
     (best, None)

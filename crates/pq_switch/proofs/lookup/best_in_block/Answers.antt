@@ -10,7 +10,7 @@ use Rattle.pq_switch.proofs.lookup.best_in_block.Goals as goal
 
 pub shapes-init : goal.shapes-init
 shapes-init c =
-    let n = c.args.table in
+    let n = c.args.block.table in
     let x = c.args.x.now in
     let b = c.args.block in
     let es = c.args.slots.now.entries in
@@ -22,7 +22,7 @@ shapes-init c =
 
 pub returns-in_default : goal.returns-in_default
 returns-in_default c = λ start sub is_best.
-    let n = c.args.table in
+    let n = c.args.block.table in
     let x = c.args.x.now in
     let b = c.args.block in
     let es = c.args.slots.now.entries in
@@ -33,7 +33,7 @@ returns-in_default c = λ start sub is_best.
 
 pub shapes-smaller : goal.shapes-smaller
 shapes-smaller c =
-    let n = c.args.table in
+    let n = c.args.block.table in
     let x = c.args.x.now in
     let b = c.args.block in
     let es = c.args.slots.now.entries in
@@ -43,7 +43,7 @@ shapes-smaller c =
 
 pub shapes-preserved : goal.shapes-preserved
 shapes-preserved c =
-    let n = c.args.table in
+    let n = c.args.block.table in
     let x = c.args.x.now in
     let b = c.args.block in
     let es = c.args.slots.now.entries in
