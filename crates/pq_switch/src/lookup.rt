@@ -16,7 +16,7 @@ use pq_model::Tagged;
 use std::collections::BTreeMap;
 
 /// The most entries that are compared one by one before a whole shape is passed at once.
-const FEW: u8 = 32;
+const FEW: u8 = 128;
 
 /// The covering entry of highest priority in a table; of several, the one added first.
 ///
@@ -83,7 +83,7 @@ fn best_of_few<'a>(
     x: &Tagged,
     mut best: Option<&'a Slot>,
 ) -> (Option<&'a Slot>, Option<Place>)
-    ensures value { (option_copied result.0, result.1) ≡ best_of_few 32 block block.table x.now (onward from slots.now.entries) (option_copied best.entry) }
+    ensures value { (option_copied result.0, result.1) ≡ best_of_few 128 block block.table x.now (onward from slots.now.entries) (option_copied best.entry) }
     ensures ordered { IsStrictlySortedBy place_cmp (keys_of slots.now.entries) }
 {
     let mut left = FEW;

@@ -29,7 +29,7 @@ returns-in_default c = λ start sub is_best.
     let found = option_copied c.best_of_few-behind.result.0 in
     let is = sym c.best_of_few-behind.ensures.value ∙ ap (λ q. (found, q)) c.in_default.is in
     let so_far = c.shapes.invariant.best start sub is_best in
-    ends n x es start b c.requires.0 c.requires.1 c.best_of_few-behind.ensures.ordered c.shapes.from c.shapes.invariant.block (option_copied c.shapes.best) so_far 32 found is
+    ends n x es start b c.requires.0 c.requires.1 c.best_of_few-behind.ensures.ordered c.shapes.from c.shapes.invariant.block (option_copied c.shapes.best) so_far 128 found is
 
 pub shapes-smaller : goal.shapes-smaller
 shapes-smaller c =
@@ -39,7 +39,7 @@ shapes-smaller c =
     let es = c.args.slots.now.entries in
     let found = option_copied c.best_of_few-behind.result.0 in
     let is = sym c.best_of_few-behind.ensures.value ∙ ap (λ q. (found, q)) c.in-Some.is in
-    gets_shorter n x es [] b c.requires.0 c.requires.1 c.shapes.from (option_copied c.shapes.best) 32 found c.in-Some.place is
+    gets_shorter n x es [] b c.requires.0 c.requires.1 c.shapes.from (option_copied c.shapes.best) 128 found c.in-Some.place is
 
 pub shapes-preserved : goal.shapes-preserved
 shapes-preserved c =
@@ -53,8 +53,8 @@ shapes-preserved c =
     let pattern : c.projected-pattern.result ≡ projected q.shape x = c.projected-pattern.ensures ∙ ap (projected q.shape) c.x.view_is in
     let best = c.best_in-best.ensures ∙ ap (λ p. best_of n x (range_of n p es) found) pattern in
     record {
-      block = block_stays n x es [] b c.requires.0 c.requires.1 c.shapes.from (option_copied c.shapes.best) 32 found q is;
+      block = block_stays n x es [] b c.requires.0 c.requires.1 c.shapes.from (option_copied c.shapes.best) 128 found q is;
       best = λ start sub is_best.
           subst (IsBestBefore n x es start b (past q)) (sym best)
-          (goes_on n x es start b c.requires.0 c.requires.1 c.best_of_few-behind.ensures.ordered c.shapes.from c.shapes.invariant.block (option_copied c.shapes.best) (c.shapes.invariant.best start sub is_best) 32 found q is);
+          (goes_on n x es start b c.requires.0 c.requires.1 c.best_of_few-behind.ensures.ordered c.shapes.from c.shapes.invariant.block (option_copied c.shapes.best) (c.shapes.invariant.best start sub is_best) 128 found q is);
     }
