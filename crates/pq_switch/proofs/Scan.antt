@@ -9,11 +9,10 @@ use Rattle.std.specs.declared.option.Option.{Option}
 use Rattle.std.specs.declared.option.Option.TheVariants.{None, Some}
 use Rattle.std.specs.BTreeMap.Range.{entries_between}
 use Rattle.std.specs.Cmp.{Equal-is, first_so, nat_cmp_total, second_so, tied_itself}
-use Rattle.std.specs.FinMap.{nat_cmp-IsAntisymmetric}
 use Rattle.std.specs.List.{AllByRecursion, filter}
 use Rattle.std.specs.List.Sorted.{IsStrictlySortedBy}
 use Rattle.std.specs.Map.{keys_of, values_of}
-use Rattle.std.specs.Option.{is_some, option_map}
+use Rattle.std.specs.Option.{option_map}
 use Rattle.std.specs.Ordering.{bool_cmp, is_eq, is_le, nat_cmp, ordering_reverse, ordering_then}
 use Rattle.pq_model.specs.MatchFields.{covers, vlan_word}
 use Rattle.pq_model.specs.SwitchMachine.{Entry, taken}
@@ -32,13 +31,6 @@ use Rattle.pq_switch.proofs.Falling.{squeezed}
 use Rattle.pq_switch.proofs.Patterns.{covered, shape-decides}
 use Rattle.pq_switch.proofs.Places.{block-exact, block_total, first_of-first, pattern-exact, pattern_total, place-exact, place_cmp_total}
 use Rattle.pq_switch.proofs.Ranges.{from_range, in_range}
-
-some_is_no_none : {A B : Type 0} (x : A) → Some x ≡ None → B
-some_is_no_none x e = absurd (true≢false (ap is_some e))
-
-abbrev value_of : {A : Type 0} → A → Option A → A
-value_of d None = d
-value_of d (Some x) = x
 
 all-in : {A : Type 0} (P : A → Type 0) (x : A) (xs : List A) → AllByRecursion P xs → IsIn x xs → P x
 all-in P x [] all i = absurd i
@@ -64,11 +56,6 @@ under : (t : Slot) (es : List (Place × Slot)) → IsIn t (values_of es) → IsU
 under t [] i = absurd i
 under t (e ∷ es) (inl is) = record { at = e.0; among = inl (λ i. (e.0, is i)) }
 under t (e ∷ es) (inr i) = let more = under t es i in record { at = more.at; among = inr more.among }
-
--- a <= b
-
-reaches : Place → Place → Bool
-reaches p q = is_le (place_cmp p q)
 
 le-Equal : (r : Ordering) → r ≡ Equal → is_le r ≡ true
 le-Equal r e = ap is_le e
