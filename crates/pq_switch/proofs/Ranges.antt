@@ -1,11 +1,11 @@
 -- The entries of a table whose matches state one pattern stand in one range of places.
-use Rattle.std.proofs.Common.{◌≡◌, ℕ, ◌-◌, ◌<◌, Bool, true, false, not, cond, ◌&&◌, List, [], ◌∷◌, refl, sym, ap, subst, ◌∙◌, arith, inl, inr}
+use Rattle.std.proofs.Common.{◌≡◌, ℕ, ◌-◌, ◌<◌, Bool, true, false, not, cond, ◌&&◌, List, [], ◌∷◌, sym, ap, subst, ◌∙◌, arith, inl, inr}
 use Rattle.std.proofs.lemmas.Bool.Decides.{nat_tests}
 use Rattle.std.specs.declared.cmp.Ordering.{Ordering}
 use Rattle.std.specs.declared.cmp.Ordering.TheVariants.{Less, Equal, Greater}
 use Rattle.std.specs.declared.ops.Bound.TheVariants.{Included, Excluded}
 use Rattle.std.specs.BTreeMap.Range.{range_contains}
-use Rattle.std.specs.Cmp.{alike_right, tied_itself}
+use Rattle.std.specs.Cmp.{tied_itself}
 use Rattle.std.specs.List.{AllByRecursion, filter}
 use Rattle.std.specs.Map.{values_of}
 use Rattle.std.specs.Ordering.{is_gt, is_le, nat_cmp, ordering_then}
@@ -18,7 +18,7 @@ use Rattle.pq_switch.specs.declared.entry.Slot.{Slot}
 use Rattle.pq_switch.specs.declared.pattern.Pattern.{Pattern}
 use Rattle.pq_switch.specs.declared.place.Place.{Place}
 use Rattle.pq_switch.specs.Choice.{IsIn}
-use Rattle.pq_switch.proofs.Places.{block_total, pattern_total, place-exact, place_cmp_total}
+use Rattle.pq_switch.proofs.Places.{block_total, pattern_total, place-exact}
 
 module _ (n : ℕ) (p : Pattern) where
   abbrev pub lies : Place → Bool

@@ -4,18 +4,16 @@ use Rattle.std.proofs.lemmas.Bool.{true≢false}
 use Rattle.std.proofs.lemmas.Bool.Decides.{nat_tests}
 use Rattle.std.specs.declared.cmp.Ordering.{Ordering}
 use Rattle.std.specs.declared.cmp.Ordering.TheVariants.{Less, Equal, Greater}
-use Rattle.std.specs.declared.ops.Bound.TheVariants.{Included, Unbounded}
 use Rattle.std.specs.declared.option.Option.{Option}
 use Rattle.std.specs.declared.option.Option.TheVariants.{None, Some}
-use Rattle.std.specs.BTreeMap.Range.{entries_between}
-use Rattle.std.specs.Cmp.{Equal-is, first_so, nat_cmp_total, second_so, tied_itself}
+use Rattle.std.specs.Cmp.{Equal-is, first_so, second_so, tied_itself}
 use Rattle.std.specs.List.{AllByRecursion, filter}
 use Rattle.std.specs.List.Sorted.{IsStrictlySortedBy}
 use Rattle.std.specs.Map.{keys_of, values_of}
 use Rattle.std.specs.Option.{option_map}
 use Rattle.std.specs.Ordering.{bool_cmp, is_eq, is_le, nat_cmp, ordering_reverse, ordering_then}
 use Rattle.pq_model.specs.MatchFields.{covers, vlan_word}
-use Rattle.pq_model.specs.SwitchMachine.{Entry, taken}
+use Rattle.pq_model.specs.SwitchMachine.{taken}
 use Rattle.pq_model.specs.Tagged.{TaggedPacket}
 use Rattle.pq_switch.specs.Added.{AreKept, IsKept, entries_of, in_turn, place_in}
 use Rattle.pq_switch.specs.Choice.{IsBest, IsBestOfMore, IsBestWith, IsIn, best_of, best_of_few, counts, preferred}

@@ -1,5 +1,5 @@
 -- The places of entries.
-use Rattle.std.specs.Prelude.{ℕ, Bool, true, false, ◌-◌}
+use Rattle.std.specs.Prelude.{ℕ, true, false, ◌-◌}
 use Rattle.std.specs.declared.cmp.Ordering.{Ordering}
 use Rattle.std.specs.declared.option.Option.{Option}
 use Rattle.pq_model.specs.MatchFields.{MatchFields}

@@ -1,13 +1,12 @@
 use Rattle.std.proofs.Common.{◌≡◌, ap, sym, subst, ◌∙◌}
 use Rattle.std.proofs.lemmas.Map.Iter.{rest_more}
 use Rattle.std.specs.declared.ops.Bound.TheVariants.{Included, Excluded}
-use Rattle.std.specs.BTreeMap.Range.{IsLeBy, entries_between}
+use Rattle.std.specs.BTreeMap.Range.{entries_between}
 use Rattle.std.specs.Map.{values_of}
 use Rattle.std.specs.Map.Iter.{deref_pair}
 use Rattle.std.specs.Option.{option_copied}
 use Rattle.pq_switch.specs.Choice.{best_of}
 use Rattle.pq_switch.specs.Places.{place_at, place_cmp}
-use Rattle.pq_switch.specs.Ranges.{range_of}
 use Rattle.pq_switch.proofs.Falling.{Falls, ends, falls}
 use Rattle.pq_switch.proofs.Ranges.{rises}
 use Rattle.pq_switch.proofs.lookup.best_in.Goals as goal

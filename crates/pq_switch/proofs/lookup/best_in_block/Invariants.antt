@@ -1,4 +1,4 @@
-use Rattle.std.proofs.Common.{◌≡◌, ℕ, List}
+use Rattle.std.proofs.Common.{◌≡◌, List}
 use Rattle.std.specs.Map.{values_of}
 use Rattle.std.specs.Option.{option_copied}
 use Rattle.pq_switch.specs.Choice.{IsBest, IsIn}

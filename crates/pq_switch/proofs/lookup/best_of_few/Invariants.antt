@@ -1,4 +1,4 @@
-use Rattle.std.proofs.Common.{◌≡◌, ℕ}
+use Rattle.std.proofs.Common.{◌≡◌}
 use Rattle.std.specs.Option.{option_copied}
 use Rattle.pq_switch.specs.Choice.{best_of_few}
 use Rattle.pq_switch.specs.Ranges.{onward}

@@ -1,4 +1,4 @@
-use Rattle.std.proofs.Common.{◌≡◌, ◌∙◌}
+use Rattle.std.proofs.Common.{◌∙◌}
 use Rattle.pq_switch.proofs.entries.Entries.taken.Goals as goal
 
 pub returns : goal.returns
