@@ -13,15 +13,10 @@ use Rattle.pq_model.specs.Tagged.{TaggedPacket}
 use Rattle.pq_model.specs.SwitchMachine.{Entry, better, taken}
 use Rattle.std.proofs.lemmas.List.{append-nil}
 use Rattle.pq_switch.specs.Added.{Climbs, entries_of, in_turn, turn}
-use Rattle.pq_switch.specs.Choice.{best_of, comes_before, counts, preferred}
+use Rattle.pq_switch.specs.Choice.{IsBest, IsIn, best_of, comes_before, counts, preferred}
 use Rattle.pq_switch.specs.declared.entry.Slot.{Slot}
 
 module _ {A : Type 0} where
-  -- one of these
-  abbrev pub IsIn : A → List A → Type 0
-  IsIn x [] = ⊥
-  IsIn x (y ∷ ys) = (x ≡ y) ⊎ IsIn x ys
-
   pub in-left : (x : A) (xs ys : List A) → IsIn x xs → IsIn x (xs ++ ys)
   in-left x [] ys h = absurd h
   in-left x (y ∷ xs) ys (inl e) = inl e
@@ -75,18 +70,13 @@ not_second true b h e = h
 not_second false b h e = absurd (true≢false (sym e))
 
 module _ (n : ℕ) (x : TaggedPacket) where
-  -- the best of these
-  abbrev pub IsBest : List Slot → Option Slot → Type 0
-  IsBest slots None = (t : Slot) → IsIn t slots → counts n x t ≡ false
-  IsBest slots (Some s) = IsIn s slots × (counts n x s ≡ true) × ((t : Slot) → IsIn t slots → counts n x t ≡ true → comes_before t s ≡ false)
-
   at_end : (t s : Slot) (slots : List Slot) → IsIn t (slots ++ s ∷ []) → IsIn t slots ⊎ (t ≡ s)
   at_end t s slots h = elim (in-either t slots (s ∷ []) h) [ inl i ↦ inl i | inr i ↦ elim i [ inl e ↦ inr e | inr none ↦ absurd none ] ]
 
-  best-more : (slots : List Slot) (s : Slot) (best : Option Slot) → IsBest slots best → IsBest (slots ++ s ∷ []) (preferred n x s best)
+  best-more : (slots : List Slot) (s : Slot) (best : Option Slot) → IsBest n x slots best → IsBest n x (slots ++ s ∷ []) (preferred n x s best)
   best-more slots s None h = by (counts n x s) refl
     where
-      by : (b : Bool) → counts n x s ≡ b → IsBest (slots ++ s ∷ []) (if b then Some s else None)
+      by : (b : Bool) → counts n x s ≡ b → IsBest n x (slots ++ s ∷ []) (if b then Some s else None)
       by true c = (
         in-right s slots (s ∷ []) (inl refl),
         c,
@@ -98,7 +88,7 @@ module _ (n : ℕ) (x : TaggedPacket) where
       by false c = λ t i. elim (at_end t s slots i) [ inl j ↦ h t j | inr e ↦ ap (counts n x) e ∙ c ]
   best-more slots s (Some best) h = by (counts n x s && comes_before s best) refl
     where
-      by : (b : Bool) → counts n x s && comes_before s best ≡ b → IsBest (slots ++ s ∷ []) (if b then Some s else Some best)
+      by : (b : Bool) → counts n x s && comes_before s best ≡ b → IsBest n x (slots ++ s ∷ []) (if b then Some s else Some best)
       by true c = (
         in-right s slots (s ∷ []) (inl refl),
         first_so _ _ c,
@@ -116,13 +106,13 @@ module _ (n : ℕ) (x : TaggedPacket) where
         ],
       )
 
-  pub best-all : (slots more : List Slot) (best : Option Slot) → IsBest slots best → IsBest (slots ++ more) (best_of n x more best)
-  best-all slots [] best h = subst (λ l. IsBest l best) (sym (append-nil slots)) h
+  pub best-all : (slots more : List Slot) (best : Option Slot) → IsBest n x slots best → IsBest n x (slots ++ more) (best_of n x more best)
+  best-all slots [] best h = subst (λ l. IsBest n x l best) (sym (append-nil slots)) h
   best-all slots (s ∷ more) best h =
-      subst (λ l. IsBest l (best_of n x more (preferred n x s best))) (append_assoc slots (s ∷ []) more) (best-all (slots ++ s ∷ []) more (preferred n x s best) (best-more slots s best h))
+      subst (λ l. IsBest n x l (best_of n x more (preferred n x s best))) (append_assoc slots (s ∷ []) more) (best-all (slots ++ s ∷ []) more (preferred n x s best) (best-more slots s best h))
 
   -- the best of some is the best of all of which they are those that count
-  pub best-among : (some all : List Slot) (best : Option Slot) → ((t : Slot) → IsIn t some → IsIn t all) → ((t : Slot) → IsIn t all → counts n x t ≡ true → IsIn t some) → IsBest some best → IsBest all best
+  pub best-among : (some all : List Slot) (best : Option Slot) → ((t : Slot) → IsIn t some → IsIn t all) → ((t : Slot) → IsIn t all → counts n x t ≡ true → IsIn t some) → IsBest n x some best → IsBest n x all best
   best-among some all None sub sup h = λ t i. by t i (counts n x t) refl
     where
       by : (t : Slot) → IsIn t all → (b : Bool) → counts n x t ≡ b → b ≡ false
@@ -163,12 +153,12 @@ module _ (n : ℕ) (x : TaggedPacket) where
   strictly_below : (y s : Slot) → comes_before y s ≡ false → y.sequence < s.sequence → nat_lt y.entry.priority s.entry.priority ≡ true
   strictly_below y s h k = grind (arith, nat_tests)
 
-  pub best-taken : (slots : List Slot) → Climbs slots → (best : Option Slot) → IsBest slots best → taken (entries_of slots) n x ≡ option_map (λ s. s.entry) best
+  pub best-taken : (slots : List Slot) → Climbs slots → (best : Option Slot) → IsBest n x slots best → taken (entries_of slots) n x ≡ option_map (λ s. s.entry) best
   best-taken [] climb None h = refl
   best-taken [] climb (Some s) h = absurd h.0
   best-taken (y ∷ slots) (above, climb) best h = by (counts n x y) refl best h (best-taken slots climb)
     where
-      by : (b : Bool) → counts n x y ≡ b → (best : Option Slot) → IsBest (y ∷ slots) best → ((o : Option Slot) → IsBest slots o → taken (entries_of slots) n x ≡ option_map (λ s. s.entry) o) →
+      by : (b : Bool) → counts n x y ≡ b → (best : Option Slot) → IsBest n x (y ∷ slots) best → ((o : Option Slot) → IsBest n x slots o → taken (entries_of slots) n x ≡ option_map (λ s. s.entry) o) →
           (if b then better y.entry (taken (entries_of slots) n x) else taken (entries_of slots) n x) ≡ option_map (λ s. s.entry) best
       by true c None h more = absurd (true≢false (sym c ∙ h y (inl refl)))
       by true c (Some s) h more = elim h.0 [
@@ -180,6 +170,6 @@ module _ (n : ℕ) (x : TaggedPacket) where
       by false c (Some s) h more = more (Some s) (elim h.0 as (λ _. IsIn s slots) [ inl e ↦ absurd (true≢false (sym h.1 ∙ ap (counts n x) e ∙ c)) | inr i ↦ i ], h.1, λ t j. h.2 t (inr j))
 
   -- the best of all is the one that a packet takes
-  pub best-is_taken : (slots : List Slot) → Climbs (in_turn slots) → (best : Option Slot) → IsBest slots best → taken (entries_of (in_turn slots)) n x ≡ option_map (λ s. s.entry) best
+  pub best-is_taken : (slots : List Slot) → Climbs (in_turn slots) → (best : Option Slot) → IsBest n x slots best → taken (entries_of (in_turn slots)) n x ≡ option_map (λ s. s.entry) best
   best-is_taken slots climb best h =
       best-taken (in_turn slots) climb best (best-among slots (in_turn slots) best (λ t. in-sorted turn t slots) (λ t i c. out-sorted turn t slots i) h)

@@ -1,25 +1,26 @@
 -- In a range of places the priorities fall.
-use Rattle.std.proofs.Common.{◌≡◌, ℕ, ◌-◌, ◌<◌, ◌≤◌, Bool, true, false, not, cond, ◌==◌, ◌&&◌, List, [], ◌∷◌, refl, sym, ap, ◌∙◌, arith}
+use Rattle.std.proofs.Common.{◌≡◌, ℕ, ◌-◌, ◌<◌, ◌≤◌, Bool, true, false, not, cond, ◌&&◌, List, [], ◌∷◌, refl, sym, ap, ◌∙◌, arith}
 use Rattle.std.proofs.lemmas.Bool.{true≢false}
 use Rattle.std.proofs.lemmas.Bool.Decides.{nat_tests}
 use Rattle.std.specs.declared.cmp.Ordering.{Ordering}
 use Rattle.std.specs.declared.cmp.Ordering.TheVariants.{Less, Equal, Greater}
 use Rattle.std.specs.declared.option.Option.{Option}
 use Rattle.std.specs.declared.option.Option.TheVariants.{None, Some}
-use Rattle.std.specs.Cmp.{first_so, nat_cmp_total, second_so}
+use Rattle.std.specs.Cmp.{first_so, second_so}
 use Rattle.std.specs.List.{AllByRecursion, filter}
 use Rattle.std.specs.List.Sorted.{IsStrictlySortedBy}
 use Rattle.std.specs.Map.{keys_of, values_of}
-use Rattle.std.specs.Option.{option_cmp}
-use Rattle.std.specs.Ordering.{is_eq, is_le, nat_cmp, ordering_then}
+use Rattle.std.specs.Ordering.{bool_cmp, is_le, nat_cmp, ordering_then}
 use Rattle.pq_model.specs.Tagged.{TaggedPacket}
 use Rattle.pq_switch.specs.Added.{IsKept, place_in}
 use Rattle.pq_switch.specs.Choice.{best_of, comes_before, counts, is_beaten}
-use Rattle.pq_switch.specs.Places.{headers_cmp, place_cmp}
+use Rattle.pq_switch.specs.Patterns.{shape_of}
+use Rattle.pq_switch.specs.Places.{block_at, block_cmp, pattern_cmp, place_at, place_cmp}
 use Rattle.pq_switch.specs.declared.entry.Slot.{Slot}
+use Rattle.pq_switch.specs.declared.pattern.Pattern.{Pattern}
 use Rattle.pq_switch.specs.declared.place.Place.{Place}
-use Rattle.pq_switch.proofs.Places.{both_equal, number_total, same_numbers}
-use Rattle.pq_switch.proofs.Ranges.{lies, ordered}
+use Rattle.pq_switch.proofs.Places.{block-exact, bool-exact, pattern-exact, place-exact}
+use Rattle.pq_switch.proofs.Ranges.{by_down, lies}
 
 -- none has a higher priority than one before it
 abbrev pub Falls : List Slot → Type 0
@@ -27,12 +28,12 @@ Falls [] = Unit {0}
 Falls (s ∷ slots) = AllByRecursion (λ t. t.entry.priority ≤ s.entry.priority) slots × Falls slots
 
 -- what is between two that are equal up to here is equal up to here
-record Squeezed (r u v : Ordering) : Type 0 where
-  equal : r ≡ Equal
-  from : is_le u ≡ true
-  past : is_le v ≡ false
+pub record Squeezed (r u v : Ordering) : Type 0 where
+  pub equal : r ≡ Equal
+  pub from : is_le u ≡ true
+  pub past : is_le v ≡ false
 
-squeezed : (r u v : Ordering) → is_le (ordering_then r u) ≡ true → is_le (ordering_then r v) ≡ false → Squeezed r u v
+pub squeezed : (r u v : Ordering) → is_le (ordering_then r u) ≡ true → is_le (ordering_then r v) ≡ false → Squeezed r u v
 squeezed Less u v h k = absurd (true≢false k)
 squeezed Equal u v h k = record { equal = refl; from = h; past = k }
 squeezed Greater u v h k = absurd (true≢false (sym h))
@@ -41,60 +42,46 @@ not_true : (b : Bool) → not b ≡ true → b ≡ false
 not_true true h = sym h
 not_true false h = refl
 
-no_more : (a b : ℕ) (r : Ordering) → ordering_then (nat_cmp a b) r ≡ Less → a ≤ b
-no_more a b r h = by (nat_cmp a b) refl h
-  where
-    by : (s : Ordering) → nat_cmp a b ≡ s → ordering_then s r ≡ Less → a ≤ b
-    by Less e h = grind (arith, nat_tests)
-    by Equal e h = grind (arith, nat_tests)
-    by Greater e h = absurd (true≢false (ap is_le (sym h)))
+no_more : (a b : ℕ) → nat_cmp a b ≡ Less → a ≤ b
+no_more a b h = grind (arith, nat_tests)
 
-module _ (n : ℕ) (in_port vlan : Option ℕ) where
-  -- what lies in the range has its table, its port and its VLAN word
-  record Shaped (p : Place) : Type 0 where
-    table : nat_cmp n p.table ≡ Equal
-    port : option_cmp nat_cmp in_port p.in_port ≡ Equal
-    word : option_cmp nat_cmp vlan p.vlan ≡ Equal
-
-  shaped : (p : Place) → lies n in_port vlan p ≡ true → Shaped p
-  shaped p h =
+module _ (n : ℕ) (p : Pattern) where
+  -- what lies in the range states the pattern
+  shaped : (q : Place) → lies n p q ≡ true → q ≡ place_at n p q.down
+  shaped q h =
       let from = first_so _ _ h in
       let past = not_true _ (second_so _ _ h) in
-      let one = squeezed (nat_cmp n p.table) _ _ from past in
-      let two = squeezed (option_cmp nat_cmp in_port p.in_port) _ _ one.from one.past in
-      let three = squeezed (option_cmp nat_cmp vlan p.vlan) _ _ two.from two.past in
-      record { table = one.equal; port = two.equal; word = three.equal }
+      let one = squeezed (block_cmp (block_at n p.in_port p.vlan) q.block) _ _ from past in
+      let two = squeezed (pattern_cmp (shape_of p) q.shape) _ _ one.from one.past in
+      let three = squeezed (bool_cmp false q.behind) _ _ two.from two.past in
+      let four = squeezed (pattern_cmp p q.pattern) _ _ three.from three.past in
+      let block = block-exact (block_at n p.in_port p.vlan) q.block one.equal in
+      let shape = pattern-exact (shape_of p) q.shape two.equal in
+      let behind = bool-exact false q.behind three.equal in
+      let pattern = pattern-exact p q.pattern four.equal in
+      sym (λ i. record { block = block i; shape = shape i; behind = behind i; pattern = pattern i; down = q.down })
 
-  lower : (p q : Place) → lies n in_port vlan p ≡ true → lies n in_port vlan q ≡ true → place_cmp p q ≡ Less → p.down ≤ q.down
-  lower p q h k less =
-      let a = shaped p h in
-      let b = shaped q k in
-      no_more p.down q.down (headers_cmp p.headers q.headers) (sym (ordered n in_port vlan (nat_cmp p.table q.table) (option_cmp nat_cmp p.in_port q.in_port) (option_cmp nat_cmp p.vlan q.vlan)
-      (sym (nat_cmp_total.congr n p.table q.table a.table) ∙ b.table) (sym (number_total.congr in_port p.in_port q.in_port a.port) ∙ b.port) (sym (number_total.congr vlan p.vlan q.vlan a.word) ∙ b.word)
-      (nat_cmp p.down q.down) (headers_cmp p.headers q.headers)) ∙ less)
+  lower : (q r : Place) → lies n p q ≡ true → lies n p r ≡ true → place_cmp q r ≡ Less → q.down ≤ r.down
+  lower q r h k less =
+      let a = shaped q h in
+      let b = shaped r k in
+      no_more q.down r.down (sym (by_down n p q.down r.down) ∙ (λ i. place_cmp (sym a i) (sym b i)) ∙ less)
 
 down_of : (next : ℕ) (r : Place × Slot) → IsKept next r → 0x10000 - r.1.entry.priority ≡ r.0.down
-down_of next r kept =
-    let p = place_in r.1.entry in
-    let all = ap is_eq kept.place in
-    let after_table = second_so (is_eq (nat_cmp p.table r.0.table)) _ (sym (both_equal _ _) ∙ all) in
-    let after_port = second_so (is_eq (option_cmp nat_cmp p.in_port r.0.in_port)) _ (sym (both_equal _ _) ∙ after_table) in
-    let after_word = second_so (is_eq (option_cmp nat_cmp p.vlan r.0.vlan)) _ (sym (both_equal _ _) ∙ after_port) in
-    let same : (p.down == r.0.down) ≡ true = sym (same_numbers p.down r.0.down) ∙ first_so (is_eq (nat_cmp p.down r.0.down)) _ (sym (both_equal _ _) ∙ after_word) in
-    grind (arith, nat_tests)
+down_of next r kept = ap (λ (q : Place). q.down) (place-exact (place_in r.1.entry) r.0 kept.place)
 
-module _ (next n : ℕ) (in_port vlan : Option ℕ) where
+module _ (next n : ℕ) (p : Pattern) where
   abbrev part : List (Place × Slot) → List (Place × Slot)
-  part es = filter (λ e. lies n in_port vlan e.0) es
+  part es = filter (λ e. lies n p e.0) es
 
-  none_higher : (r : Place × Slot) → IsKept next r → lies n in_port vlan r.0 ≡ true → (es : List (Place × Slot)) → AllByRecursion (IsKept next) es → AllByRecursion (λ q. place_cmp r.0 q ≡ Less) (keys_of es) →
+  none_higher : (r : Place × Slot) → IsKept next r → lies n p r.0 ≡ true → (es : List (Place × Slot)) → AllByRecursion (IsKept next) es → AllByRecursion (λ q. place_cmp r.0 q ≡ Less) (keys_of es) →
       AllByRecursion (λ t. t.entry.priority ≤ r.1.entry.priority) (values_of (part es))
   none_higher r kept in_range [] all later = tt
-  none_higher r kept in_range (e ∷ es) (here, all) (less, later) = by (lies n in_port vlan e.0) refl (none_higher r kept in_range es all later)
+  none_higher r kept in_range (e ∷ es) (here, all) (less, later) = by (lies n p e.0) refl (none_higher r kept in_range es all later)
     where
-      by : (b : Bool) → lies n in_port vlan e.0 ≡ b → AllByRecursion (λ t. t.entry.priority ≤ r.1.entry.priority) (values_of (part es)) → AllByRecursion (λ t. t.entry.priority ≤ r.1.entry.priority) (values_of (cond b (e ∷ part es) (part es)))
+      by : (b : Bool) → lies n p e.0 ≡ b → AllByRecursion (λ t. t.entry.priority ≤ r.1.entry.priority) (values_of (part es)) → AllByRecursion (λ t. t.entry.priority ≤ r.1.entry.priority) (values_of (cond b (e ∷ part es) (part es)))
       by true is more =
-          let down = lower n in_port vlan r.0 e.0 in_range is less in
+          let down = lower n p r.0 e.0 in_range is less in
           let here_down = down_of next e here in
           let its_down = down_of next r kept in
           let small = here.priority in
@@ -104,9 +91,9 @@ module _ (next n : ℕ) (in_port vlan : Option ℕ) where
   pub falls : (es : List (Place × Slot)) → AllByRecursion (IsKept next) es → IsStrictlySortedBy place_cmp (keys_of es) → Falls (values_of (part es))
   unfolding IsStrictlySortedBy
   falls [] all sorted = tt
-  falls (e ∷ es) (here, all) (later, sorted) = by (lies n in_port vlan e.0) refl (falls es all sorted)
+  falls (e ∷ es) (here, all) (later, sorted) = by (lies n p e.0) refl (falls es all sorted)
     where
-      by : (b : Bool) → lies n in_port vlan e.0 ≡ b → Falls (values_of (part es)) → Falls (values_of (cond b (e ∷ part es) (part es)))
+      by : (b : Bool) → lies n p e.0 ≡ b → Falls (values_of (part es)) → Falls (values_of (cond b (e ∷ part es) (part es)))
       by true is more = (none_higher e here is es all later, more)
       by false is more = more
 

@@ -4,8 +4,10 @@ pub mod Falling
 pub mod Kept
 pub mod Lookups
 pub mod Passing
+pub mod Patterns
 pub mod Places
 pub mod Ranges
 pub mod Rows
+pub mod Scan
 pub mod SentOrder
 pub mod SortedParts

@@ -6,7 +6,7 @@ ghost use Rattle.pq_model.specs.SwitchMachine.{entry_of, groups_named, is_placed
 
 use crate::entry::{Entry, Slot};
 use crate::groups::Groups;
-use crate::lookup::{best_in, entry_in, vlan_word};
+use crate::lookup::{best_in_table, entry_in};
 use crate::place::Place;
 use pq_model::{FlowMod, Tagged};
 use std::alloc::{AllocError, Global};
@@ -15,8 +15,8 @@ use std::marker::Model;
 
 /// The entries of a switch, seen in the order in which they were added.
 ///
-/// They are kept by their places, so that an Add finds the entry of its place, and a packet is compared only with
-/// entries whose matches state its arriving port and its VLAN word, or leave one of them or both unstated.
+/// They are kept by their places, so that an Add finds the entry of its place, and a packet finds the entries that cover
+/// it among those of each shape by one search.
 #[derive(Drop)]
 pub(crate) struct Entries {
     slots: BTreeMap<Place, Slot>,
@@ -52,13 +52,7 @@ impl Entries {
     pub(crate) fn taken(&self, table: u8, x: &Tagged) -> Option<&Entry>
         ensures { option_copied result ≡ taken self.now table x.now }
     {
-        let port = Some(x.packet.port);
-        let word = Some(vlan_word(x));
-        let best = best_in(&self.slots, table, port, word, x, None);
-        let best = best_in(&self.slots, table, port, None, x, best);
-        let best = best_in(&self.slots, table, None, word, x, best);
-        let best = best_in(&self.slots, table, None, None, x, best);
-        entry_in(best)
+        entry_in(best_in_table(&self.slots, table, x))
     }
 
     /// Puts an entry last, in place of the one with its table, match and priority.

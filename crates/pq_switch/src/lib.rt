@@ -7,6 +7,7 @@ mod entries;
 mod entry;
 mod groups;
 mod lookup;
+mod pattern;
 mod place;
 mod sending;
 mod sorting;
