@@ -5,6 +5,9 @@ mod document;
 mod fault;
 mod names;
 mod parts;
+mod queries;
+mod reading;
 
 pub use document::Document;
 pub use fault::DocumentFault;
+pub use reading::read_document;

@@ -40,7 +40,7 @@ fn part_from(
 }
 
 /// The part of a statement; its name joins those of earlier parts.
-#[tactic(auto, using(pq_topo::proofs::Terms::trees_first))]
+#[tactic(auto, using(crate::proofs::Statements::named_two, crate::proofs::Statements::named_few))]
 fn part_of(
     alloc: Global,
     keyword: &Token,
@@ -59,6 +59,7 @@ fn part_of(
 }
 
 /// The parts of the statements, in text order.
+#[tactic(auto, using(crate::proofs::Statements::one_is_read, crate::proofs::Statements::one_is_refused, crate::proofs::Statements::one_name_more, crate::proofs::Statements::none_is_read))]
 pub(crate) fn read_parts(
     alloc: Global,
     terms: &[Term<'_>],
@@ -71,7 +72,14 @@ pub(crate) fn read_parts(
     let mut parts = Vec::new(alloc);
     for term in terms {
         if is_class(class_in_text(bytes, &term.head), Class::PartWord) {
-            match part_of(alloc, &term.head, term.children, bytes, topology, &mut names) {
+            match part_of(
+                alloc,
+                &term.head,
+                term.children,
+                bytes,
+                topology,
+                &mut names,
+            ) {
                 Ok(part) => match parts.push(part) {
                     Ok(()) => {}
                     Err(_) => return Err(NameFault::Memory),
