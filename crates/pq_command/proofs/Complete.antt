@@ -3,10 +3,9 @@ use Rattle.std.proofs.Common.{◌≡◌, ◌≢◌, ℕ, ◌<◌, ◌≤◌, Lis
 use Rattle.std.specs.Io.KnownBytes.{Consumes, IsAtEnd}
 use Rattle.pq_io.specs.Faults.{Rose}
 use Rattle.pq_small.specs.SmallForm.{SmallForm, IsSmallForm}
-use Rattle.pq_small.specs.Compiled.{IsNoForm}
 use Rattle.pq_command.specs.declared.outcome.Outcome.{Outcome}
-use Rattle.pq_command.specs.declared.outcome.Outcome.TheVariants.{Done, Words, ReadFault, TooLong, Syntax, NotYet, Damaged, ScheduleFull, WriteFault, Memory}
-use Rattle.pq_command.specs.Answers.{Streams, ReadsWhole, ReadsMore, IsCompileAnswer, IsReplayAnswer, IsInspectAnswer, HasReadFaults, HasWriteFaults, IsDoneOrMemory, document_limit, install_limit}
+use Rattle.pq_command.specs.declared.outcome.Outcome.TheVariants.{Done, Words, ReadFault, TooLong, Lex, Syntax, Name, NotYet, Damaged, ScheduleFull, WriteFault, Memory}
+use Rattle.pq_command.specs.Answers.{Streams, ReadsWhole, ReadsMore, IsCompileAnswer, IsRefused, IsReplayAnswer, IsInspectAnswer, HasReadFaults, HasWriteFaults, IsDoneOrMemory, document_limit, install_limit}
 use Rattle.pq_install.specs.Damage.{IsDamagedAt}
 use Rattle.pq_inspect.specs.Inspected.{IsWholeInstall, IsSpoiledAt}
 use Rattle.pq_inspect.proofs.Unspoiled.{not_spoiled}
@@ -42,12 +41,17 @@ compiled Done (Some bytes) now before after reads read writes written answer rea
 compiled Memory (Some bytes) now before after reads read writes written answer read_faults write_faults no_read no_write = λ short s form. tt
 compiled ReadFault (Some bytes) now before after reads read writes written answer read_faults write_faults no_read no_write = λ short s form. no_read read_faults
 compiled WriteFault (Some bytes) now before after reads read writes written answer read_faults write_faults no_read no_write = λ short s form. no_write write_faults
+compiled (Lex at) (Some bytes) now before after reads read writes written answer read_faults write_faults no_read no_write =
+    λ short s form. (of_whole bytes now before after document_limit (IsRefused (Lex at)) answer).0 s form
+compiled (Syntax at) (Some bytes) now before after reads read writes written answer read_faults write_faults no_read no_write =
+    λ short s form. (of_whole bytes now before after document_limit (IsRefused (Syntax at)) answer).0 s form
+compiled (Name at kind) (Some bytes) now before after reads read writes written answer read_faults write_faults no_read no_write =
+    λ short s form. (of_whole bytes now before after document_limit (IsRefused (Name at kind)) answer).0 s form
 compiled NotYet (Some bytes) now before after reads read writes written answer read_faults write_faults no_read no_write =
-    λ short s form. of_whole bytes now before after document_limit IsNoForm answer s form
+    λ short s form. (of_whole bytes now before after document_limit (IsRefused NotYet) answer).0 s form
 compiled TooLong (Some bytes) now before after reads read writes written answer read_faults write_faults no_read no_write =
     λ short s form. not_more bytes now before after document_limit answer short
 compiled Words (Some bytes) now before after reads read writes written answer read_faults write_faults no_read no_write = absurd answer
-compiled (Syntax at) (Some bytes) now before after reads read writes written answer read_faults write_faults no_read no_write = absurd answer
 compiled (Damaged at) (Some bytes) now before after reads read writes written answer read_faults write_faults no_read no_write = absurd answer
 compiled ScheduleFull (Some bytes) now before after reads read writes written answer read_faults write_faults no_read no_write = absurd answer
 
@@ -69,6 +73,8 @@ replayed ScheduleFull (Some bytes) now before after reads read writes written an
 replayed TooLong (Some bytes) now before after reads read writes written answer read_faults write_faults no_read no_write =
     λ short r. not_more bytes now before after install_limit answer short
 replayed Words (Some bytes) now before after reads read writes written answer read_faults write_faults no_read no_write = absurd answer
+replayed (Lex at) (Some bytes) now before after reads read writes written answer read_faults write_faults no_read no_write = absurd answer
+replayed (Name at kind) (Some bytes) now before after reads read writes written answer read_faults write_faults no_read no_write = absurd answer
 replayed NotYet (Some bytes) now before after reads read writes written answer read_faults write_faults no_read no_write = absurd answer
 
 pub inspected : (o : Outcome) (left now before after : Option (List ℕ)) (reads read writes written : ℕ)
@@ -85,6 +91,8 @@ inspected (Damaged at) (Some bytes) now before after reads read writes written a
 inspected TooLong (Some bytes) now before after reads read writes written answer read_faults write_faults no_read no_write =
     λ short i. not_more bytes now before after install_limit answer short
 inspected Words (Some bytes) now before after reads read writes written answer read_faults write_faults no_read no_write = absurd answer
+inspected (Lex at) (Some bytes) now before after reads read writes written answer read_faults write_faults no_read no_write = absurd answer
+inspected (Name at kind) (Some bytes) now before after reads read writes written answer read_faults write_faults no_read no_write = absurd answer
 inspected NotYet (Some bytes) now before after reads read writes written answer read_faults write_faults no_read no_write = absurd answer
 inspected (Syntax at) (Some bytes) now before after reads read writes written answer read_faults write_faults no_read no_write = absurd answer
 inspected ScheduleFull (Some bytes) now before after reads read writes written answer read_faults write_faults no_read no_write = absurd answer

@@ -4,11 +4,15 @@ use Rattle.std.specs.Io.KnownBytes.{Appends, Consumes, IsAtEnd}
 use Rattle.pq_io.specs.Faults.{Rose}
 use Rattle.pq_io.specs.Pieces.{AppendsPart}
 use Rattle.pq_small.specs.Compiled.{Compiles, IsNoForm}
+use Rattle.pq_term.specs.Division.{MeetsNoToken}
+use Rattle.pq_grammar.specs.declared.sort.Sort.TheVariants.{Document}
+use Rattle.pq_tree.specs.Reading.{IsSyntaxFault}
+use Rattle.pq_compile.specs.Documents.{DocumentTree, IsNameFault, Spells}
 use Rattle.pq_install.specs.Damage.{IsDamagedAt}
 use Rattle.pq_inspect.specs.Inspected.{IsInspected, IsSpoiledAt}
 use Rattle.pq_replay.specs.Replay.{IsReplay, HasSyntaxFault, HasTooManyEvents}
 use Rattle.pq_command.specs.declared.outcome.Outcome.{Outcome}
-use Rattle.pq_command.specs.declared.outcome.Outcome.TheVariants.{Done, Words, ReadFault, TooLong, Syntax, NotYet, Damaged, ScheduleFull, WriteFault, Memory}
+use Rattle.pq_command.specs.declared.outcome.Outcome.TheVariants.{Done, Words, ReadFault, TooLong, Lex, Syntax, Name, NotYet, Damaged, ScheduleFull, WriteFault, Memory}
 
 -- the most bytes of a document, and of an install with what follows it
 abbrev pub document_limit : ℕ
@@ -42,16 +46,31 @@ Puts s P = (written : List ℕ) × P written × Appends s.before s.after written
 abbrev pub PutsPart : Streams → (List ℕ → Type 0) → Type 0
 PutsPart s P = (written : List ℕ) × P written × AppendsPart s.before s.after written
 
+-- why a text that is of no form that is compiled today gets no install: its first fault, or that it is a document all the same
+abbrev pub IsRefusal : List ℕ → Outcome → Type 0
+IsRefusal text (Lex at) = MeetsNoToken text at
+IsRefusal text (Syntax at) = IsSyntaxFault Document text at
+IsRefusal text (Name at kind) = IsNameFault text at kind
+IsRefusal text NotYet = (document : DocumentTree) × Spells text document
+IsRefusal text Memory = Unit {0}
+IsRefusal text _ = ⊥
+
+-- the text is of no form that is compiled today, and this is why it gets no install
+abbrev pub IsRefused : Outcome → List ℕ → Type 0
+IsRefused outcome text = IsNoForm text × IsRefusal text outcome
+
 -- what `compile` says of a document
 abbrev pub IsCompileAnswer : Outcome → Streams → Type 0
 IsCompileAnswer Done s = ReadsWhole s document_limit (λ text. Puts s (Compiles text))
 IsCompileAnswer WriteFault s = ReadsWhole s document_limit (λ text. PutsPart s (Compiles text))
-IsCompileAnswer NotYet s = ReadsWhole s document_limit IsNoForm
+IsCompileAnswer (Lex at) s = ReadsWhole s document_limit (IsRefused (Lex at))
+IsCompileAnswer (Syntax at) s = ReadsWhole s document_limit (IsRefused (Syntax at))
+IsCompileAnswer (Name at kind) s = ReadsWhole s document_limit (IsRefused (Name at kind))
+IsCompileAnswer NotYet s = ReadsWhole s document_limit (IsRefused NotYet)
 IsCompileAnswer TooLong s = ReadsMore s document_limit
 IsCompileAnswer ReadFault s = Unit {0}
 IsCompileAnswer Memory s = Unit {0}
 IsCompileAnswer Words s = ⊥
-IsCompileAnswer (Syntax at) s = ⊥
 IsCompileAnswer (Damaged at) s = ⊥
 IsCompileAnswer ScheduleFull s = ⊥
 
@@ -66,6 +85,8 @@ IsReplayAnswer TooLong s = ReadsMore s install_limit
 IsReplayAnswer ReadFault s = Unit {0}
 IsReplayAnswer Memory s = Unit {0}
 IsReplayAnswer Words s = ⊥
+IsReplayAnswer (Lex at) s = ⊥
+IsReplayAnswer (Name at kind) s = ⊥
 IsReplayAnswer NotYet s = ⊥
 
 -- what `inspect` says of an install
@@ -77,6 +98,8 @@ IsInspectAnswer TooLong s = ReadsMore s install_limit
 IsInspectAnswer ReadFault s = Unit {0}
 IsInspectAnswer Memory s = Unit {0}
 IsInspectAnswer Words s = ⊥
+IsInspectAnswer (Lex at) s = ⊥
+IsInspectAnswer (Name at kind) s = ⊥
 IsInspectAnswer NotYet s = ⊥
 IsInspectAnswer (Syntax at) s = ⊥
 IsInspectAnswer ScheduleFull s = ⊥

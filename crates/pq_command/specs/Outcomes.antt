@@ -1,7 +1,9 @@
 -- What the program says of an outcome.
 use Rattle.std.specs.Prelude.{ℕ, List, [], ◌++◌, codes, decimal}
+use Rattle.pq_topo.specs.declared.fault.NameKind.{NameKind}
+use Rattle.pq_topo.specs.declared.fault.NameKind.TheVariants.{Many, Doubled, BadValue, UnknownSwitch, UnknownPort, UnknownField, NotWritable, NotListed, UnknownPart, UnknownQuery}
 use Rattle.pq_command.specs.declared.outcome.Outcome.{Outcome}
-use Rattle.pq_command.specs.declared.outcome.Outcome.TheVariants.{Done, Words, ReadFault, TooLong, Syntax, NotYet, Damaged, ScheduleFull, WriteFault, Memory}
+use Rattle.pq_command.specs.declared.outcome.Outcome.TheVariants.{Done, Words, ReadFault, TooLong, Lex, Syntax, Name, NotYet, Damaged, ScheduleFull, WriteFault, Memory}
 
 -- the status of each outcome
 abbrev pub code_of : Outcome → ℕ
@@ -9,12 +11,27 @@ code_of Done = 0
 code_of Words = 2
 code_of ReadFault = 4
 code_of TooLong = 1
+code_of (Lex at) = 1
 code_of (Syntax at) = 1
+code_of (Name at kind) = 1
 code_of NotYet = 1
 code_of (Damaged at) = 1
 code_of ScheduleFull = 3
 code_of WriteFault = 5
 code_of Memory = 6
+
+-- the word of each naming rule
+abbrev pub kind_word : NameKind → List ℕ
+kind_word Many = codes "many"
+kind_word Doubled = codes "doubled"
+kind_word BadValue = codes "bad_value"
+kind_word UnknownSwitch = codes "unknown_switch"
+kind_word UnknownPort = codes "unknown_port"
+kind_word UnknownField = codes "unknown_field"
+kind_word NotWritable = codes "not_writable"
+kind_word NotListed = codes "not_listed"
+kind_word UnknownPart = codes "unknown_part"
+kind_word UnknownQuery = codes "unknown_query"
 
 -- the line of each outcome
 abbrev pub line_of : Outcome → List ℕ
@@ -22,7 +39,9 @@ line_of Done = []
 line_of Words = codes "words"
 line_of ReadFault = codes "read fault"
 line_of TooLong = codes "too long"
+line_of (Lex at) = codes "lex " ++ decimal at
 line_of (Syntax at) = codes "syntax " ++ decimal at
+line_of (Name at kind) = codes "name " ++ decimal at ++ codes " " ++ kind_word kind
 line_of NotYet = codes "not yet"
 line_of (Damaged at) = codes "damaged " ++ decimal at
 line_of ScheduleFull = codes "schedule full"

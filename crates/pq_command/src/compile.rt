@@ -1,14 +1,28 @@
 ghost use Rattle.std.specs.Prelude.{◌≡◌};
-ghost use Rattle.pq_command.specs.Answers.{HasReadFaults, HasWriteFaults, IsCompileAnswer, OnRefusal, streams};
+ghost use Rattle.pq_command.specs.Answers.{HasReadFaults, HasWriteFaults, IsCompileAnswer, IsRefusal, OnRefusal, streams};
 
 use crate::outcome::Outcome;
 use crate::reading::{Unread, read_whole};
+use pq_compile::{DocumentFault, read_document};
 use pq_io::{Sink, Source};
 use pq_small::compile_small;
 use std::alloc::Global;
 
 /// The most bytes that a document has.
 const DOCUMENT_LIMIT: usize = 524_288;
+
+/// Why a text that is of no form that is compiled today gets no install: its first fault, where it has one.
+fn refusal(alloc: Global, text: &[u8]) -> Outcome
+    ensures { IsRefusal text.now result }
+{
+    match read_document(alloc, text) {
+        Ok(_) => Outcome::NotYet,
+        Err(DocumentFault::Lex { at }) => Outcome::Lex { at },
+        Err(DocumentFault::Syntax { at }) => Outcome::Syntax { at },
+        Err(DocumentFault::Name { at, kind }) => Outcome::Name { at, kind },
+        Err(DocumentFault::Memory) => Outcome::Memory,
+    }
+}
 
 /// Reads a document to its end and writes its install.
 pub(crate) fn compile<S: Source, K: Sink>(alloc: Global, source: &mut S, sink: &mut K) -> Outcome
@@ -28,7 +42,7 @@ pub(crate) fn compile<S: Source, K: Sink>(alloc: Global, source: &mut S, sink: &
             Ok(()) => Outcome::Done,
             Err(_) => Outcome::WriteFault,
         },
-        Ok(None) => Outcome::NotYet,
+        Ok(None) => refusal(alloc, &text),
         Err(_) => Outcome::Memory,
     }
 }
