@@ -4,7 +4,6 @@ ghost use Rattle.pq_term.specs.Names.{is_name};
 
 use crate::*;
 use bumpalo::Bump;
-use pq_fields::{Field, Pred};
 use pq_term::Name;
 use pq_topo::{NameFault, NameKind, Switch, Topology};
 use pq_tree::{Term, read_terms};
@@ -72,168 +71,95 @@ fn has_marked_fault(alloc: Global, marked: &str, wanted: NameKind) -> Result<boo
     }
 }
 
-/// Whether the text is resolved to this query.
-fn is_resolved(alloc: Global, text: &str, wanted: &Query) -> Result<bool, AllocError> {
+/// Whether the text is resolved to the query that is shown so.
+fn is_resolved(alloc: Global, text: &str, wanted: &str) -> Result<bool, AllocError> {
     match resolved(alloc, text.as_bytes())? {
         Some(Ok(query)) => {
             let shown = format!(in alloc; "{query:?}")?;
-            let other = format!(in alloc; "{wanted:?}")?;
-            Ok(shown.as_str() == other.as_str())
+            Ok(shown.as_str() == wanted)
         }
         _ => Ok(false),
     }
 }
 
-/// The test of a port.
-fn at_port(port: u64) -> Pred {
-    Pred::Equal(Field::Port, port)
-}
-
-/// The words In x with x at this port.
-fn enters_at(alloc: Global, port: u64) -> Query {
-    Query::In(at_port(port), Vec::new(alloc))
-}
-
-/// A group of the field with the values of the topology.
-fn listed(field: Field) -> Group {
-    Group {
-        field,
-        values: None,
+#[test]
+fn atoms_and_operators_have_their_parts(rt: HostRuntime) -> Result<(), Fail> {
+    for (text, wanted) in [
+        ("query q = in_atom(port = 1);", "In(Equal(Port, 1), [])"),
+        ("query q = out_atom(port = 1);", "Out(Equal(Port, 1), [])"),
+        ("query q = end_atom(port = 1);", "End(Equal(Port, 1))"),
+        (
+            "query q = in_out_atom(port = 1, port = 2);",
+            "InOut(Equal(Port, 1), [], Equal(Port, 2), [])",
+        ),
+        (
+            "query q = end_atom(true) ^ end_atom(false) ^ end_atom(not true);",
+            "Cat([End(True), End(False), End(Not(True))])",
+        ),
+        (
+            "query q = end_atom(true) | end_atom(false);",
+            "Or([End(True), End(False)])",
+        ),
+        (
+            "query q = end_atom(true) & end_atom(false);",
+            "And([End(True), End(False)])",
+        ),
+        ("query q = ~end_atom(true)*;", "Not(Star(End(True)))"),
+        ("query q = (~end_atom(true))*;", "Star(Not(End(True)))"),
+    ] {
+        assert!(rt; is_resolved(rt.alloc(), text, wanted)?, "{text}");
     }
-}
-
-/// A group of the field with these values.
-fn stated(alloc: Global, field: Field, values: &[u64]) -> Result<Group, AllocError> {
-    Ok(Group {
-        field,
-        values: Some(Vec::from_slice(alloc, values)?),
-    })
-}
-
-#[test]
-fn atoms_have_their_predicates(rt: HostRuntime) -> Result<(), Fail> {
-    let alloc = rt.alloc();
-    let wanted = enters_at(alloc, 1);
-    assert!(rt; is_resolved(alloc, "query q = in_atom(port = 1);", &wanted)?);
-    let wanted = Query::Out(at_port(1), Vec::new(alloc));
-    assert!(rt; is_resolved(alloc, "query q = out_atom(port = 1);", &wanted)?);
-    let wanted = Query::End(at_port(1));
-    assert!(rt; is_resolved(alloc, "query q = end_atom(port = 1);", &wanted)?);
-    let wanted = Query::InOut(at_port(1), Vec::new(alloc), at_port(2), Vec::new(alloc));
-    assert!(rt; is_resolved(alloc, "query q = in_out_atom(port = 1, port = 2);", &wanted)?);
-    Ok(())
-}
-
-#[test]
-fn operators_have_their_operands(rt: HostRuntime) -> Result<(), Fail> {
-    let alloc = rt.alloc();
-    let text = "query q = in_atom(port = 1) ^ in_atom(port = 2) ^ in_atom(port = 3);";
-    let operands = vec![in alloc;
-        enters_at(alloc, 1),
-        enters_at(alloc, 2),
-        enters_at(alloc, 3),
-    ]?;
-    assert!(rt; is_resolved(alloc, text, &Query::Cat(operands))?);
-    let text = "query q = in_atom(port = 1) | in_atom(port = 2);";
-    let operands = vec![in alloc; enters_at(alloc, 1), enters_at(alloc, 2)]?;
-    assert!(rt; is_resolved(alloc, text, &Query::Or(operands))?);
-    let text = "query q = in_atom(port = 1) & in_atom(port = 2);";
-    let operands = vec![in alloc; enters_at(alloc, 1), enters_at(alloc, 2)]?;
-    assert!(rt; is_resolved(alloc, text, &Query::And(operands))?);
-    let repeated = Query::Star(Box::new(alloc, enters_at(alloc, 1))?);
-    assert!(rt; is_resolved(alloc, "query q = in_atom(port = 1)*;", &repeated)?);
-    let other = Query::Not(Box::new(alloc, repeated)?);
-    assert!(rt; is_resolved(alloc, "query q = ~in_atom(port = 1)*;", &other)?);
     Ok(())
 }
 
 #[test]
 fn groups_belong_to_their_predicates(rt: HostRuntime) -> Result<(), Fail> {
-    let alloc = rt.alloc();
-    let text = "query q = in_group(port = 1, [switch, port of (3, 0x1)]);";
-    let groups = vec![in alloc; listed(Field::Switch), stated(alloc, Field::Port, &[3, 1])?]?;
-    assert!(rt; is_resolved(alloc, text, &Query::In(at_port(1), groups))?);
-    let wanted = Query::Out(at_port(1), Vec::new(alloc));
-    assert!(rt; is_resolved(alloc, "query q = out_group(port = 1, []);", &wanted)?);
-    // Other brackets may have the same field.
-    let text = "query q = in_out_group(port = 1, [port], port = 2, [switch of (s1), port]);";
-    let first = vec![in alloc; listed(Field::Port)]?;
-    let second = vec![in alloc; stated(alloc, Field::Switch, &[9])?, listed(Field::Port)]?;
-    let wanted = Query::InOut(at_port(1), first, at_port(2), second);
-    assert!(rt; is_resolved(alloc, text, &wanted)?);
+    for (text, wanted) in [
+        (
+            "query q = in_group(true, [switch, port of (3, 0x1)]);",
+            "In(True, [Group { field: Switch, values: None }, Group { field: Port, values: Some([3, 1]) }])",
+        ),
+        ("query q = out_group(true, []);", "Out(True, [])"),
+        // Other brackets may have the same field.
+        (
+            "query q = in_out_group(true, [port], false, [switch of (s1), port]);",
+            "InOut(True, [Group { field: Port, values: None }], False, [Group { field: Switch, values: Some([9]) }, Group { field: Port, values: None }])",
+        ),
+    ] {
+        assert!(rt; is_resolved(rt.alloc(), text, wanted)?, "{text}");
+    }
     Ok(())
 }
 
 #[test]
 fn values_have_the_forms_of_their_fields(rt: HostRuntime) -> Result<(), Fail> {
-    let alloc = rt.alloc();
-    for (text, field, number) in [
+    for (text, wanted) in [
         (
-            "query q = out_group(true, [switch of (s1)]);",
-            Field::Switch,
-            9,
+            "query q = out_group(true, [switch of (s1), port of (4294967040)]);",
+            "Out(True, [Group { field: Switch, values: Some([9]) }, Group { field: Port, values: Some([4294967040]) }])",
         ),
         (
-            "query q = out_group(true, [port of (4294967040)]);",
-            Field::Port,
-            4_294_967_040,
+            "query q = out_group(true, [eth_type of (0xffff), ip_proto of (255)]);",
+            "Out(True, [Group { field: EthType, values: Some([65535]) }, Group { field: IpProto, values: Some([255]) }])",
         ),
         (
-            "query q = out_group(true, [eth_type of (0xffff)]);",
-            Field::EthType,
-            65_535,
+            "query q = out_group(true, [eth_src of (00:00:00:00:01:0A), eth_dst of (00:00:00:00:00:02)]);",
+            "Out(True, [Group { field: EthSrc, values: Some([266]) }, Group { field: EthDst, values: Some([2]) }])",
         ),
         (
-            "query q = out_group(true, [ip_proto of (255)]);",
-            Field::IpProto,
-            255,
+            "query q = out_group(true, [ipv4_src of (0.0.1.1), ipv4_dst of (255.255.255.255)]);",
+            "Out(True, [Group { field: Ipv4Src, values: Some([257]) }, Group { field: Ipv4Dst, values: Some([4294967295]) }])",
         ),
         (
-            "query q = out_group(true, [eth_src of (00:00:00:00:01:0A)]);",
-            Field::EthSrc,
-            266,
+            "query q = out_group(true, [tcp_src of (0), tcp_dst of (80, 443)]);",
+            "Out(True, [Group { field: TcpSrc, values: Some([0]) }, Group { field: TcpDst, values: Some([80, 443]) }])",
         ),
         (
-            "query q = out_group(true, [eth_dst of (00:00:00:00:00:02)]);",
-            Field::EthDst,
-            2,
-        ),
-        (
-            "query q = out_group(true, [ipv4_src of (0.0.1.1)]);",
-            Field::Ipv4Src,
-            257,
-        ),
-        (
-            "query q = out_group(true, [ipv4_dst of (255.255.255.255)]);",
-            Field::Ipv4Dst,
-            4_294_967_295,
-        ),
-        (
-            "query q = out_group(true, [tcp_src of (0)]);",
-            Field::TcpSrc,
-            0,
-        ),
-        (
-            "query q = out_group(true, [tcp_dst of (80)]);",
-            Field::TcpDst,
-            80,
-        ),
-        (
-            "query q = out_group(true, [udp_src of (53)]);",
-            Field::UdpSrc,
-            53,
-        ),
-        (
-            "query q = out_group(true, [udp_dst of (65535)]);",
-            Field::UdpDst,
-            65_535,
+            "query q = out_group(true, [udp_src of (53), udp_dst of (65535)]);",
+            "Out(True, [Group { field: UdpSrc, values: Some([53]) }, Group { field: UdpDst, values: Some([65535]) }])",
         ),
     ] {
-        let groups = vec![in alloc; stated(alloc, field, &[number])?]?;
-        assert!(rt;
-            is_resolved(alloc, text, &Query::Out(Pred::True, groups))?,
-            "{text}"
-        );
+        assert!(rt; is_resolved(rt.alloc(), text, wanted)?, "{text}");
     }
     Ok(())
 }
