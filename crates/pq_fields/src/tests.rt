@@ -1,6 +1,7 @@
 ghost use Rattle.std.specs.Prelude.{◌<◌, ◌^◌};
 
 use crate::*;
+use std::alloc::AllocError;
 
 /// The packet with an Ethernet type and an IP protocol, and zeros elsewhere.
 fn packet_of(eth_type: u64, ip_proto: u64) -> Packet
@@ -87,4 +88,100 @@ fn a_write_changes_one_field(rt: HostRuntime) {
     assert_eq!(rt; x.with(Field::UdpSrc, 0), Packet::zero());
     assert!(rt; Packet::zero() < x);
     assert!(rt; x < Packet::zero().with(Field::TcpDst, 1));
+}
+
+#[test]
+fn tests_look_at_fields_that_are_there(rt: HostRuntime) {
+    let web = packet_of(0x0800, 6)
+        .with(Field::Ipv4Dst, 0x0a00_0102)
+        .with(Field::TcpDst, 80);
+    let arp = packet_of(0x0806, 6).with(Field::TcpDst, 80);
+    let six = packet_of(0x86dd, 6).with_wide(
+        Field::Ipv6Dst,
+        0x2001_0db8_0000_0000_0000_0000_0000_0001,
+    );
+    for (pred, holding) in [
+        (Pred::True, (true, true, true)),
+        (Pred::False, (false, false, false)),
+        (Pred::Equal(Field::TcpDst, 80), (true, false, false)),
+        (Pred::Equal(Field::TcpDst, 0), (false, false, true)),
+        (Pred::Equal(Field::UdpDst, 0), (false, false, false)),
+        (Pred::Equal(Field::EthType, 0x0806), (false, true, false)),
+        (
+            Pred::Prefix(Field::Ipv4Dst, 0x0a00_0000, 8),
+            (true, false, false),
+        ),
+        (
+            Pred::Prefix(Field::Ipv4Dst, 0x0aff_ffff, 8),
+            (true, false, false),
+        ),
+        (
+            Pred::Prefix(Field::Ipv4Dst, 0x0b00_0000, 8),
+            (false, false, false),
+        ),
+        (
+            Pred::Prefix(Field::Ipv4Dst, 0xffff_ffff, 0),
+            (true, false, false),
+        ),
+        (
+            Pred::Prefix(Field::Ipv4Dst, 0x0a00_0102, 32),
+            (true, false, false),
+        ),
+        (
+            Pred::Prefix(Field::Ipv4Dst, 0x0a00_0103, 32),
+            (false, false, false),
+        ),
+        (
+            Pred::Wide(
+                Field::Ipv6Dst,
+                0x2001_0db8_0000_0000_0000_0000_0000_0000,
+                32,
+            ),
+            (false, false, true),
+        ),
+        (Pred::Wide(Field::Ipv6Dst, 0, 0), (false, false, true)),
+        (
+            Pred::Wide(
+                Field::Ipv6Dst,
+                0x2001_0db8_0000_0000_0000_0000_0000_0000,
+                128,
+            ),
+            (false, false, false),
+        ),
+    ] {
+        assert_eq!(rt; holds(&pred, &web), holding.0);
+        assert_eq!(rt; holds(&pred, &arp), holding.1);
+        assert_eq!(rt; holds(&pred, &six), holding.2);
+    }
+}
+
+#[test]
+fn operators_join_tests(rt: HostRuntime) -> Result<(), AllocError> {
+    let x = packet_of(0x0800, 17).with(Field::UdpDst, 53);
+    let mut both = Vec::new(rt.alloc());
+    both.push(Pred::Equal(Field::UdpDst, 53))?;
+    both.push(Pred::Equal(Field::UdpSrc, 53))?;
+    assert!(rt; !holds(&Pred::And(both), &x));
+    let mut either = Vec::new(rt.alloc());
+    either.push(Pred::Equal(Field::UdpSrc, 53))?;
+    either.push(Pred::Equal(Field::UdpDst, 53))?;
+    assert!(rt; holds(&Pred::Or(either), &x));
+    let negated = Pred::Not(Box::new(rt.alloc(), Pred::Equal(Field::TcpDst, 53))?);
+    assert!(rt; holds(&negated, &x));
+    Ok(())
+}
+
+#[test]
+fn fields_have_names(rt: HostRuntime) {
+    for (name, field) in [
+        (b"switch" as &[u8], Some(Field::Switch)),
+        (b"ip_proto", Some(Field::IpProto)),
+        (b"ipv6_dst", Some(Field::Ipv6Dst)),
+        (b"ipv6", None),
+        (b"Port", None),
+        (b"", None),
+    ] {
+        assert_eq!(rt; field_named(name), field);
+    }
+    assert_eq!(rt; field_name(Field::UdpSrc), b"udp_src".as_slice());
 }

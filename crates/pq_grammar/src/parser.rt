@@ -5,8 +5,7 @@ ghost use Rattle.pq_grammar.specs.Ahead.{next_class, pending};
 ghost use Rattle.pq_grammar.specs.Reading.{IsAt, HasPassed, IsExpected, IsComing};
 
 use crate::ahead::chosen;
-use crate::class::is_class;
-use crate::class::Class;
+use crate::class::{Class, is_class};
 use crate::fault::SentenceFault;
 use crate::mark::{Lexeme, Mark};
 use crate::sort::Sort;

@@ -12,3 +12,4 @@ pub mod Schedules
 pub mod Sending
 pub mod WorkedRuns
 pub mod WorkedSpellings
+pub mod Sorted

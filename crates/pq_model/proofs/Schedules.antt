@@ -1,19 +1,17 @@
 -- Machines whose hops agree, agree over every schedule.
-use Rattle.std.proofs.Common.{◌≡◌, ℕ, zero, suc, Bool, true, false, List, [], ◌∷◌, ◌++◌, map, refl, ap, sym}
+use Rattle.std.proofs.Common.{◌≡◌, ℕ, zero, suc, Bool, true, false, List, [], ◌∷◌, ◌++◌, map, refl, sym}
 use Rattle.std.proofs.lemmas.List.{map-append}
-use Rattle.std.specs.Prelude.{IsTrue, slice_get, if◌then◌else◌}
-use Rattle.std.specs.declared.option.Option.{Option}
-use Rattle.std.specs.declared.option.Option.TheVariants.{None, Some}
-use Rattle.std.specs.List.{remove}
+use Rattle.std.specs.Prelude.{slice_get, if◌then◌else◌}
+use Rattle.std.specs.declared.option.Option.TheVariants.{Some}
 use Rattle.pq_model.specs.declared.event.Event.{Event}
 use Rattle.pq_model.specs.declared.event.Event.TheVariants.{Inject, Hop, Lose}
 use Rattle.pq_model.specs.Tagged.{TaggedPacket}
 use Rattle.pq_model.specs.Topology.{is_edge}
 use Rattle.pq_model.specs.Events.{IsTagged, IsEvent, IsSchedule}
-use Rattle.pq_model.specs.Meaning.{Meaning, MeaningState, Item, at_rest, item_packet, flown, dropped_off, captured, hops, injects, entered_as, happens, run}
+use Rattle.pq_model.specs.Meaning.{Meaning, MeaningState, Item, at_rest, item_packet, dropped_off, hops, injects, entered_as, happens, run}
 use Rattle.pq_model.specs.TablesMachine.{TablesState, Report, Sender, nothing_sent, hops_sending, injects_sending, happens_sending, run_sending}
 use Rattle.pq_model.specs.Headline.{Agree, plain}
-use Rattle.pq_model.specs.Simulation.{Pairwise, HopAgrees, Simulates}
+use Rattle.pq_model.specs.Simulation.{Pairwise, Simulates}
 use Rattle.pq_model.proofs.Pairs.{Pairwise-append, Pairwise-remove}
 
 -- items in flight correspond place by place, and all else is equal

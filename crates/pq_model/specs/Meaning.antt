@@ -1,14 +1,14 @@
 -- The meaning machine: where packets go and what queries see, said of a document's meaning alone, without tables or tags.
-use Rattle.std.specs.Prelude.{ℕ, Bool, List, [], ◌∷◌, ◌++◌, map, slice_get, is_none, ◌&&◌, if◌then◌else◌}
+use Rattle.std.specs.Prelude.{ℕ, Bool, List, [], ◌∷◌, ◌++◌, map, slice_get, is_none, if◌then◌else◌}
 use Rattle.std.specs.declared.option.Option.{Option}
 use Rattle.std.specs.declared.option.Option.TheVariants.{None, Some}
-use Rattle.std.specs.List.{filter, flat_map, filter_map, remove}
+use Rattle.std.specs.List.{filter, flat_map, remove}
 use Rattle.pq_fields.specs.Packet.{Numbers, numbers}
 use Rattle.pq_model.specs.Tagged.{TaggedPacket}
 use Rattle.pq_model.specs.declared.event.Event.{Event}
 use Rattle.pq_model.specs.declared.event.Event.TheVariants.{Inject, Hop, Lose}
 use Rattle.pq_model.specs.Topology.{Topology, peer, is_edge}
-use Rattle.pq_model.specs.Word.{Observation, In, Out, Word}
+use Rattle.pq_model.specs.Word.{In, Out, Word}
 use Rattle.pq_model.specs.Sorting.{sort_by}
 use Rattle.pq_model.specs.Buckets.{Instance, BucketEntry}
 

@@ -8,5 +8,4 @@ pub mod Places
 pub mod Ranges
 pub mod Rows
 pub mod SentOrder
-pub mod Sorted
 pub mod SortedParts

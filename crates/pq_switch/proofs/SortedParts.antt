@@ -3,7 +3,7 @@ use Rattle.std.proofs.Common.{◌≡◌, ℕ, Bool, true, false, cond, if◌then
 use Rattle.std.specs.List.{AllByRecursion, filter}
 use Rattle.pq_fields.specs.Packet.{is_before}
 use Rattle.pq_model.specs.Sorting.{put_by, sort_by}
-use Rattle.pq_switch.proofs.Sorted.{Rises, all_above, filter-choice, order, put-all, sort-rises}
+use Rattle.pq_model.proofs.Sorted.{Rises, all_above, filter-choice, order, put-all, sort-rises}
 
 pub all-filter : {A : Type 0} (P : A → Type 0) (p : A → Bool) (ys : List A) → AllByRecursion P ys → AllByRecursion P (filter p ys)
 all-filter P p [] all = tt

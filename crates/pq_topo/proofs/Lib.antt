@@ -1,3 +1,15 @@
 pub mod Ascending
+pub mod Compared
 pub mod Found
+pub mod LinkRules
+pub mod LinkSteps
 pub mod Member
+pub mod Names
+pub mod Ordered
+pub mod Passed
+pub mod PortSteps
+pub mod Readings
+pub mod SwitchRules
+pub mod SwitchShapes
+pub mod SwitchSteps
+pub mod Terms

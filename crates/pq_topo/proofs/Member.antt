@@ -1,5 +1,5 @@
 -- What a binary search among ascending numbers tells.
-use Rattle.std.specs.Prelude.{◌≡◌, ◌≢◌, ℕ, ◌<◌, ◌≤◌, ◌==◌, List, length, get_or}
+use Rattle.std.specs.Prelude.{◌≡◌, ◌≢◌, ℕ, ◌<◌, ◌≤◌, ◌==◌, false, List, length, get_or, All}
 use Rattle.std.proofs.Common.{arith, Result, Ok, Err, sym}
 use Rattle.std.specs.Result.{MatchResult, is_ok}
 use Rattle.std.specs.List.{list_any}
@@ -10,6 +10,7 @@ use Rattle.std.proofs.lemmas.List.{get_or_default}
 use Rattle.std.proofs.lemmas.List.Folds.{list_any_at, list_any_none}
 use Rattle.std.proofs.lemmas.List.Sorted.{searched}
 use Rattle.pq_model.specs.Lawful.{Ascends}
+use Rattle.pq_model.specs.MatchFields.{IsPortNumber}
 use Rattle.pq_topo.proofs.Ascending.{rises}
 
 -- at a number, or in the gap where it would stand
@@ -26,3 +27,10 @@ place_tells xs x (Err i) place = sym (list_any_none (λ y. y == x) xs (λ k d be
 -- the search finds a number exactly where it is among them
 pub search_tells : (xs : List ℕ) (x : ℕ) (r : Result ℕ ℕ) → Ascends xs → IsBinarySearchResult (λ y. nat_cmp y x) xs r → is_ok r ≡ list_any (λ y. y == x) xs
 search_tells xs x r up position = place_tells xs x r (searched xs x r position (rises xs 0 up))
+
+-- no port has a number beyond those that ports have
+pub none_beyond : (ports : List ℕ) (n : ℕ) → All IsPortNumber ports → 0xffffff00 < n → list_any (λ p. p == n) ports ≡ false
+none_beyond ports n numbers beyond = list_any_none (λ p. p == n) ports (λ k d below.
+    let number = numbers k d below in
+    let differs : get_or ports k d ≢ n = λ same. omega (arith, number.1, beyond, same) in
+    grind (arith, nat_tests, differs))

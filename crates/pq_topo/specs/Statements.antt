@@ -1,8 +1,9 @@
 -- The topology that a document's statements describe.
-use Rattle.std.specs.Prelude.{ℕ, ◌+◌, Bool, not, ◌&&◌, if◌then◌else◌, List, [], ◌∷◌, ◌++◌, length, ◌==◌, nat_le, bytes_eq, Option, Some, None, Ok}
+use Rattle.std.specs.Prelude.{ℕ, ◌-◌, Bool, not, ◌&&◌, if◌then◌else◌, List, [], ◌∷◌, ◌++◌, length, map, ◌==◌, nat_le, bytes_eq, Option, Some, None, Ok}
 use Rattle.std.specs.List.{list_any}
 use Rattle.std.specs.Option.{unwrap_or}
 use Rattle.pq_term.specs.declared.token.Token.{Token}
+use Rattle.pq_term.specs.Names.{is_name}
 use Rattle.pq_term.specs.Numbers.{number_of}
 use Rattle.pq_grammar.specs.declared.class.Class.{Class}
 use Rattle.pq_grammar.specs.declared.class.Class.TheVariants.{SwitchWord, LinkWord}
@@ -26,49 +27,69 @@ may_be_port n = nat_le 1 n && nat_le n 4294967040
 
 -- Switches.
 
--- ports of a switch, after those of earlier switches, so many, and after earlier ones of its own
+-- a port of a switch, after earlier ones of its own, where the switch may have so many
 abbrev pub port_of : List ℕ → ℕ → List ℕ → Token → Reading ℕ
-port_of bytes before ports t =
+port_of bytes room ports t =
     let n = number_in bytes t in
-    unless t ((not (may_be_port n), BadValue) ∷ (list_any (λ p. p == n) ports, Doubled) ∷ (nat_le 4096 (before + length ports), Many) ∷ []) n
+    unless t ((not (may_be_port n), BadValue) ∷ (list_any (λ p. n == p) ports, Doubled) ∷ (nat_le room (length ports), Many) ∷ []) n
 
 -- the ports of a list, in text order
 abbrev pub ports_after : List ℕ → ℕ → List ℕ → Forest → Reading (List ℕ)
-ports_after bytes before ports nothing = Ok ports
-ports_after bytes before ports (grown head below rest) = next (port_of bytes before ports head) (λ n. ports_after bytes before (ports ++ n ∷ []) rest)
+ports_after bytes room ports nothing = Ok ports
+ports_after bytes room ports (grown head below rest) = next (port_of bytes room ports head) (λ n. ports_after bytes room (ports ++ n ∷ []) rest)
+
+-- the ports that the next switch may have: 4,096 less those of earlier ones
+abbrev pub room_after : List Switch → ℕ
+room_after earlier = 4096 - port_count earlier
+
+-- a number that a limit may have
+abbrev pub may_be_limit : ℕ → Bool
+may_be_limit n = nat_le 1 n && nat_le n 16384
+
+-- a limit, as its number states it
+abbrev pub stated_limit : List ℕ → Token → Reading ℕ
+stated_limit bytes t =
+    let n = number_in bytes t in
+    unless t ((not (may_be_limit n), BadValue) ∷ []) n
 
 -- the limit that is stated, and 2000 where none is
 abbrev pub limit_in : List ℕ → Forest → Reading ℕ
 limit_in bytes nothing = Ok 2000
 limit_in bytes (grown head nothing rest) = Ok 2000
-limit_in bytes (grown head (grown t below more) rest) =
-    let n = number_in bytes t in
-    unless t ((not (nat_le 1 n && nat_le n 16384), BadValue) ∷ []) n
+limit_in bytes (grown head (grown t below more) rest) = stated_limit bytes t
 
--- the name of a switch, which no earlier one has
+-- the name of a switch, which no earlier one has; what is no name is none of a sentence
 abbrev pub name_of : List ℕ → List Switch → Token → Reading (List ℕ)
 name_of bytes earlier t =
     let name = text_in bytes t in
-    unless t ((list_any (λ s. bytes_eq s.name name) earlier, Doubled) ∷ []) name
+    unless t ((not (is_name name), BadValue) ∷ (list_any (λ s. bytes_eq name s.name) earlier, Doubled) ∷ []) name
 
 -- the datapath number of a switch, which no earlier one has
 abbrev pub datapath_of : List ℕ → List Switch → Token → Reading ℕ
 datapath_of bytes earlier t =
     let n = number_in bytes t in
-    unless t ((list_any (λ s. s.datapath == n) earlier, Doubled) ∷ []) n
+    unless t ((list_any (λ s. n == s.datapath) earlier, Doubled) ∷ []) n
 
 -- a switch with these ports, in ascending order
 abbrev pub switch_with : List ℕ → ℕ → List ℕ → ℕ → Switch
 switch_with name datapath ports limit = record { name = name; datapath = datapath; ports = sort_by (λ p. p ∷ []) ports; limit = limit }
 
--- the switch of a statement, after earlier ones: its name, its datapath number, its ports and its limit; what has other parts is no statement of a sentence
-abbrev pub switch_of : List ℕ → List Switch → Token → Forest → Reading Switch
-switch_of bytes earlier keyword (grown name x (grown datapath y (grown list (grown port z ports) rest))) =
-    next (unless keyword ((nat_le 256 (length earlier), Many) ∷ []) keyword) (λ _.
+-- one more switch begins, of which there may be 256
+abbrev pub switch_begins : List Switch → Token → Reading Token
+switch_begins earlier keyword = unless keyword ((nat_le 256 (length earlier), Many) ∷ []) keyword
+
+-- a switch with these parts, after earlier ones
+abbrev pub switch_from : List ℕ → List Switch → Token → Token → Token → Forest → Forest → Reading Switch
+switch_from bytes earlier keyword name datapath ports rest =
+    next (switch_begins earlier keyword) (λ _.
     next (name_of bytes earlier name) (λ name.
     next (datapath_of bytes earlier datapath) (λ datapath.
-    next (ports_after bytes (port_count earlier) [] (grown port z ports)) (λ ports.
+    next (ports_after bytes (room_after earlier) [] ports) (λ ports.
     next (limit_in bytes rest) (λ limit. Ok (switch_with name datapath ports limit))))))
+
+-- the switch of a statement, after earlier ones: its name, its datapath number, its ports and its limit; what has other parts is no statement of a sentence
+abbrev pub switch_of : List ℕ → List Switch → Token → Forest → Reading Switch
+switch_of bytes earlier keyword (grown name x (grown datapath y (grown list (grown port z ports) rest))) = switch_from bytes earlier keyword name datapath (grown port z ports) rest
 switch_of bytes earlier keyword _ = faulty keyword BadValue
 
 -- the statement begins with this keyword
@@ -86,6 +107,10 @@ switches_after bytes earlier (grown head below rest) =
 abbrev pub by_datapath : List Switch → List Switch
 by_datapath switches = sort_by (λ s. s.datapath ∷ []) switches
 
+-- the switches that the statements give, by their datapath numbers
+abbrev pub switches_in_order : List ℕ → Forest → Reading (List Switch)
+switches_in_order bytes statements = next (switches_after bytes [] statements) (λ switches. Ok (by_datapath switches))
+
 -- Links.
 
 -- the datapath number of the switch that has the name
@@ -100,29 +125,41 @@ abbrev pub end_of : List ℕ → List Switch → List (ℕ × ℕ) → Token →
 end_of bytes switches ends name port =
     next (switch_at bytes switches name) (λ d.
     let n = number_in bytes port in
-    unless port ((not (is_port (record { switches = switches; links = [] }) d n), UnknownPort) ∷ (list_any (λ e. is_end e d n) ends, Doubled) ∷ []) (d, n))
+    unless port ((not (is_port (record { switches = switches; links = [] }) d n), UnknownPort) ∷ (list_any (λ e. is_end (d, n) e.0 e.1) ends, Doubled) ∷ []) (d, n))
 
--- the link between two ends, the smaller one first
-abbrev pub link_between : ℕ × ℕ → ℕ × ℕ → Link
-link_between d e = if is_before (end_numbers e) (end_numbers d) then record { first = e; second = d } else record { first = d; second = e }
+-- the link between two ends, each a name and a port, which are different and among no earlier ones
+abbrev pub link_from : List ℕ → List Switch → List (ℕ × ℕ) → Token → Token → Token → Token → Reading Link
+link_from bytes switches ends name port other peer =
+    next (end_of bytes switches ends name port) (λ d.
+    next (end_of bytes switches (ends ++ d ∷ []) other peer) (λ e. Ok (record { first = d; second = e })))
 
--- the link of a statement, after earlier ones
-abbrev pub link_of : List ℕ → List Switch → List Link → Token → Forest → Reading Link
-link_of bytes switches earlier keyword (grown name x (grown port y (grown other z (grown peer w rest)))) =
-    next (end_of bytes switches (ends_of earlier) name port) (λ d.
-    next (end_of bytes switches (ends_of earlier ++ d ∷ []) other peer) (λ e. Ok (link_between d e)))
-link_of bytes switches earlier keyword _ = faulty keyword BadValue
+-- the link of a statement, with its ends as they stand there, after earlier links with these ends; what has fewer parts is no statement of a sentence
+abbrev pub link_of : List ℕ → List Switch → List (ℕ × ℕ) → Token → Forest → Reading Link
+link_of bytes switches ends keyword (grown name x (grown port y (grown other z (grown peer w rest)))) = link_from bytes switches ends name port other peer
+link_of bytes switches ends keyword _ = faulty keyword BadValue
 
 -- the links of the statements, in text order, after earlier ones
 abbrev pub links_after : List ℕ → List Switch → List Link → Forest → Reading (List Link)
 links_after bytes switches earlier nothing = Ok earlier
 links_after bytes switches earlier (grown head below rest) =
-    if begins_with bytes LinkWord head then next (link_of bytes switches earlier head below) (λ l. links_after bytes switches (earlier ++ l ∷ []) rest)
+    if begins_with bytes LinkWord head then next (link_of bytes switches (ends_of earlier) head below) (λ l. links_after bytes switches (earlier ++ l ∷ []) rest)
     else links_after bytes switches earlier rest
+
+-- the same link, with the smaller end first
+abbrev pub ordered : Link → Link
+ordered l = if is_before (end_numbers l.second) (end_numbers l.first) then record { first = l.second; second = l.first } else l
+
+-- the links, each with the smaller end first, in ascending order
+abbrev pub in_order : List Link → List Link
+in_order links = sort_by link_numbers (map ordered links)
+
+-- the links that the statements give between these switches, in ascending order
+abbrev pub links_in_order : List ℕ → List Switch → Forest → Reading (List Link)
+links_in_order bytes switches statements = next (links_after bytes switches [] statements) (λ links. Ok (in_order links))
 
 -- the topology of the statements: its switches by datapath number, and its links in ascending order
 abbrev pub topology_of : List ℕ → Forest → Reading Topology
 topology_of bytes statements =
-    next (switches_after bytes [] statements) (λ switches.
-    next (links_after bytes (by_datapath switches) [] statements) (λ links.
-    Ok (record { switches = by_datapath switches; links = sort_by link_numbers links })))
+    next (switches_in_order bytes statements) (λ switches.
+    next (links_in_order bytes switches statements) (λ links.
+    Ok (record { switches = switches; links = links })))

@@ -3,6 +3,7 @@
 
 mod fault;
 mod link;
+mod resolve;
 mod switch;
 mod topology;
 
@@ -10,3 +11,6 @@ pub use fault::{NameFault, NameKind};
 pub use link::Link;
 pub use switch::Switch;
 pub use topology::Topology;
+
+#[cfg(test)]
+mod tests;

@@ -1,5 +1,6 @@
-ghost use Rattle.std.specs.Prelude.{◌≡◌, is_some, IfOk, MatchOption};
+ghost use Rattle.std.specs.Prelude.{◌≡◌, ◌≤◌, All, IfOk, IsTrue, MatchOption};
 ghost use Rattle.pq_model.specs.Lawful.{Ascends};
+ghost use Rattle.pq_model.specs.MatchFields.{IsPortNumber};
 ghost use Rattle.pq_model.specs.Topology.{is_edge, is_port, limit_of, peer, ports_of, switch_named};
 ghost use Rattle.pq_topo.specs.Named.{IsNamedTopology, IsNoSwitch, IsSwitchAt};
 
@@ -85,6 +86,7 @@ impl Topology {
     pub fn ports_of(&self, datapath: u64) -> &[u32]
         ensures ports { result.now ≡ ports_of self.now datapath }
         ensures ascending { Ascends result.now }
+        ensures numbers { All IsPortNumber result.now }
     {
         match self.position(datapath) {
             Some(index) => &self.switches[index].ports,
@@ -106,7 +108,19 @@ impl Topology {
     pub fn is_port(&self, datapath: u64, port: u32) -> bool
         ensures { result ≡ is_port self.now datapath port }
     {
-        self.ports_of(datapath).binary_search(&port).is_ok()
+        self.has_port(datapath, u64::from(port))
+    }
+
+    /// Whether the switch with this datapath number has a port of this number, which may be beyond all ports.
+    pub(crate) fn has_port(&self, datapath: u64, number: u64) -> bool
+        ensures port { result ≡ is_port self.now datapath number }
+        ensures within { IsTrue result → number ≤ 0xffffff00 }
+    {
+        let ports = self.ports_of(datapath);
+        if 0xffff_ff00 < number {
+            return false;
+        }
+        ports.binary_search(&(number as u32)).is_ok()
     }
 
     /// Whether this is a port of the topology that is in no link.
@@ -120,8 +134,15 @@ impl Topology {
     pub fn switch_named(&self, name: &Name) -> Option<u64>
         ensures { result ≡ switch_named self.now name.now }
     {
+        self.datapath_named(name.bytes())
+    }
+
+    /// The datapath number of the switch whose name has these bytes; `None` exactly where no switch has it.
+    pub(crate) fn datapath_named(&self, name: &[u8]) -> Option<u64>
+        ensures { result ≡ switch_named self.now name.now }
+    {
         for switch in &self.switches {
-            if switch.name.bytes() == name.bytes() {
+            if switch.name.bytes() == name {
                 return Some(switch.datapath);
             }
         }

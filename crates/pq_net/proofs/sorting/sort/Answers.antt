@@ -4,7 +4,7 @@ use Rattle.std.proofs.lemmas.Result.{on_ok_weaker}
 use Rattle.std.specs.Cmp.Lexicographic.{slice_cmp}
 use Rattle.std.specs.Ordering.{is_lt, nat_cmp}
 use Rattle.pq_model.specs.Buckets.{entry_numbers}
-use Rattle.pq_switch.proofs.Sorted.{before-cmp, before_is_order, sorted_stably}
+use Rattle.pq_model.proofs.Sorted.{before-cmp, before_is_order, sorted_stably}
 use Rattle.pq_net.proofs.sorting.sort.Goals as goal
 
 -- the closure answers as the numbers compare, so a stable sort by it is the sort by the numbers

@@ -5,7 +5,7 @@ use Rattle.std.specs.Cmp.Lexicographic.{slice_cmp}
 use Rattle.std.specs.Ordering.{is_lt, nat_cmp}
 use Rattle.pq_switch.specs.SentOrder.{sent_numbers}
 use Rattle.pq_switch.proofs.SentOrder.{sorted_in_order}
-use Rattle.pq_switch.proofs.Sorted.{before-cmp, before_is_order, sorted_stably}
+use Rattle.pq_model.proofs.Sorted.{before-cmp, before_is_order, sorted_stably}
 use Rattle.pq_switch.proofs.sorting.sort.Goals as goal
 
 pub returns : goal.returns

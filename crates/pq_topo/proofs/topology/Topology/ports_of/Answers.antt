@@ -21,3 +21,11 @@ returns-in-Some-clause-ascending c =
     let lawful = named.lawful.switches c.in-Some.index c.index.result.now c.in-Some.ensures.0 in
     let read = rw (ap (λ t. t.switches) c.self.view_is) at c.index.ensures in
     rw (c.deref.ensures.value ∙ ap (λ s. s.ports) (c.behind-self.view_is ∙ read)) lawful.2
+
+-- the ports of each switch are numbers of ports
+pub returns-in-Some-clause-numbers : goal.returns-in-Some-clause-numbers
+returns-in-Some-clause-numbers c =
+    let named = subst IsNamedTopology c.self.view_is c.self.invariant in
+    let lawful = named.lawful.switches c.in-Some.index c.index.result.now c.in-Some.ensures.0 in
+    let read = rw (ap (λ t. t.switches) c.self.view_is) at c.index.ensures in
+    rw (c.deref.ensures.value ∙ ap (λ s. s.ports) (c.behind-self.view_is ∙ read)) lawful.3

@@ -1,0 +1,61 @@
+//! The names of parts and of queries.
+ghost use Rattle.std.specs.Prelude.{◌≡◌, ◌++◌, ◌∷◌, [], false, length, bytes_eq, IfOk, IfErr, OnOk};
+ghost use Rattle.std.specs.List.{list_any};
+ghost use Rattle.pq_topo.specs.Naming.{IsAnswer};
+ghost use Rattle.pq_compile.specs.Names.{keyword_at, name_at};
+
+use indexmap::IndexSet;
+use pq_pred::faulty;
+use pq_term::{Name, Token};
+use pq_topo::{NameFault, NameKind};
+use pq_tree::text_in;
+
+/// Refuses the statement where so many others of its sort stand before it already.
+pub(crate) fn keyword_at(most: usize, count: usize, keyword: &Token) -> Result<Token, NameFault>
+    ensures { IsAnswer (λ t. t) result (keyword_at most count keyword.now) }
+{
+    if most <= count {
+        return Err(faulty(keyword, NameKind::Many));
+    }
+    Ok(*keyword)
+}
+
+/// Whether the name is one of these.
+#[tactic(auto, using(crate::proofs::SameNames::among_names))]
+fn has_name(names: &IndexSet<Name>, name: &Name) -> bool
+    ensures { result ≡ list_any (λ n. bytes_eq name.now n) names.now.keys }
+{
+    names.contains(name)
+}
+
+/// Adds a new name behind the others.
+#[tactic(auto, using(crate::proofs::SameNames::new_name_last))]
+fn add_name(names: &mut IndexSet<Name>, name: Name) -> Result<(), NameFault>
+    requires { list_any (λ n. bytes_eq name n) names.now.keys ≡ false }
+    ensures keys { OnOk result (names.new.keys ≡ names.old.keys ++ name ∷ []) }
+    ensures err { IfErr result (λ fault. fault ≡ NameFault.Memory) }
+{
+    match names.insert(name) {
+        Ok(_) => Ok(()),
+        Err(_) => Err(NameFault::Memory),
+    }
+}
+
+/// The name that a token spells, which no earlier statement of the sort has.
+pub(crate) fn name_at(
+    bytes: &[u8],
+    names: &mut IndexSet<Name>,
+    token: &Token,
+) -> Result<Name, NameFault>
+    ensures name { IsAnswer (λ n. n) result (name_at bytes.now names.old.keys token.now) }
+    ensures kept { IfOk result (λ name. names.new.keys ≡ names.old.keys ++ name ∷ []) }
+{
+    let Some(name) = Name::of(text_in(bytes, token)) else {
+        return Err(faulty(token, NameKind::BadValue));
+    };
+    if has_name(names, &name) {
+        return Err(faulty(token, NameKind::Doubled));
+    }
+    add_name(names, name)?;
+    Ok(name)
+}
