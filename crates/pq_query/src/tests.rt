@@ -1,62 +1,40 @@
 //! Queries and faults of texts, worked out by hand from the naming rules.
-ghost use Rattle.std.specs.Prelude.{◌≡◌, true};
-ghost use Rattle.pq_term.specs.Names.{is_name};
-
 use crate::*;
 use bumpalo::Bump;
-use pq_term::Name;
-use pq_topo::{NameFault, NameKind, Switch, Topology};
+use pq_topo::{NameFault, NameKind, Topology};
 use pq_tree::{Term, read_terms};
 use std::alloc::{AllocError, Global};
 use std::test::Fail;
 
-fn name(bytes: &[u8]) -> Name
-    requires { is_name bytes.now ≡ true }
-    ensures { result ≡ bytes.now }
-{
-    match Name::of(bytes) {
-        Some(name) => name,
-        None => unreachable!(),
-    }
-}
-
-/// A switch `s1` of datapath number 9, with port 5.
-fn topology(alloc: Global) -> Result<Topology, AllocError> {
-    let ports = vec![in alloc; 5]?;
-    let switch = Switch {
-        name: name(b"s1"),
-        datapath: 9,
-        ports,
-        limit: 2000,
-    };
-    let switches = vec![in alloc; switch]?;
-    Ok(Topology::made(switches, Vec::new(alloc)))
-}
-
-/// The tree of a statement's query, which stands after its name.
+/// The tree of a query, which stands after the query's name in the statement behind that of the switch.
 fn path_of<'a>(statements: &'a [Term<'a>]) -> Option<&'a Term<'a>> {
     match statements {
-        [statement, ..] => statement.children.get(1),
-        [] => None,
+        [_, statement, ..] => statement.children.get(1),
+        _ => None,
     }
 }
 
-/// What the query of a statement is resolved to; `None` where the text is none of the grammar.
-fn resolved(alloc: Global, text: &[u8]) -> Result<Option<Result<Query, NameFault>>, AllocError> {
-    let topology = topology(alloc)?;
+/// What the query of a document is resolved to, which has one switch before it; `None` where the text is no such document.
+fn resolved(alloc: Global, text: &[u8]) -> Option<Result<Query, NameFault>> {
     let bump = Bump::new(alloc);
     let Ok(statements) = read_terms(alloc, &bump, text) else {
-        return Ok(None);
+        return None;
+    };
+    let Ok(topology) = Topology::resolve(alloc, statements, text) else {
+        return None;
     };
     match path_of(statements) {
-        Some(path) => Ok(Some(resolve_query(alloc, path, text, &topology))),
-        None => Ok(None),
+        Some(path) => Some(resolve_query(alloc, path, text, &topology)),
+        None => None,
     }
 }
+
+/// The statement of a switch `s1` of datapath number 9.
+const SWITCH: &str = "switch s1 = 9 ports 5; ";
 
 /// Whether the text's fault is of this kind, and at its mark `!`, which is no part of it.
 fn has_marked_fault(alloc: Global, marked: &str, wanted: NameKind) -> Result<bool, AllocError> {
-    let mut text = Vec::new(alloc);
+    let mut text = Vec::from_slice(alloc, SWITCH.as_bytes())?;
     let mut place = 0;
     for byte in marked.as_bytes() {
         if *byte == b'!' {
@@ -65,7 +43,7 @@ fn has_marked_fault(alloc: Global, marked: &str, wanted: NameKind) -> Result<boo
             text.push(*byte)?;
         }
     }
-    match resolved(alloc, &text)? {
+    match resolved(alloc, &text) {
         Some(Err(NameFault::Name { at, kind })) => Ok(at == place && kind == wanted),
         _ => Ok(false),
     }
@@ -73,7 +51,8 @@ fn has_marked_fault(alloc: Global, marked: &str, wanted: NameKind) -> Result<boo
 
 /// Whether the text is resolved to the query that is shown so.
 fn is_resolved(alloc: Global, text: &str, wanted: &str) -> Result<bool, AllocError> {
-    match resolved(alloc, text.as_bytes())? {
+    let document = format!(in alloc; "{SWITCH}{text}")?;
+    match resolved(alloc, document.as_str().as_bytes()) {
         Some(Ok(query)) => {
             let shown = format!(in alloc; "{query:?}")?;
             Ok(shown.as_str() == wanted)
