@@ -1,2 +1,3 @@
 mod Below
 pub mod WorkedLabels
+pub mod WorkedLanguage

@@ -12,3 +12,6 @@ pub use group::Group;
 pub use instance::Instance;
 pub use query::Query;
 pub use resolve::resolve_query;
+
+#[cfg(test)]
+mod tests;
