@@ -38,7 +38,7 @@ pub enum Outcome {
 
 /// What the program calls a naming rule.
 fn kind_word(kind: NameKind) -> &'static str
-    ensures { str_bytes result.now ≡ kind_word kind }
+    ensures { result.now ≡ kind_word kind }
 {
     match kind {
         NameKind::Many => "many",
