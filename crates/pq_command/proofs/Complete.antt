@@ -1,11 +1,11 @@
 -- What is read whole of a known input, and when a command is done.
-use Rattle.std.proofs.Common.{◌≡◌, ◌≢◌, ℕ, ◌<◌, ◌≤◌, List, [], ◌++◌, length, refl, ap, sym, ◌∙◌, subst, arith, length-append, append-nil, IfSome, Option, Some, None}
+use Rattle.std.proofs.Common.{◌≡◌, ℕ, ◌≤◌, List, ◌++◌, length, ap, sym, ◌∙◌, subst, arith, length-append, append-nil, IfSome, Option, Some, None}
 use Rattle.std.specs.Io.KnownBytes.{Consumes, IsAtEnd}
 use Rattle.pq_io.specs.Faults.{Rose}
 use Rattle.pq_small.specs.SmallForm.{SmallForm, IsSmallForm}
 use Rattle.pq_command.specs.declared.outcome.Outcome.{Outcome}
 use Rattle.pq_command.specs.declared.outcome.Outcome.TheVariants.{Done, Words, ReadFault, TooLong, Lex, Syntax, Name, NotYet, Damaged, ScheduleFull, WriteFault, Memory}
-use Rattle.pq_command.specs.Answers.{Streams, ReadsWhole, ReadsMore, IsCompileAnswer, IsRefused, IsReplayAnswer, IsInspectAnswer, HasReadFaults, HasWriteFaults, IsDoneOrMemory, document_limit, install_limit}
+use Rattle.pq_command.specs.Answers.{ReadsWhole, ReadsMore, IsCompileAnswer, IsRefused, IsReplayAnswer, IsInspectAnswer, HasReadFaults, HasWriteFaults, IsDoneOrMemory, document_limit, install_limit}
 use Rattle.pq_install.specs.Damage.{IsDamagedAt}
 use Rattle.pq_inspect.specs.Inspected.{IsWholeInstall, IsSpoiledAt}
 use Rattle.pq_inspect.proofs.Unspoiled.{not_spoiled}

@@ -8,10 +8,10 @@ use Rattle.pq_command.specs.Answers.{Streams, IsCompileAnswer, IsRefusal, HasRea
 
 -- a refusal is an answer, of the whole text
 pub answered : (o : Outcome) (s : Streams) (text : List ℕ) → Consumes s.left s.rest text → IsAtEnd s.rest → length text ≤ document_limit → IsNoForm text → IsRefusal text o → IsCompileAnswer o s
-answered (Lex at) s text taken end short none refusal = (text, taken, end, short, none, refusal)
-answered (Syntax at) s text taken end short none refusal = (text, taken, end, short, none, refusal)
-answered (Name at kind) s text taken end short none refusal = (text, taken, end, short, none, refusal)
-answered NotYet s text taken end short none refusal = (text, taken, end, short, none, refusal)
+answered (Lex at) s text taken end short none refusal = (text, taken, end, short, (none, refusal))
+answered (Syntax at) s text taken end short none refusal = (text, taken, end, short, (none, refusal))
+answered (Name at kind) s text taken end short none refusal = (text, taken, end, short, (none, refusal))
+answered NotYet s text taken end short none refusal = (text, taken, end, short, (none, refusal))
 answered Memory s text taken end short none refusal = tt
 answered Done s text taken end short none refusal = absurd refusal
 answered Words s text taken end short none refusal = absurd refusal

@@ -54,6 +54,16 @@ fn kind_word(kind: NameKind) -> &'static str
     }
 }
 
+/// What the program says of a token that breaks a naming rule.
+fn name_line(alloc: Global, at: usize, kind: NameKind) -> Result<String, AllocError>
+    ensures { IfOk result (λ line. string_bytes line ≡ line_of (Outcome.Name at kind)) }
+{
+    let mut line = format!(in alloc; "name {at}")?;
+    line.push_str(" ")?;
+    line.push_str(kind_word(kind))?;
+    Ok(line)
+}
+
 impl Outcome {
     /// The status that the program ends with.
     pub fn code(&self) -> u8
@@ -82,10 +92,7 @@ impl Outcome {
             Outcome::TooLong => String::from_str(alloc, "too long"),
             Outcome::Lex { at } => format!(in alloc; "lex {at}"),
             Outcome::Syntax { at } => format!(in alloc; "syntax {at}"),
-            Outcome::Name { at, kind } => {
-                let word = kind_word(*kind);
-                format!(in alloc; "name {at} {word}")
-            }
+            Outcome::Name { at, kind } => name_line(alloc, *at, *kind),
             Outcome::NotYet => String::from_str(alloc, "not yet"),
             Outcome::Damaged { at } => format!(in alloc; "damaged {at}"),
             Outcome::ScheduleFull => String::from_str(alloc, "schedule full"),

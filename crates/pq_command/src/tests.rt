@@ -92,15 +92,24 @@ fn each_text_has_its_outcome(rt: HostRuntime) -> Result<(), Fail> {
         ),
         (
             "switch s = 1 ports 1, 1; part p = filter(port=1) >> fwd(1);",
-            Outcome::Name { at: 22, kind: NameKind::Doubled },
+            Outcome::Name {
+                at: 22,
+                kind: NameKind::Doubled,
+            },
         ),
         (
             "switch s = 1 ports 0; part p = filter(port=1) >> fwd(1);",
-            Outcome::Name { at: 19, kind: NameKind::BadValue },
+            Outcome::Name {
+                at: 19,
+                kind: NameKind::BadValue,
+            },
         ),
         (
             "switch s = 1 ports 4294967041; part p = filter(port=1) >> fwd(1);",
-            Outcome::Name { at: 19, kind: NameKind::BadValue },
+            Outcome::Name {
+                at: 19,
+                kind: NameKind::BadValue,
+            },
         ),
         (
             "switch s = 1 ports 4294967040; part p = filter(port=1) >> fwd(1);",
@@ -128,16 +137,25 @@ fn each_text_has_its_outcome(rt: HostRuntime) -> Result<(), Fail> {
         ("part a = fwd(1)", Outcome::Syntax { at: 15 }),
         (
             "part a = mod(port=2);",
-            Outcome::Name { at: 13, kind: NameKind::NotWritable },
+            Outcome::Name {
+                at: 13,
+                kind: NameKind::NotWritable,
+            },
         ),
-        ("query q = in_atom(true) ^ ~end_atom(false)*;", Outcome::NotYet),
+        (
+            "query q = in_atom(true) ^ ~end_atom(false)*;",
+            Outcome::NotYet,
+        ),
         (
             "switch s1 = 1 ports 1, 2; part a = mod(eth_dst=02:00:00:00:00:0a) >> fwd(2) + fwd(2);",
             Outcome::NotYet,
         ),
         (
             "switch s1 = 1 ports 1; query q = in_group(true, [port of (1, 1)]);",
-            Outcome::Name { at: 61, kind: NameKind::Doubled },
+            Outcome::Name {
+                at: 61,
+                kind: NameKind::Doubled,
+            },
         ),
     ] {
         assert_eq!(rt; outcome_of(alloc, text.as_bytes())?, expected, "{text}");
@@ -209,9 +227,30 @@ fn each_outcome_has_its_status_and_its_line(rt: HostRuntime) -> Result<(), Fail>
         (Outcome::TooLong, 1, "too long"),
         (Outcome::Syntax { at: 290 }, 1, "syntax 290"),
         (Outcome::Lex { at: 24 }, 1, "lex 24"),
-        (Outcome::Name { at: 13, kind: NameKind::NotWritable }, 1, "name 13 not_writable"),
-        (Outcome::Name { at: 0, kind: NameKind::Many }, 1, "name 0 many"),
-        (Outcome::Name { at: 7, kind: NameKind::UnknownSwitch }, 1, "name 7 unknown_switch"),
+        (
+            Outcome::Name {
+                at: 13,
+                kind: NameKind::NotWritable,
+            },
+            1,
+            "name 13 not_writable",
+        ),
+        (
+            Outcome::Name {
+                at: 0,
+                kind: NameKind::Many,
+            },
+            1,
+            "name 0 many",
+        ),
+        (
+            Outcome::Name {
+                at: 7,
+                kind: NameKind::UnknownSwitch,
+            },
+            1,
+            "name 7 unknown_switch",
+        ),
         (Outcome::NotYet, 1, "not yet"),
         (Outcome::Damaged { at: 122 }, 1, "damaged 122"),
         (Outcome::ScheduleFull, 3, "schedule full"),

@@ -1,5 +1,5 @@
 -- An install alone is inspected, unless memory runs out.
-use Rattle.std.proofs.Common.{◌≡◌, ℕ, ◌<◌, List, ◌⊎◌, inl, inr, sym, subst, length, take, take_all, arith}
+use Rattle.std.proofs.Common.{ℕ, List, ◌⊎◌, inl, inr, sym, subst, length, take, take_all, arith}
 use Rattle.pq_model.specs.Install.{Install, IsSpelled, IsSpelledOld}
 use Rattle.pq_install.proofs.OneSpelling.{same_length}
 use Rattle.pq_install.proofs.Renamed.{spelled_stands}

@@ -1,8 +1,6 @@
 -- What is an install and a schedule is replayed, unless memory runs out.
-use Rattle.std.proofs.Common.{◌≡◌, ℕ, List, ◌⊎◌, inl, inr, sym, ◌∙◌, subst, refl, take, drop, take-append-drop}
-use Rattle.pq_model.specs.Install.{Install, IsSpelled, IsSpelledOld}
+use Rattle.std.proofs.Common.{ℕ, List, ◌∙◌, subst, drop}
 use Rattle.pq_install.specs.Damage.{IsDamagedAt}
-use Rattle.pq_install.specs.Reading.{IsInstallAtFront}
 use Rattle.pq_install.proofs.OneSpelling.{same_rest}
 use Rattle.pq_install.proofs.Renamed.{spelled_stands}
 use Rattle.pq_schedule.specs.Schedules.{FirstFault, IsTooLong}
