@@ -1,12 +1,12 @@
 //! The names of parts and of queries.
-ghost use Rattle.std.specs.Prelude.{◌≡◌, ◌++◌, ◌∷◌, [], false, length, bytes_eq, IfOk, IfErr, OnOk};
-ghost use Rattle.std.specs.List.{list_any};
+ghost use Rattle.std.specs.Prelude.{◌≡◌, ◌++◌, ◌∷◌, [], IfOk};
 ghost use Rattle.pq_topo.specs.Naming.{IsAnswer};
 ghost use Rattle.pq_compile.specs.Names.{keyword_at, name_at};
 
 use indexmap::IndexSet;
 use pq_pred::faulty;
 use pq_term::{Name, Token};
+use pq_topo::names::{add_name, has_name};
 use pq_topo::{NameFault, NameKind};
 use pq_tree::text_in;
 
@@ -18,27 +18,6 @@ pub(crate) fn keyword_at(most: usize, count: usize, keyword: &Token) -> Result<T
         return Err(faulty(keyword, NameKind::Many));
     }
     Ok(*keyword)
-}
-
-/// Whether the name is one of these.
-#[tactic(auto, using(crate::proofs::SameNames::among_names))]
-fn has_name(names: &IndexSet<Name>, name: &Name) -> bool
-    ensures { result ≡ list_any (λ n. bytes_eq name.now n) names.now.keys }
-{
-    names.contains(name)
-}
-
-/// Adds a new name behind the others.
-#[tactic(auto, using(crate::proofs::SameNames::new_name_last))]
-fn add_name(names: &mut IndexSet<Name>, name: Name) -> Result<(), NameFault>
-    requires { list_any (λ n. bytes_eq name n) names.now.keys ≡ false }
-    ensures keys { OnOk result (names.new.keys ≡ names.old.keys ++ name ∷ []) }
-    ensures err { IfErr result (λ fault. fault ≡ NameFault.Memory) }
-{
-    match names.insert(name) {
-        Ok(_) => Ok(()),
-        Err(_) => Err(NameFault::Memory),
-    }
 }
 
 /// The name that a token spells, which no earlier statement of the sort has.

@@ -4,11 +4,12 @@ pub mod Found
 pub mod LinkRules
 pub mod LinkSteps
 pub mod Member
-pub mod Names
+pub mod NewNames
 pub mod Ordered
 pub mod Passed
 pub mod PortSteps
 pub mod Readings
+pub mod SameNames
 pub mod SwitchRules
 pub mod SwitchShapes
 pub mod SwitchSteps

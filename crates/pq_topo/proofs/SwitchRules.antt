@@ -7,6 +7,7 @@ use Rattle.std.specs.Cmp.Lexicographic.{nat_list_eq_equiv}
 use Rattle.std.specs.Option.{unwrap_or}
 use Rattle.std.proofs.lemmas.Bool.{and_parts, leb-true}
 use Rattle.std.proofs.lemmas.Bool.Decides.{nat_tests}
+use Rattle.std.proofs.lemmas.List.{length-map}
 use Rattle.std.proofs.lemmas.List.Sums.{sum_by_push}
 use Rattle.std.proofs.lemmas.List.Sorted.{length_permutation, sum_by-IsPermutation, IsPermutation-map}
 use Rattle.std.proofs.lemmas.List.Elements.{All-from_recursion}
@@ -26,7 +27,7 @@ use Rattle.pq_grammar.specs.declared.class.Class.TheVariants.{SwitchWord}
 use Rattle.pq_topo.specs.declared.fault.NameKind.TheVariants.{Many, Doubled, BadValue}
 use Rattle.pq_topo.specs.Named.{IsNamedTopology}
 use Rattle.pq_topo.specs.Naming.{unless, next}
-use Rattle.pq_topo.specs.Statements.{number_in, may_be_port, port_of, ports_after, room_after, limit_in, name_of, datapath_of, switch_with, switch_from, switch_of, begins_with, switches_after, by_datapath}
+use Rattle.pq_topo.specs.Statements.{number_in, may_be_port, port_of, ports_after, room_after, seen, limit_in, name_of, datapath_of, switch_with, switch_begins, switch_from, switch_of, begins_with, switches_after, by_datapath}
 use Rattle.pq_topo.proofs.Readings.{next_ok, unless_ok}
 use Rattle.pq_topo.proofs.Ordered.{ascends_from, sort_shuffles, sort_ascends, all_sorted, same_key}
 
@@ -34,11 +35,7 @@ pub all_push : {X : Type 0} (P : X → Type 0) (xs : List X) (x : X) → AllByRe
 all_push P [] x all here = (here, tt)
 all_push P (y ∷ ys) x all here = (all.0, all_push P ys x all.1 here)
 
-any-map : {X Y : Type 0} (f : X → Y) (p : Y → Bool) (xs : List X) → list_any p (map f xs) ≡ list_any (λ x. p (f x)) xs
-any-map f p [] = refl
-any-map f p (x ∷ xs) = ap (λ b. p (f x) || b) (any-map f p xs)
-
-map-push : {X Y : Type 0} (f : X → Y) (xs : List X) (x : X) → map f (xs ++ x ∷ []) ≡ map f xs ++ f x ∷ []
+pub map-push : {X Y : Type 0} (f : X → Y) (xs : List X) (x : X) → map f (xs ++ x ∷ []) ≡ map f xs ++ f x ∷ []
 map-push f [] x = refl
 map-push f (y ∷ ys) x = ap (λ l. f y ∷ l) (map-push f ys x)
 
@@ -135,16 +132,18 @@ ports_sorted room ps are some =
       omega (arith, long, are.few),
     )
 
-switch_kept : (bytes : List ℕ) (earlier : List Switch) (keyword name datapath port : Token) (z ports rest : Forest) (s : Switch) → switch_from bytes earlier keyword name datapath (grown port z ports) rest ≡ Ok s → AreReadSwitches earlier → AreReadSwitches (earlier ++ s ∷ [])
+switch_kept : (bytes : List ℕ) (earlier : List Switch) (keyword name datapath port : Token) (z ports rest : Forest) (s : Switch) → switch_from bytes (seen earlier) keyword name datapath (grown port z ports) rest ≡ Ok s → AreReadSwitches earlier → AreReadSwitches (earlier ++ s ∷ [])
 switch_kept bytes earlier keyword name datapath port z ports rest s e are =
-    let begun = next_ok (unless keyword ((nat_le 256 (length earlier), Many) ∷ []) keyword) _ s e in
-    let few = unless_ok keyword ((nat_le 256 (length earlier), Many) ∷ []) keyword begun.0 begun.1 in
-    let named = next_ok (name_of bytes earlier name) _ s begun.2 in
+    let names = map (λ t. t.name) earlier in
+    let datapaths = map (λ t. t.datapath) earlier in
+    let begun = next_ok (switch_begins (seen earlier) keyword) _ s e in
+    let few = unless_ok keyword ((nat_le 256 (length names), Many) ∷ []) keyword begun.0 begun.1 in
+    let named = next_ok (name_of bytes names name) _ s begun.2 in
     let name_text = text_in bytes name in
-    let name_told = unless_ok name ((not (is_name name_text), BadValue) ∷ (list_any (λ t. bytes_eq name_text t.name) earlier, Doubled) ∷ []) name_text named.0 named.1 in
-    let numbered = next_ok (datapath_of bytes earlier datapath) _ s named.2 in
+    let name_told = unless_ok name ((not (is_name name_text), BadValue) ∷ (list_any (λ n. bytes_eq name_text n) names, Doubled) ∷ []) name_text named.0 named.1 in
+    let numbered = next_ok (datapath_of bytes datapaths datapath) _ s named.2 in
     let d = number_in bytes datapath in
-    let datapath_told = unless_ok datapath ((list_any (λ t. d == t.datapath) earlier, Doubled) ∷ []) d numbered.0 numbered.1 in
+    let datapath_told = unless_ok datapath ((list_any (λ n. d == n) datapaths, Doubled) ∷ []) d numbered.0 numbered.1 in
     let ported = next_ok (ports_after bytes (room_after earlier) [] (grown port z ports)) _ s numbered.2 in
     let port_told = some_ports bytes (room_after earlier) port z ports ported.0 ported.1 in
     let limited = next_ok (limit_in bytes rest) _ s ported.2 in
@@ -155,17 +154,18 @@ switch_kept bytes earlier keyword name datapath port z ports rest s e are =
     let made = switch_with named.0 numbered.0 ported.0 limited.0 in
     let long : length (earlier ++ made ∷ []) ≡ length earlier + 1 = length-append earlier (made ∷ []) in
     let sum : port_count (earlier ++ made ∷ []) ≡ port_count earlier + length made.ports = sum_by_push (λ t. length t.ports) earlier made in
-    let new_name : list_any (bytes_eq named.0) (map (λ t. t.name) earlier) ≡ false = any-map (λ t. t.name) (bytes_eq named.0) earlier ∙ subst (λ n. list_any (λ t. bytes_eq n t.name) earlier ≡ false) name_told.1 name_told.0.1.0 in
-    let new_datapath : list_any (nat_eq numbered.0) (map (λ t. t.datapath) earlier) ≡ false = any-map (λ t. t.datapath) (nat_eq numbered.0) earlier ∙ subst (λ n. list_any (λ t. n == t.datapath) earlier ≡ false) datapath_told.1 datapath_told.0.0 in
+    let new_name : list_any (bytes_eq named.0) names ≡ false = subst (λ n. list_any (λ m. bytes_eq n m) names ≡ false) name_told.1 name_told.0.1.0 in
+    let new_datapath : list_any (nat_eq numbered.0) datapaths ≡ false = subst (λ n. list_any (λ m. n == m) datapaths ≡ false) datapath_told.1 datapath_told.0.0 in
+    let counted : length names ≡ length earlier = length-map earlier (λ t. t.name) in
     subst (λ t. AreReadSwitches (earlier ++ t ∷ [])) is (record {
-      few = grind (arith, nat_tests, few.0.0, long);
+      few = grind (arith, nat_tests, few.0.0, counted, long);
       few_ports = omega (arith, sum, sorted.3, are.few_ports);
       each = all_push IsReadSwitch earlier made are.each ((bound, sorted.0, sorted.1, sorted.2), limit_told);
       names = subst (IsDistinct bytes_eq) (sym (map-push (λ t. t.name) earlier made)) (IsDistinct-push nat_list_eq_equiv (map (λ t. t.name) earlier) named.0 are.names new_name);
       datapaths = subst (IsDistinct nat_eq) (sym (map-push (λ t. t.datapath) earlier made)) (IsDistinct-push nat_eq_equiv (map (λ t. t.datapath) earlier) numbered.0 are.datapaths new_datapath);
     })
 
-statement_kept : (bytes : List ℕ) (earlier : List Switch) (keyword : Token) (f : Forest) (s : Switch) → switch_of bytes earlier keyword f ≡ Ok s → AreReadSwitches earlier → AreReadSwitches (earlier ++ s ∷ [])
+statement_kept : (bytes : List ℕ) (earlier : List Switch) (keyword : Token) (f : Forest) (s : Switch) → switch_of bytes (seen earlier) keyword f ≡ Ok s → AreReadSwitches earlier → AreReadSwitches (earlier ++ s ∷ [])
 statement_kept bytes earlier keyword nothing s e are = absurd cc
 statement_kept bytes earlier keyword (grown name x nothing) s e are = absurd cc
 statement_kept bytes earlier keyword (grown name x (grown datapath y nothing)) s e are = absurd cc
@@ -177,9 +177,9 @@ pub switches_kept : (bytes : List ℕ) (earlier : List Switch) (f : Forest) (ss 
 switches_kept bytes earlier nothing ss e are = let same : earlier ≡ ss = cc in subst AreReadSwitches same are
 switches_kept bytes earlier (grown head below rest) ss e are = by (begins_with bytes SwitchWord head) e (λ s. switches_kept bytes (earlier ++ s ∷ []) rest ss) (λ more. switches_kept bytes earlier rest ss more are)
   where
-    by : (b : Bool) → (if b then next (switch_of bytes earlier head below) (λ s. switches_after bytes (earlier ++ s ∷ []) rest) else switches_after bytes earlier rest) ≡ Ok ss → ((s : Switch) → switches_after bytes (earlier ++ s ∷ []) rest ≡ Ok ss → AreReadSwitches (earlier ++ s ∷ []) → AreReadSwitches ss) → (switches_after bytes earlier rest ≡ Ok ss → AreReadSwitches ss) → AreReadSwitches ss
+    by : (b : Bool) → (if b then next (switch_of bytes (seen earlier) head below) (λ s. switches_after bytes (earlier ++ s ∷ []) rest) else switches_after bytes earlier rest) ≡ Ok ss → ((s : Switch) → switches_after bytes (earlier ++ s ∷ []) rest ≡ Ok ss → AreReadSwitches (earlier ++ s ∷ []) → AreReadSwitches ss) → (switches_after bytes earlier rest ≡ Ok ss → AreReadSwitches ss) → AreReadSwitches ss
     by true e one more =
-        let told = next_ok (switch_of bytes earlier head below) (λ s. switches_after bytes (earlier ++ s ∷ []) rest) ss e in
+        let told = next_ok (switch_of bytes (seen earlier) head below) (λ s. switches_after bytes (earlier ++ s ∷ []) rest) ss e in
         one told.0 told.2 (statement_kept bytes earlier head below told.0 told.1 are)
     by false e one more = more e
 

@@ -42,6 +42,20 @@ ports_after bytes room ports (grown head below rest) = next (port_of bytes room 
 abbrev pub room_after : List Switch → ℕ
 room_after earlier = 4096 - port_count earlier
 
+-- what the next switch is held against: the names and the datapath numbers of earlier ones, in text order, and the ports that it may have
+pub record Seen : Type 0 where
+  pub names : List (List ℕ)
+  pub datapaths : List ℕ
+  pub room : ℕ
+
+-- what the switch behind these is held against
+abbrev pub seen : List Switch → Seen
+seen earlier = record { names = map (λ s. s.name) earlier; datapaths = map (λ s. s.datapath) earlier; room = room_after earlier }
+
+-- the same behind one more switch
+abbrev pub seen_more : Seen → Switch → Seen
+seen_more before s = record { names = before.names ++ s.name ∷ []; datapaths = before.datapaths ++ s.datapath ∷ []; room = before.room - length s.ports }
+
 -- a number that a limit may have
 abbrev pub may_be_limit : ℕ → Bool
 may_be_limit n = nat_le 1 n && nat_le n 16384
@@ -59,38 +73,38 @@ limit_in bytes (grown head nothing rest) = Ok 2000
 limit_in bytes (grown head (grown t below more) rest) = stated_limit bytes t
 
 -- the name of a switch, which no earlier one has; what is no name is none of a sentence
-abbrev pub name_of : List ℕ → List Switch → Token → Reading (List ℕ)
-name_of bytes earlier t =
+abbrev pub name_of : List ℕ → List (List ℕ) → Token → Reading (List ℕ)
+name_of bytes names t =
     let name = text_in bytes t in
-    unless t ((not (is_name name), BadValue) ∷ (list_any (λ s. bytes_eq name s.name) earlier, Doubled) ∷ []) name
+    unless t ((not (is_name name), BadValue) ∷ (list_any (λ n. bytes_eq name n) names, Doubled) ∷ []) name
 
 -- the datapath number of a switch, which no earlier one has
-abbrev pub datapath_of : List ℕ → List Switch → Token → Reading ℕ
-datapath_of bytes earlier t =
+abbrev pub datapath_of : List ℕ → List ℕ → Token → Reading ℕ
+datapath_of bytes datapaths t =
     let n = number_in bytes t in
-    unless t ((list_any (λ s. n == s.datapath) earlier, Doubled) ∷ []) n
+    unless t ((list_any (λ d. n == d) datapaths, Doubled) ∷ []) n
 
 -- a switch with these ports, in ascending order
 abbrev pub switch_with : List ℕ → ℕ → List ℕ → ℕ → Switch
 switch_with name datapath ports limit = record { name = name; datapath = datapath; ports = sort_by (λ p. p ∷ []) ports; limit = limit }
 
 -- one more switch begins, of which there may be 256
-abbrev pub switch_begins : List Switch → Token → Reading Token
-switch_begins earlier keyword = unless keyword ((nat_le 256 (length earlier), Many) ∷ []) keyword
+abbrev pub switch_begins : Seen → Token → Reading Token
+switch_begins before keyword = unless keyword ((nat_le 256 (length before.names), Many) ∷ []) keyword
 
 -- a switch with these parts, after earlier ones
-abbrev pub switch_from : List ℕ → List Switch → Token → Token → Token → Forest → Forest → Reading Switch
-switch_from bytes earlier keyword name datapath ports rest =
-    next (switch_begins earlier keyword) (λ _.
-    next (name_of bytes earlier name) (λ name.
-    next (datapath_of bytes earlier datapath) (λ datapath.
-    next (ports_after bytes (room_after earlier) [] ports) (λ ports.
+abbrev pub switch_from : List ℕ → Seen → Token → Token → Token → Forest → Forest → Reading Switch
+switch_from bytes before keyword name datapath ports rest =
+    next (switch_begins before keyword) (λ _.
+    next (name_of bytes before.names name) (λ name.
+    next (datapath_of bytes before.datapaths datapath) (λ datapath.
+    next (ports_after bytes before.room [] ports) (λ ports.
     next (limit_in bytes rest) (λ limit. Ok (switch_with name datapath ports limit))))))
 
 -- the switch of a statement, after earlier ones: its name, its datapath number, its ports and its limit; what has other parts is no statement of a sentence
-abbrev pub switch_of : List ℕ → List Switch → Token → Forest → Reading Switch
-switch_of bytes earlier keyword (grown name x (grown datapath y (grown list (grown port z ports) rest))) = switch_from bytes earlier keyword name datapath (grown port z ports) rest
-switch_of bytes earlier keyword _ = faulty keyword BadValue
+abbrev pub switch_of : List ℕ → Seen → Token → Forest → Reading Switch
+switch_of bytes before keyword (grown name x (grown datapath y (grown list (grown port z ports) rest))) = switch_from bytes before keyword name datapath (grown port z ports) rest
+switch_of bytes before keyword _ = faulty keyword BadValue
 
 -- the statement begins with this keyword
 abbrev pub begins_with : List ℕ → Class → Token → Bool
@@ -100,7 +114,7 @@ begins_with bytes class head = is_class (class_in_text bytes head) class
 abbrev pub switches_after : List ℕ → List Switch → Forest → Reading (List Switch)
 switches_after bytes earlier nothing = Ok earlier
 switches_after bytes earlier (grown head below rest) =
-    if begins_with bytes SwitchWord head then next (switch_of bytes earlier head below) (λ s. switches_after bytes (earlier ++ s ∷ []) rest)
+    if begins_with bytes SwitchWord head then next (switch_of bytes (seen earlier) head below) (λ s. switches_after bytes (earlier ++ s ∷ []) rest)
     else switches_after bytes earlier rest
 
 -- the switches of the statements, by their datapath numbers

@@ -3,6 +3,7 @@
 
 mod fault;
 mod link;
+pub mod names;
 mod resolve;
 mod switch;
 mod topology;

@@ -1,12 +1,12 @@
 //! The switches of a document, as its statements describe them.
-ghost use Rattle.std.specs.Prelude.{◌≡◌, ◌≢◌, [], ◌∷◌, length, ◌==◌, bytes_eq, IfOk};
-ghost use Rattle.std.specs.List.{list_any};
+ghost use Rattle.std.specs.Prelude.{◌≡◌, [], ◌∷◌, ◌++◌, IfOk};
 ghost use Rattle.pq_model.specs.Sorting.{sort_by};
 ghost use Rattle.pq_tree.specs.Trees.{trees};
 ghost use Rattle.pq_topo.specs.Naming.{IsAnswer, next};
-ghost use Rattle.pq_topo.specs.Statements.{room_after, may_be_limit, stated_limit, limit_in, name_of, datapath_of, switch_begins, switch_from, switch_of, switches_after};
+ghost use Rattle.pq_topo.specs.Statements.{may_be_limit, stated_limit, limit_in, name_of, datapath_of, seen_more, switch_begins, switch_from, switch_of, switches_after};
 
 use crate::fault::{NameFault, NameKind};
+use crate::names::{add_name, has_name};
 use crate::resolve::ports::read_ports;
 use crate::resolve::sorting::sort_ports;
 use crate::resolve::tokens::{begins_with, fault, number_in};
@@ -16,72 +16,57 @@ use pq_grammar::Class;
 use pq_term::{Name, Token};
 use pq_tree::{Term, text_in};
 use std::alloc::{AllocError, Global};
+use std::marker::Model;
 
-/// Whether one of the switches, which are 256 at most, has the name.
-fn has_name(switches: &[Switch], name: &Name) -> bool
-    ensures { result ≡ list_any (λ s. bytes_eq name.now s.name) switches.now }
-{
-    for switch in switches {
-        if name.bytes() == switch.name.bytes() {
-            return true;
-        }
-    }
-    false
+/// What the next switch is held against: the names and the datapath numbers of earlier ones, in text order, and how
+/// many ports it may have.
+#[derive(Drop)]
+struct Before {
+    names: IndexSet<Name>,
+    datapaths: IndexSet<u64>,
+    room: usize,
 }
 
-/// Whether one of the switches, which are 256 at most, has the datapath number.
-fn has_datapath(switches: &[Switch], datapath: u64) -> bool
-    ensures { result ≡ list_any (λ s. datapath == s.datapath) switches.now }
-{
-    for switch in switches {
-        if datapath == switch.datapath {
-            return true;
-        }
-    }
-    false
+impl Model for Before {
+    ghost use Rattle.pq_topo.specs.Statements.{Seen};
+
+    ghost Value = { Seen };
+
+    ghost view = { λ b. record { names = b.names.keys; datapaths = b.datapaths.keys; room = b.room } };
 }
 
-/// How many ports the switch has.
-fn port_count(switch: &Switch) -> usize
-    ensures { result ≡ length switch.now.ports }
-{
-    switch.ports.len()
-}
-
-/// How many ports the next switch may have: 4,096 less those of earlier ones.
-#[tactic(auto, using(crate::proofs::SwitchSteps::less_room))]
-fn room_after(earlier: &[Switch]) -> usize
-    ensures { result ≡ room_after earlier.now }
-{
-    let mut room: usize = 4096;
-    for switch in earlier {
-        room = room.saturating_sub(port_count(switch));
-    }
-    room
-}
-
-/// Reads the name of a switch, after earlier switches.
-fn read_name(bytes: &[u8], earlier: &[Switch], token: &Token) -> Result<Name, NameFault>
-    ensures { IsAnswer (λ name. name) result (name_of bytes.now earlier.now token.now) }
+/// Reads the name of a switch, which is among no earlier ones, and puts it behind them.
+fn read_name(bytes: &[u8], names: &mut IndexSet<Name>, token: &Token) -> Result<Name, NameFault>
+    ensures name { IsAnswer (λ name. name) result (name_of bytes.now names.old.keys token.now) }
+    ensures kept { IfOk result (λ name. names.new.keys ≡ names.old.keys ++ name ∷ []) }
 {
     let Some(name) = Name::of(text_in(bytes, token)) else {
         return Err(fault(token, NameKind::BadValue));
     };
-    if has_name(earlier, &name) {
+    if has_name(names, &name) {
         return Err(fault(token, NameKind::Doubled));
     }
+    add_name(names, name)?;
     Ok(name)
 }
 
-/// Reads the datapath number of a switch, after earlier switches.
-fn read_datapath(bytes: &[u8], earlier: &[Switch], token: &Token) -> Result<u64, NameFault>
-    ensures { IsAnswer (λ datapath. datapath) result (datapath_of bytes.now earlier.now token.now) }
+/// Reads the datapath number of a switch, which is among no earlier ones, and puts it behind them.
+fn read_datapath(
+    bytes: &[u8],
+    datapaths: &mut IndexSet<u64>,
+    token: &Token,
+) -> Result<u64, NameFault>
+    ensures datapath { IsAnswer (λ datapath. datapath) result (datapath_of bytes.now datapaths.old.keys token.now) }
+    ensures kept { IfOk result (λ datapath. datapaths.new.keys ≡ datapaths.old.keys ++ datapath ∷ []) }
 {
     let datapath = number_in(bytes, token);
-    if has_datapath(earlier, datapath) {
+    if datapaths.contains(&datapath) {
         return Err(fault(token, NameKind::Doubled));
     }
-    Ok(datapath)
+    match datapaths.insert(datapath) {
+        Ok(_) => Ok(datapath),
+        Err(_) => Err(NameFault::Memory),
+    }
 }
 
 /// Reads the number behind `limit`.
@@ -126,55 +111,60 @@ fn sorted(alloc: Global, ports: &IndexSet<u32>) -> Result<Vec<u32>, AllocError>
 }
 
 /// Refuses the 257th switch.
-fn begin(earlier: &[Switch], keyword: &Token) -> Result<(), NameFault>
-    ensures { IsAnswer (λ nothing. keyword.now) result (switch_begins earlier.now keyword.now) }
+fn begin(before: &Before, keyword: &Token) -> Result<(), NameFault>
+    ensures { IsAnswer (λ nothing. keyword.now) result (switch_begins before.now keyword.now) }
 {
-    if 256 <= earlier.len() {
+    if 256 <= before.names.len() {
         return Err(fault(keyword, NameKind::Many));
     }
     Ok(())
 }
 
-/// Reads a switch of these parts, after earlier ones.
+/// Reads a switch of these parts, after earlier ones, and keeps what it is known by.
 #[tactic(auto, using(crate::proofs::Passed::passed, crate::proofs::Passed::followed))]
 fn read_parts(
     alloc: Global,
     bytes: &[u8],
-    earlier: &[Switch],
+    before: &mut Before,
     keyword: &Token,
     name: &Token,
     datapath: &Token,
     ports: &[Term<'_>],
     rest: &[Term<'_>],
 ) -> Result<Switch, NameFault>
-    ensures { IsAnswer (λ switch. switch) result (switch_from bytes.now earlier.now keyword.now name.now datapath.now (trees ports.now) (trees rest.now)) }
+    ensures switch { IsAnswer (λ switch. switch) result (switch_from bytes.now before.old keyword.now name.now datapath.now (trees ports.now) (trees rest.now)) }
+    ensures kept { IfOk result (λ switch. before.new ≡ seen_more before.old switch) }
 {
-    begin(earlier, keyword)?;
-    let name = read_name(bytes, earlier, name)?;
-    let datapath = read_datapath(bytes, earlier, datapath)?;
-    let ports = read_ports(alloc, bytes, room_after(earlier), ports)?;
+    begin(before, keyword)?;
+    let name = read_name(bytes, &mut before.names, name)?;
+    let datapath = read_datapath(bytes, &mut before.datapaths, datapath)?;
+    let ports = read_ports(alloc, bytes, before.room, ports)?;
     let limit = read_limit(bytes, rest)?;
     match sorted(alloc, &ports) {
-        Ok(ports) => Ok(Switch {
-            name,
-            datapath,
-            ports,
-            limit,
-        }),
+        Ok(ports) => {
+            before.room = before.room.saturating_sub(ports.len());
+            Ok(Switch {
+                name,
+                datapath,
+                ports,
+                limit,
+            })
+        }
         Err(_) => Err(NameFault::Memory),
     }
 }
 
-/// Reads the switch of a statement with these parts, after earlier switches.
+/// Reads the switch of a statement with these parts, after earlier switches, and keeps what it is known by.
 #[tactic(auto, using(crate::proofs::Terms::trees_first))]
 fn read_switch(
     alloc: Global,
     bytes: &[u8],
-    earlier: &[Switch],
+    before: &mut Before,
     keyword: &Token,
     parts: &[Term<'_>],
 ) -> Result<Switch, NameFault>
-    ensures { IsAnswer (λ switch. switch) result (switch_of bytes.now earlier.now keyword.now (trees parts.now)) }
+    ensures switch { IsAnswer (λ switch. switch) result (switch_of bytes.now before.old keyword.now (trees parts.now)) }
+    ensures kept { IfOk result (λ switch. before.new ≡ seen_more before.old switch) }
 {
     let [name, datapath, list, rest @ ..] = parts else {
         return Err(fault(keyword, NameKind::BadValue));
@@ -185,7 +175,7 @@ fn read_switch(
     read_parts(
         alloc,
         bytes,
-        earlier,
+        before,
         keyword,
         &name.head,
         &datapath.head,
@@ -195,7 +185,7 @@ fn read_switch(
 }
 
 /// Reads the switches of statements, in text order.
-#[tactic(auto, using(crate::proofs::SwitchSteps::switch_is_read, crate::proofs::SwitchSteps::switch_is_refused, crate::proofs::SwitchSteps::no_switch))]
+#[tactic(auto, using(crate::proofs::SwitchSteps::switch_is_read, crate::proofs::SwitchSteps::switch_is_refused, crate::proofs::SwitchSteps::no_switch, crate::proofs::SwitchSteps::switch_seen))]
 pub(crate) fn read_switches(
     alloc: Global,
     bytes: &[u8],
@@ -203,10 +193,15 @@ pub(crate) fn read_switches(
 ) -> Result<Vec<Switch>, NameFault>
     ensures { IsAnswer (λ switches. switches.items) result (switches_after bytes.now [] (trees terms.now)) }
 {
+    let mut before = Before {
+        names: IndexSet::new(alloc),
+        datapaths: IndexSet::new(alloc),
+        room: 4096,
+    };
     let mut switches = Vec::new(alloc);
     for term in terms {
         if begins_with(bytes, Class::SwitchWord, &term.head) {
-            match read_switch(alloc, bytes, &switches, &term.head, term.children) {
+            match read_switch(alloc, bytes, &mut before, &term.head, term.children) {
                 Ok(switch) => match switches.push(switch) {
                     Ok(()) => {}
                     Err(_) => return Err(NameFault::Memory),
