@@ -1,1 +1,2 @@
+pub mod OneDocument
 pub mod Statements

@@ -1,0 +1,14 @@
+//! What makes the answer to a text the only one.
+ghost use Rattle.std.specs.Prelude.{◌≡◌, ℕ, List};
+ghost use Rattle.pq_compile.specs.declared.fault.DocumentFault.{DocumentFault};
+ghost use Rattle.pq_compile.specs.declared.fault.DocumentFault.TheVariants.{Memory};
+ghost use Rattle.pq_compile.specs.Documents.{DocumentTree, IsDocumentFault, Spells};
+
+/// A text spells one document at most; it is refused for one fault at most, want of memory aside; and a text that spells
+/// a document is refused for want of memory only. It does nothing when it runs.
+pub fn has_one_document()
+    ensures document { (bytes : List ℕ) (d e : DocumentTree) → Spells bytes d → Spells bytes e → d ≡ e }
+    ensures fault { (bytes : List ℕ) (f g : DocumentFault) → IsDocumentFault bytes f → IsDocumentFault bytes g
+        → (f ≡ Memory → ⊥) → (g ≡ Memory → ⊥) → f ≡ g }
+    ensures none { (bytes : List ℕ) (d : DocumentTree) (f : DocumentFault) → Spells bytes d → IsDocumentFault bytes f → f ≡ Memory }
+{}

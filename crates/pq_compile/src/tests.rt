@@ -1,0 +1,615 @@
+//! Documents and faults of texts, worked out by hand from the grammar and the naming rules.
+use crate::*;
+use pq_fields::{Field, Pred};
+use pq_policy::Policy;
+use pq_query::{Group, Query};
+use pq_term::Name;
+use pq_topo::{NameKind, Topology};
+use std::alloc::{AllocError, Global};
+use std::fmt::Write;
+use std::test::Fail;
+
+/// What becomes of a text, but for the byte of a fault.
+#[derive(Clone, Copy, Debug, PartialEq, Eq)]
+enum Answer {
+    /// It is a document.
+    Accepted,
+    /// Something in it is no token.
+    Lex,
+    /// Its tokens are no sentence.
+    Syntax,
+    /// A token breaks this rule.
+    Name(NameKind),
+    /// Memory is wanting.
+    Memory,
+}
+
+/// Texts, each with a mark where its fault is, and what becomes of them.
+const TEXTS: &[(&str, Answer)] = &[
+    // Documents.
+    ("", Answer::Accepted),
+    (" \t\r\n", Answer::Accepted),
+    ("# no statement", Answer::Accepted),
+    ("part a = drop; # no line feed", Answer::Accepted),
+    ("# ? $ > 01 \"\npart a = drop;", Answer::Accepted),
+    ("switch s = 1 ports 1;", Answer::Accepted),
+    (
+        "switch s = 0 ports 1, 4294967040 limit 16384; switch t = 18446744073709551615 ports 0x1 limit 1;",
+        Answer::Accepted,
+    ),
+    ("switch s = 0xFFFFffffFFFFffff ports 2;", Answer::Accepted),
+    ("switch s = 1 ports 1, 2; link s 1 s 2;", Answer::Accepted),
+    (
+        "switch s = 1 ports 1; switch t = 2 ports 1; link t 1 s 1;",
+        Answer::Accepted,
+    ),
+    (
+        "switch a = 1 ports 1; part a = drop; query a = end_atom(false);",
+        Answer::Accepted,
+    ),
+    (
+        "part abcdefghijklmnopqrstuvwxyz_01234 = drop;",
+        Answer::Accepted,
+    ),
+    ("part port = drop; part Port = flood;", Answer::Accepted),
+    (
+        "part a=drop;part b=drop;query c=end_atom(true);",
+        Answer::Accepted,
+    ),
+    (
+        "part a = filter(not port=1 and (port=2 or port=3) or true);",
+        Answer::Accepted,
+    ),
+    (
+        "part a = if(tcp_src=1, fwd(1), flood + drop) >> (identity + fwd(4294967040));",
+        Answer::Accepted,
+    ),
+    (
+        "switch s = 1 ports 1; part a = filter(switch=s and port=4294967040 or not eth_type=0xffff);",
+        Answer::Accepted,
+    ),
+    (
+        "part a = filter(ip_proto=255 and tcp_src=65535 and tcp_dst=0 and udp_src=1 and udp_dst=2);",
+        Answer::Accepted,
+    ),
+    (
+        "part a = filter(ipv4_src=10.0.0.0/8 and ipv4_dst=255.255.255.255/32 and ipv4_dst=1.2.3.4/0);",
+        Answer::Accepted,
+    ),
+    (
+        "part a = filter(ipv6_src=1:2:3:4:5:6:7:8 and ipv6_dst=fe80:0:0:0:0:0:0:0/10 and ipv6_dst=ABCD:0:0:0:0:0:0:1/128);",
+        Answer::Accepted,
+    ),
+    (
+        "part a = filter(eth_src=00:11:22:aa:BB:ff) >> mod(eth_dst=02:00:00:00:00:01);",
+        Answer::Accepted,
+    ),
+    (
+        "part a = mod(ipv4_src=1.2.3.4) >> mod(tcp_dst=65535) + mod(udp_src=0) >> mod(udp_dst=1);",
+        Answer::Accepted,
+    ),
+    (
+        "query q = in_atom(true) ^ out_atom(port=1) & end_atom(false) | ~in_atom(true)*;",
+        Answer::Accepted,
+    ),
+    ("query q = ~~in_atom(true)*;", Answer::Accepted),
+    (
+        "query q = (in_atom(true) ^ in_out_atom(true, false))* | (in_atom(true));",
+        Answer::Accepted,
+    ),
+    ("query q = in_group(true, []);", Answer::Accepted),
+    (
+        "query q = in_group(true, [switch, port, ip_proto of (6, 0x11), ipv4_src of (10.0.0.1)]);",
+        Answer::Accepted,
+    ),
+    (
+        "query q = in_out_group(true, [port], false, [port of (1, 2)]);",
+        Answer::Accepted,
+    ),
+    // No tokens.
+    ("!$", Answer::Lex),
+    ("part a = filter(port=1) !> fwd(2);", Answer::Lex),
+    ("part a = fwd(1) >>!> fwd(2);", Answer::Lex),
+    ("part a = fwd(1) !>", Answer::Lex),
+    ("part a = drop; !-", Answer::Lex),
+    ("part a = drop !/ drop;", Answer::Lex),
+    ("part part !01;", Answer::Lex),
+    ("part = = drop; !@", Answer::Lex),
+    ("part a = mod(port=2); !?", Answer::Lex),
+    ("switch s = !18446744073709551616 ports 1;", Answer::Lex),
+    ("switch s = !0x11112222333344445 ports 1;", Answer::Lex),
+    ("switch s = !0x ports 1;", Answer::Lex),
+    ("switch s = !0xg ports 1;", Answer::Lex),
+    ("switch s = !0X10 ports 1;", Answer::Lex),
+    ("part a = filter(port=!00);", Answer::Lex),
+    (
+        "part a = filter(eth_src=!00:11:22:33:44:55:66);",
+        Answer::Lex,
+    ),
+    ("part a = filter(eth_src=!00:11:22:33:44);", Answer::Lex),
+    ("part a = filter(eth_src=!00:11:22:33:44:5);", Answer::Lex),
+    ("part a = filter(ipv4_src=!10.0.0.256);", Answer::Lex),
+    ("part a = filter(ipv4_src=!10.0.0);", Answer::Lex),
+    ("part a = filter(ipv4_src=!10.0.0.01);", Answer::Lex),
+    ("part a = filter(ipv4_src=!10.0.0.0/33);", Answer::Lex),
+    ("part a = filter(ipv4_src=!10.0.0.0/08);", Answer::Lex),
+    (
+        "part a = filter(ipv6_src=!1:2:3:4:5:6:7:8/129);",
+        Answer::Lex,
+    ),
+    ("part a = filter(ipv6_src=!1:2:3:4:5:6:7);", Answer::Lex),
+    (
+        "part a = filter(ipv6_src=!12345:2:3:4:5:6:7:8);",
+        Answer::Lex,
+    ),
+    ("part a = filter(ipv6_src=!1:2:3:4:5:6:7:8:9);", Answer::Lex),
+    ("part a = filter(ipv6_src=!1::8);", Answer::Lex),
+    (
+        "part !abcdefghijklmnopqrstuvwxyz_012345 = drop;",
+        Answer::Lex,
+    ),
+    ("part !_a = drop;", Answer::Lex),
+    ("part !1a = drop;", Answer::Lex),
+    ("part !a.b = drop;", Answer::Lex),
+    // No sentences.
+    ("!pa", Answer::Syntax),
+    ("part!", Answer::Syntax),
+    ("part a!", Answer::Syntax),
+    ("part a =!", Answer::Syntax),
+    ("part a = !fw", Answer::Syntax),
+    ("part a = fwd!", Answer::Syntax),
+    ("part a = fwd(!", Answer::Syntax),
+    ("part a = fwd(1!", Answer::Syntax),
+    ("part a = fwd(1)!", Answer::Syntax),
+    ("part a = fwd(1) # more!", Answer::Syntax),
+    ("switch s = 1 ports!", Answer::Syntax),
+    ("switch s = 1 ports 1!", Answer::Syntax),
+    ("switch s = 1 ports 1,!", Answer::Syntax),
+    ("query q = in_group(true, [port of (1)!", Answer::Syntax),
+    ("!;", Answer::Syntax),
+    ("part a = drop;!;", Answer::Syntax),
+    ("link s 1 t 1; !switch s = 1 ports 1;", Answer::Syntax),
+    ("part a = drop; !link s 1 t 1;", Answer::Syntax),
+    ("query q = in_atom(true); !part a = drop;", Answer::Syntax),
+    ("!remove part a;", Answer::Syntax),
+    ("part !part = drop;", Answer::Syntax),
+    ("switch !limit = 1 ports 1;", Answer::Syntax),
+    ("query !end_atom = in_atom(true);", Answer::Syntax),
+    ("link !of 1 a 1;", Answer::Syntax),
+    ("switch s !1 ports 1;", Answer::Syntax),
+    ("switch s = !s ports 1;", Answer::Syntax),
+    ("switch s = !10.0.0.1 ports 1;", Answer::Syntax),
+    ("switch s = 1 ports 1 limit 5!, 6;", Answer::Syntax),
+    ("part a = fwd(!s);", Answer::Syntax),
+    ("part a = fwd(!00:00:00:00:00:00);", Answer::Syntax),
+    ("part a = fwd(1)!, fwd(2);", Answer::Syntax),
+    ("part a = filter(port=1!, true);", Answer::Syntax),
+    ("part a = filter(true!=1);", Answer::Syntax),
+    ("part a = filter(!limit=1);", Answer::Syntax),
+    ("part a = filter(port!);", Answer::Syntax),
+    ("part a = filter(port=!true);", Answer::Syntax),
+    ("part a = !not drop;", Answer::Syntax),
+    ("part a = drop + !;", Answer::Syntax),
+    ("part a = (drop!;", Answer::Syntax),
+    ("part a = drop!);", Answer::Syntax),
+    ("part a = mod(port=2); part !;", Answer::Syntax),
+    ("query q = in_atom(true)*!*;", Answer::Syntax),
+    ("query q = in_atom(true)* !~ in_atom(true);", Answer::Syntax),
+    ("query q = in_group(true!);", Answer::Syntax),
+    ("query q = in_group(true, [switch, !]);", Answer::Syntax),
+    ("query q = in_group(true, [port of (!)]);", Answer::Syntax),
+    ("query q = in_atom(true!, true);", Answer::Syntax),
+    ("query q = in_out_atom(true!);", Answer::Syntax),
+    // Switches and links.
+    (
+        "switch s = 1 ports 1; switch !s = 2 ports 1;",
+        Answer::Name(NameKind::Doubled),
+    ),
+    (
+        "switch s = 1 ports 1; switch t = !0x1 ports 1;",
+        Answer::Name(NameKind::Doubled),
+    ),
+    (
+        "switch s = 1 ports 1; switch !s = 1 ports 0;",
+        Answer::Name(NameKind::Doubled),
+    ),
+    ("switch s = 1 ports !0;", Answer::Name(NameKind::BadValue)),
+    (
+        "switch s = 1 ports 4294967040, !4294967041;",
+        Answer::Name(NameKind::BadValue),
+    ),
+    (
+        "switch s = 1 ports !0; switch s = 1 ports 1;",
+        Answer::Name(NameKind::BadValue),
+    ),
+    (
+        "switch s = 1 ports !0, 0;",
+        Answer::Name(NameKind::BadValue),
+    ),
+    (
+        "switch s = 1 ports 2, 1, !0x2;",
+        Answer::Name(NameKind::Doubled),
+    ),
+    (
+        "switch s = 1 ports 1 limit !0;",
+        Answer::Name(NameKind::BadValue),
+    ),
+    (
+        "switch s = 1 ports 1 limit !16385;",
+        Answer::Name(NameKind::BadValue),
+    ),
+    (
+        "switch s = 1 ports 1; link !t 1 s 1;",
+        Answer::Name(NameKind::UnknownSwitch),
+    ),
+    (
+        "switch s = 1 ports 1; link s 1 !t 1;",
+        Answer::Name(NameKind::UnknownSwitch),
+    ),
+    (
+        "switch s = 1 ports 1, 2; link s !3 s 2;",
+        Answer::Name(NameKind::UnknownPort),
+    ),
+    (
+        "switch s = 1 ports 1, 2; link s 1 s !4294967298;",
+        Answer::Name(NameKind::UnknownPort),
+    ),
+    (
+        "switch s = 1 ports 1; switch t = 2 ports 2; link s 1 t !1;",
+        Answer::Name(NameKind::UnknownPort),
+    ),
+    (
+        "switch s = 1 ports 1, 2; link s !9 t 9;",
+        Answer::Name(NameKind::UnknownPort),
+    ),
+    (
+        "switch s = 1 ports 1, 2; link s 1 s !1;",
+        Answer::Name(NameKind::Doubled),
+    ),
+    (
+        "switch s = 1 ports 1, 2, 3; link s 1 s 2; link s !2 s 3;",
+        Answer::Name(NameKind::Doubled),
+    ),
+    (
+        "switch s = 1 ports 1, 2, 3; link s 1 s 2; link s 3 s !1;",
+        Answer::Name(NameKind::Doubled),
+    ),
+    (
+        "link !s 1 s 1; part a = fwd(0);",
+        Answer::Name(NameKind::UnknownSwitch),
+    ),
+    // Parts and queries.
+    (
+        "part a = drop; part !a = fwd(0);",
+        Answer::Name(NameKind::Doubled),
+    ),
+    (
+        "query q = in_atom(true); query !q = in_atom(port=0);",
+        Answer::Name(NameKind::Doubled),
+    ),
+    (
+        "part a = fwd(!0); part a = drop;",
+        Answer::Name(NameKind::BadValue),
+    ),
+    (
+        "part a = fwd(!0); query q = in_atom(port=0);",
+        Answer::Name(NameKind::BadValue),
+    ),
+    (
+        "switch s = 1 ports !0; part a = fwd(0);",
+        Answer::Name(NameKind::BadValue),
+    ),
+    // Fields.
+    (
+        "part a = filter(!vlan=1);",
+        Answer::Name(NameKind::UnknownField),
+    ),
+    (
+        "part a = filter(!Port=0);",
+        Answer::Name(NameKind::UnknownField),
+    ),
+    (
+        "part a = mod(!vlan=1);",
+        Answer::Name(NameKind::UnknownField),
+    ),
+    (
+        "query q = in_group(true, [!vlan]);",
+        Answer::Name(NameKind::UnknownField),
+    ),
+    (
+        "query q = in_group(true, [!vlan of (1, 1)]);",
+        Answer::Name(NameKind::UnknownField),
+    ),
+    (
+        "part a = filter(not !x=1 or port=0);",
+        Answer::Name(NameKind::UnknownField),
+    ),
+    (
+        "switch s = 1 ports 1; part a = mod(!switch=s);",
+        Answer::Name(NameKind::NotWritable),
+    ),
+    (
+        "part a = mod(!port=0);",
+        Answer::Name(NameKind::NotWritable),
+    ),
+    (
+        "part a = mod(!eth_type=65536);",
+        Answer::Name(NameKind::NotWritable),
+    ),
+    (
+        "part a = mod(!ip_proto=6);",
+        Answer::Name(NameKind::NotWritable),
+    ),
+    (
+        "part a = mod(!ipv6_src=1:2:3:4:5:6:7:8);",
+        Answer::Name(NameKind::NotWritable),
+    ),
+    (
+        "part a = mod(!ipv6_dst=1:2:3:4:5:6:7:8);",
+        Answer::Name(NameKind::NotWritable),
+    ),
+    (
+        "query q = in_group(true, [port, !port]);",
+        Answer::Name(NameKind::Doubled),
+    ),
+    (
+        "query q = in_group(true, [ip_proto of (1), !ip_proto]);",
+        Answer::Name(NameKind::Doubled),
+    ),
+    (
+        "query q = in_group(true, [eth_src of (00:00:00:00:00:01), port, !eth_src of (2)]);",
+        Answer::Name(NameKind::Doubled),
+    ),
+    (
+        "query q = in_group(true, [!ip_proto]);",
+        Answer::Name(NameKind::NotListed),
+    ),
+    (
+        "query q = in_group(true, [port, !eth_dst, eth_dst]);",
+        Answer::Name(NameKind::NotListed),
+    ),
+    (
+        "query q = in_group(true, [!ipv6_src]);",
+        Answer::Name(NameKind::NotListed),
+    ),
+    (
+        "query q = in_group(true, [!ipv6_dst of (1:2:3:4:5:6:7:8)]);",
+        Answer::Name(NameKind::NotListed),
+    ),
+    (
+        "query q = in_out_group(true, [port], true, [!udp_src]);",
+        Answer::Name(NameKind::NotListed),
+    ),
+    // Values.
+    (
+        "switch s = 1 ports 1; part a = filter(switch=!1);",
+        Answer::Name(NameKind::BadValue),
+    ),
+    (
+        "part a = filter(switch=!10.0.0.1);",
+        Answer::Name(NameKind::BadValue),
+    ),
+    (
+        "part a = filter(switch=!s);",
+        Answer::Name(NameKind::UnknownSwitch),
+    ),
+    (
+        "part a = filter(port=!0);",
+        Answer::Name(NameKind::BadValue),
+    ),
+    (
+        "part a = filter(port=!4294967041);",
+        Answer::Name(NameKind::BadValue),
+    ),
+    (
+        "part port = filter(port=!port);",
+        Answer::Name(NameKind::BadValue),
+    ),
+    (
+        "part a = filter(eth_type=!65536);",
+        Answer::Name(NameKind::BadValue),
+    ),
+    (
+        "part a = filter(eth_type=!ip);",
+        Answer::Name(NameKind::BadValue),
+    ),
+    (
+        "part a = filter(ip_proto=!256);",
+        Answer::Name(NameKind::BadValue),
+    ),
+    (
+        "part a = filter(eth_src=!1);",
+        Answer::Name(NameKind::BadValue),
+    ),
+    (
+        "part a = filter(eth_dst=!10.0.0.1);",
+        Answer::Name(NameKind::BadValue),
+    ),
+    (
+        "part a = filter(ipv4_src=!167772161);",
+        Answer::Name(NameKind::BadValue),
+    ),
+    (
+        "part a = filter(ipv4_dst=!00:00:00:00:00:01);",
+        Answer::Name(NameKind::BadValue),
+    ),
+    (
+        "part a = filter(ipv4_src=!1:2:3:4:5:6:7:8);",
+        Answer::Name(NameKind::BadValue),
+    ),
+    (
+        "part a = filter(ipv6_src=!10.0.0.1);",
+        Answer::Name(NameKind::BadValue),
+    ),
+    (
+        "part a = filter(ipv6_dst=!10.0.0.0/8);",
+        Answer::Name(NameKind::BadValue),
+    ),
+    (
+        "part a = filter(ipv6_src=!0);",
+        Answer::Name(NameKind::BadValue),
+    ),
+    (
+        "part a = filter(tcp_src=!65536);",
+        Answer::Name(NameKind::BadValue),
+    ),
+    (
+        "part a = filter(tcp_dst=!1.2.3.4);",
+        Answer::Name(NameKind::BadValue),
+    ),
+    (
+        "part a = filter(udp_src=!a);",
+        Answer::Name(NameKind::BadValue),
+    ),
+    (
+        "part a = filter(udp_dst=!70000);",
+        Answer::Name(NameKind::BadValue),
+    ),
+    (
+        "part a = mod(ipv4_src=!10.0.0.0/8);",
+        Answer::Name(NameKind::BadValue),
+    ),
+    (
+        "part a = mod(eth_src=!5);",
+        Answer::Name(NameKind::BadValue),
+    ),
+    (
+        "part a = mod(tcp_dst=!65536);",
+        Answer::Name(NameKind::BadValue),
+    ),
+    (
+        "query q = in_group(true, [ipv4_dst of (!10.0.0.0/8)]);",
+        Answer::Name(NameKind::BadValue),
+    ),
+    (
+        "query q = in_group(true, [port of (1, !0)]);",
+        Answer::Name(NameKind::BadValue),
+    ),
+    (
+        "query q = in_group(true, [switch of (!s)]);",
+        Answer::Name(NameKind::UnknownSwitch),
+    ),
+    (
+        "switch s = 1 ports 1; query q = in_group(true, [switch of (s, !1)]);",
+        Answer::Name(NameKind::BadValue),
+    ),
+    (
+        "query q = in_group(true, [port of (1, 2, !0x1)]);",
+        Answer::Name(NameKind::Doubled),
+    ),
+    (
+        "switch s = 1 ports 1; query q = in_group(true, [switch of (s, !s)]);",
+        Answer::Name(NameKind::Doubled),
+    ),
+    (
+        "query q = in_group(true, [eth_src of (00:00:00:00:00:aa, !00:00:00:00:00:AA)]);",
+        Answer::Name(NameKind::Doubled),
+    ),
+    ("part a = fwd(!0);", Answer::Name(NameKind::BadValue)),
+    (
+        "part a = fwd(!4294967041);",
+        Answer::Name(NameKind::BadValue),
+    ),
+    // Of two faulty tokens the first in the text.
+    (
+        "part a = fwd(!0) + mod(port=2);",
+        Answer::Name(NameKind::BadValue),
+    ),
+    (
+        "part a = mod(!port=2) + fwd(0);",
+        Answer::Name(NameKind::NotWritable),
+    ),
+    (
+        "part a = filter(!vlan=1) >> fwd(0);",
+        Answer::Name(NameKind::UnknownField),
+    ),
+    (
+        "part a = filter(port=!0 and vlan=1);",
+        Answer::Name(NameKind::BadValue),
+    ),
+    (
+        "part a = if(port=!0, fwd(0), drop);",
+        Answer::Name(NameKind::BadValue),
+    ),
+    (
+        "part a = if(true, fwd(!0), mod(port=1));",
+        Answer::Name(NameKind::BadValue),
+    ),
+    (
+        "part a = if(true, drop, mod(!port=1));",
+        Answer::Name(NameKind::NotWritable),
+    ),
+    (
+        "query q = in_out_group(port=1, [!vlan], vlan=2, [eth_src]);",
+        Answer::Name(NameKind::UnknownField),
+    ),
+    (
+        "query q = in_out_atom(port=!0, vlan=1);",
+        Answer::Name(NameKind::BadValue),
+    ),
+    (
+        "query q = in_atom(true) ^ ~out_atom(!dl_type=1)* & in_atom(port=0);",
+        Answer::Name(NameKind::UnknownField),
+    ),
+    (
+        "query q = in_group(true, [!tcp_src]) | in_atom(vlan=1);",
+        Answer::Name(NameKind::NotListed),
+    ),
+    (
+        "query q = in_atom(!vlan=1); query q = in_atom(true);",
+        Answer::Name(NameKind::UnknownField),
+    ),
+];
+
+/// What becomes of the text, and the byte of its fault; byte 0 where it has none.
+fn answered(alloc: Global, text: &[u8]) -> (Answer, usize) {
+    match read_document(alloc, text) {
+        Ok(_) => (Answer::Accepted, 0),
+        Err(DocumentFault::Lex { at }) => (Answer::Lex, at),
+        Err(DocumentFault::Syntax { at }) => (Answer::Syntax, at),
+        Err(DocumentFault::Name { at, kind }) => (Answer::Name(kind), at),
+        Err(DocumentFault::Memory) => (Answer::Memory, 0),
+    }
+}
+
+/// The text without its mark `!`, and the byte at which the mark stands; byte 0 where it has none.
+fn unmarked(alloc: Global, marked: &str) -> Result<(Vec<u8>, usize), AllocError> {
+    let mut text = Vec::new(alloc);
+    let mut place = 0;
+    for byte in marked.as_bytes() {
+        if *byte == b'!' {
+            place = text.len();
+        } else {
+            text.push(*byte)?;
+        }
+    }
+    Ok((text, place))
+}
+
+/// Whether this becomes of the text, with its fault at the mark.
+fn has_answer(alloc: Global, marked: &str, wanted: Answer) -> Result<bool, AllocError> {
+    let (text, place) = unmarked(alloc, marked)?;
+    Ok(answered(alloc, &text) == (wanted, place))
+}
+
+#[test]
+fn texts_have_their_answers(rt: HostRuntime) -> Result<(), Fail> {
+    for (marked, wanted) in TEXTS {
+        assert!(rt; has_answer(rt.alloc(), marked, *wanted)?, "{marked}");
+    }
+    Ok(())
+}
+
+#[test]
+fn faults_stand_at_these_bytes(rt: HostRuntime) {
+    for (text, wanted) in [
+        ("part a = filter(port=1) > fwd(2);", (Answer::Lex, 24)),
+        ("part a = fwd(1)", (Answer::Syntax, 15)),
+        (
+            "part a = mod(port=2);",
+            (Answer::Name(NameKind::NotWritable), 13),
+        ),
+    ] {
+        assert_eq!(rt; answered(rt.alloc(), text.as_bytes()), wanted, "{text}");
+    }
+}
