@@ -1,6 +1,6 @@
 -- The rules that the switches of a document keep.
-use Rattle.std.specs.Prelude.{◌≡◌, ◌≢◌, ℕ, ◌+◌, ◌-◌, ◌^◌, ◌<◌, ◌≤◌, Bool, true, false, not, ◌&&◌, ◌||◌, if◌then◌else◌, List, [], ◌∷◌, ◌++◌, length, map, All, ◌==◌, nat_eq, nat_le, bytes_eq, Some, None, Ok}
-use Rattle.std.proofs.Common.{arith, drop, refl, sym, ap, subst, ◌∙◌, length-append, map-id}
+use Rattle.std.specs.Prelude.{◌≡◌, ◌≢◌, ℕ, ◌+◌, ◌-◌, ◌^◌, ◌<◌, ◌≤◌, Bool, true, false, not, ◌&&◌, if◌then◌else◌, List, [], ◌∷◌, ◌++◌, length, map, All, ◌==◌, nat_eq, nat_le, bytes_eq, Some, None, Ok}
+use Rattle.std.proofs.Common.{arith, drop, refl, sym, ap, subst, length-append, map-id}
 use Rattle.std.specs.List.{AllByRecursion, IsDistinct, list_any}
 use Rattle.std.specs.Cmp.{nat_eq_equiv}
 use Rattle.std.specs.Cmp.Lexicographic.{nat_list_eq_equiv}
@@ -26,7 +26,7 @@ use Rattle.pq_model.specs.Install.{IsLawfulSwitch, port_count}
 use Rattle.pq_grammar.specs.declared.class.Class.TheVariants.{SwitchWord}
 use Rattle.pq_topo.specs.declared.fault.NameKind.TheVariants.{Many, Doubled, BadValue}
 use Rattle.pq_topo.specs.Named.{IsNamedTopology}
-use Rattle.pq_topo.specs.Naming.{unless, next}
+use Rattle.pq_topo.specs.Naming.{next}
 use Rattle.pq_topo.specs.Statements.{number_in, may_be_port, port_of, ports_after, room_after, seen, limit_in, name_of, datapath_of, switch_with, switch_begins, switch_from, switch_of, begins_with, switches_after, by_datapath}
 use Rattle.pq_topo.proofs.Readings.{next_ok, unless_ok}
 use Rattle.pq_topo.proofs.Ordered.{ascends_from, sort_shuffles, sort_ascends, all_sorted, same_key}
