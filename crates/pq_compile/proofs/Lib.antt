@@ -1,2 +1,4 @@
+mod Fits
+mod LawfulPreds
 pub mod SameNames
 pub mod Statements

@@ -3,6 +3,7 @@
 
 mod document;
 mod fault;
+mod lawful;
 mod names;
 mod parts;
 mod queries;
@@ -10,4 +11,5 @@ mod reading;
 
 pub use document::Document;
 pub use fault::DocumentFault;
+pub use lawful::predicates_that_are_read_are_lawful;
 pub use reading::read_document;
