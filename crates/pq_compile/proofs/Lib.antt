@@ -1,4 +1,5 @@
 mod Fits
+mod LawfulPolicies
 mod LawfulPreds
 pub mod SameNames
 pub mod Statements

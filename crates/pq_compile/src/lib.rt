@@ -11,5 +11,5 @@ mod reading;
 
 pub use document::Document;
 pub use fault::DocumentFault;
-pub use lawful::predicates_that_are_read_are_lawful;
+pub use lawful::{policies_that_are_read_are_lawful, predicates_that_are_read_are_lawful};
 pub use reading::read_document;
