@@ -11,5 +11,8 @@ mod reading;
 
 pub use document::Document;
 pub use fault::DocumentFault;
-pub use lawful::{policies_that_are_read_are_lawful, predicates_that_are_read_are_lawful};
+pub use lawful::{
+    documents_that_are_read_are_lawful, policies_that_are_read_are_lawful,
+    predicates_that_are_read_are_lawful, queries_that_are_read_are_lawful,
+};
 pub use reading::read_document;
