@@ -1,13 +1,12 @@
 -- The numbers that a text stands for fit the fields that they are read for.
-use Rattle.std.specs.Prelude.{◌≡◌, ℕ, ◌+◌, ◌-◌, ◌*◌, ◌/◌, ◌^◌, ◌<◌, ◌≤◌, Bool, true, false, ◌&&◌, if◌then◌else◌, List, [], ◌∷◌, All, length, fold, ◌==◌, nat_le, bytes_eq, Option, Some, None, Ok, Err}
+use Rattle.std.specs.Prelude.{◌≡◌, ℕ, ◌+◌, ◌-◌, ◌*◌, ◌^◌, ◌<◌, ◌≤◌, Bool, true, false, ◌&&◌, if◌then◌else◌, List, [], ◌∷◌, length, fold, ◌==◌, nat_le, bytes_eq, Option, Some, None, Ok, Err}
 use Rattle.std.specs.List.{AllByRecursion}
 use Rattle.std.specs.Str.{byte}
-use Rattle.std.proofs.Common.{arith, suc, refl, sym, ap, subst, ◌∙◌}
+use Rattle.std.proofs.Common.{arith, suc, refl, sym, ap, subst}
 use Rattle.std.proofs.Math.Nat.{pow-zero, pow-succ', mul-le-mul_right, div-mul-le_self}
 use Rattle.std.proofs.lemmas.Bool.{and_parts, ltb-true, eqb-true}
 use Rattle.std.proofs.lemmas.Bool.Decides.{nat_tests}
 use Rattle.std.proofs.lemmas.List.Elements.{recursion_from_All}
-use Rattle.pq_term.specs.Names.{is_name}
 use Rattle.pq_term.specs.Numbers.{value_of as digits_of, number_of, decimal_of, is_decimal}
 use Rattle.pq_term.specs.Groups.{parts}
 use Rattle.pq_term.specs.Forms.{is_mac, is_ipv4, is_ipv6_address}

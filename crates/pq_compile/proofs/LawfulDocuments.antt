@@ -1,8 +1,8 @@
 -- Documents that are read are lawful.
-use Rattle.std.specs.Prelude.{◌≡◌, ℕ, ◌+◌, ◌<◌, ◌≤◌, Bool, true, false, if◌then◌else◌, List, [], ◌∷◌, ◌++◌, length, map, All, nat_le, bytes_eq, IsTrue, Option, Some, None, Ok, Err}
+use Rattle.std.specs.Prelude.{◌≡◌, ℕ, ◌+◌, ◌≤◌, Bool, true, false, if◌then◌else◌, List, [], ◌∷◌, ◌++◌, length, All, nat_le, bytes_eq, IsTrue, Some, None, Ok}
 use Rattle.std.specs.List.{AllByRecursion, IsDistinct, list_any}
 use Rattle.std.specs.Cmp.Lexicographic.{nat_list_eq_equiv}
-use Rattle.std.proofs.Common.{arith, refl, ap, sym, subst, ◌∙◌, length-append}
+use Rattle.std.proofs.Common.{arith, refl, sym, subst, length-append}
 use Rattle.std.proofs.lemmas.Bool.Decides.{nat_tests}
 use Rattle.std.proofs.lemmas.List.{map-append}
 use Rattle.std.proofs.lemmas.List.Elements.{All-from_recursion}
@@ -13,10 +13,10 @@ use Rattle.pq_grammar.specs.declared.class.Class.{Class}
 use Rattle.pq_grammar.specs.declared.class.Class.TheVariants.{PartWord, QueryWord}
 use Rattle.pq_tree.specs.Trees.{Forest, nothing, grown, Tree}
 use Rattle.pq_tree.specs.Texts.{text_in}
-use Rattle.pq_model.specs.Topology.{Topology, Switch, Link}
-use Rattle.pq_topo.specs.declared.fault.NameKind.TheVariants.{Many, Doubled, BadValue}
+use Rattle.pq_model.specs.Topology.{Topology}
+use Rattle.pq_topo.specs.declared.fault.NameKind.TheVariants.{Many, Doubled}
 use Rattle.pq_topo.specs.Named.{IsNamedTopology}
-use Rattle.pq_topo.specs.Naming.{Reading, faulty, unless, next}
+use Rattle.pq_topo.specs.Naming.{Reading, next}
 use Rattle.pq_topo.specs.Statements.{begins_with, switches_after, by_datapath, switches_in_order, links_after, in_order, links_in_order, topology_of}
 use Rattle.pq_topo.proofs.Readings.{next_ok, unless_ok}
 use Rattle.pq_topo.proofs.SwitchRules.{all_push, network_of}

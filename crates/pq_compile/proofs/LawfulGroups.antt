@@ -1,5 +1,5 @@
 -- Groups that are read are lawful.
-use Rattle.std.specs.Prelude.{◌≡◌, ◌≢◌, ℕ, ◌+◌, ◌^◌, ◌<◌, ◌≤◌, Bool, true, false, not, ◌&&◌, ◌||◌, if◌then◌else◌, List, [], ◌∷◌, ◌++◌, length, map, All, ◌==◌, nat_eq, nat_le, Option, Some, None, Ok, Err}
+use Rattle.std.specs.Prelude.{◌≡◌, ℕ, ◌+◌, ◌^◌, ◌<◌, ◌≤◌, Bool, true, false, not, ◌&&◌, ◌||◌, List, [], ◌∷◌, ◌++◌, length, map, ◌==◌, nat_eq, Ok}
 use Rattle.std.specs.List.{AllByRecursion, IsDistinct, list_any}
 use Rattle.std.specs.Cmp.{IsEquivalence, nat_eq_equiv}
 use Rattle.std.proofs.Common.{arith, refl, ap, sym, subst, ◌∙◌, length-append}
@@ -12,14 +12,14 @@ use Rattle.pq_tree.specs.Texts.{text_in}
 use Rattle.pq_fields.specs.declared.field.Field.{Field}
 use Rattle.pq_fields.specs.Packet.{width_of, is_wide, rank}
 use Rattle.pq_model.specs.Topology.{Topology}
-use Rattle.pq_topo.specs.declared.fault.NameKind.TheVariants.{BadValue, Doubled, NotListed}
+use Rattle.pq_topo.specs.declared.fault.NameKind.TheVariants.{Doubled, NotListed}
 use Rattle.pq_topo.specs.Named.{IsNamedTopology}
-use Rattle.pq_topo.specs.Naming.{Reading, faulty, unless, named, next}
+use Rattle.pq_topo.specs.Naming.{unless, named}
 use Rattle.pq_topo.proofs.Readings.{next_ok, unless_ok}
 use Rattle.pq_topo.proofs.SwitchRules.{all_push}
 use Rattle.pq_pred.specs.Values.{field_at, value_of}
 use Rattle.pq_query.specs.Groups.{Group}
-use Rattle.pq_query.specs.Resolved.{fresh_at, value_at, values_after, is_listed, is_field, is_grouped, has_values, grouped_at, unstated, stated, with_values, group_at, groups_after}
+use Rattle.pq_query.specs.Resolved.{fresh_at, value_at, values_after, is_listed, is_field, is_grouped, grouped_at, unstated, stated, with_values, group_at, groups_after}
 use Rattle.pq_compile.specs.Lawful.{AreLawfulValues, IsLawfulGroup, AreLawfulGroups}
 use Rattle.pq_compile.proofs.Fits.{value_fits}
 use Rattle.pq_compile.proofs.LawfulPreds.{named_ok}

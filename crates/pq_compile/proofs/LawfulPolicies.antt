@@ -1,5 +1,5 @@
 -- Policies that are read are lawful.
-use Rattle.std.specs.Prelude.{◌≡◌, ◌≢◌, ℕ, ◌≤◌, Bool, true, false, not, if◌then◌else◌, List, [], ◌∷◌, Ok, Err}
+use Rattle.std.specs.Prelude.{◌≡◌, ◌≢◌, ℕ, Bool, true, false, not, if◌then◌else◌, List, [], ◌∷◌, Ok}
 use Rattle.std.specs.List.{AllByRecursion}
 use Rattle.std.proofs.Common.{refl, subst}
 use Rattle.pq_term.specs.declared.token.Token.{Token}
@@ -8,7 +8,6 @@ use Rattle.pq_grammar.specs.declared.class.Class.TheVariants.{IdentityWord, Drop
 use Rattle.pq_grammar.specs.Tables.{is_class}
 use Rattle.pq_tree.specs.Trees.{Forest, nothing, grown, Tree}
 use Rattle.pq_tree.specs.Texts.{text_in, class_in_text}
-use Rattle.pq_fields.specs.declared.field.Field.{Field}
 use Rattle.pq_fields.specs.Pred.{PredTree, IsLawfulPred}
 use Rattle.pq_model.specs.Topology.{Topology}
 use Rattle.pq_topo.specs.declared.fault.NameKind.TheVariants.{BadValue, NotWritable}
@@ -18,7 +17,7 @@ use Rattle.pq_topo.proofs.Readings.{next_ok, unless_ok}
 use Rattle.pq_pred.specs.Values.{field_at, value_of, within}
 use Rattle.pq_pred.specs.Predicates.{pred_of}
 use Rattle.pq_policy.specs.Policy.{PolicyTop, Pass, Discard, Spread, Only, Write, Forward, Choose, Either, InTurn, Policies, none, PolicyTree, leaf, policies, is_writable, IsLawfulTop, AreLawfulPolicies, IsLawfulPolicy}
-use Rattle.pq_policy.specs.Resolved.{filter_of, writable_at, write_at, write_below, write_of, forward_of, choice_of, joined, policy_step, policy_readings, policy_of}
+use Rattle.pq_policy.specs.Resolved.{filter_of, writable_at, write_at, write_of, forward_of, choice_of, joined, policy_step, policy_readings, policy_of}
 use Rattle.pq_compile.proofs.Fits.{value_fits, within_bounds}
 use Rattle.pq_compile.proofs.LawfulPreds.{named_ok, all_gathered, pred_lawful}
 
@@ -33,6 +32,10 @@ some_below p ps e = absurd cc
 joined_lawful : (head : Token) (top : PolicyTop) (ps : List PolicyTree) (p : PolicyTree) → ((below : Policies) → below ≢ none → IsLawfulTop top below) → AllByRecursion IsLawfulPolicy ps → joined head top ps ≡ Ok p → IsLawfulPolicy p
 joined_lawful head top [] p here all e = absurd cc
 joined_lawful head top (q ∷ qs) p here all e = let same : record { top = top; below = policies (q ∷ qs) } ≡ p = cc in subst IsLawfulPolicy same (here (policies (q ∷ qs)) (some_below q qs), all_lawful (q ∷ qs) all, tt)
+
+-- a choice between lawful policies
+chosen : (q : PredTree) (a b p : PolicyTree) → IsLawfulPred q → IsLawfulPolicy a → IsLawfulPolicy b → record { top = Choose q; below = policies (a ∷ b ∷ []) } ≡ p → IsLawfulPolicy p
+chosen q a b p test one two same = subst IsLawfulPolicy same (test, all_lawful (a ∷ b ∷ []) (one, (two, tt)), tt)
 
 -- what is not refused for a rule
 kept : (b : Bool) → not b ≡ false → b ≡ true
@@ -87,7 +90,7 @@ module _ (T : Topology) (network : IsNamedTopology T) (bytes : List ℕ) where
       let one = next_ok a (λ a. next b (λ b. Ok (record { top = Choose tested.0; below = policies (a ∷ b ∷ []) }))) p tested.2 in
       let two = next_ok b (λ b. Ok (record { top = Choose tested.0; below = policies (one.0 ∷ b ∷ []) })) p one.2 in
       let same : record { top = Choose tested.0; below = policies (one.0 ∷ two.0 ∷ []) } ≡ p = cc in
-      subst IsLawfulPolicy same (pred_lawful T network bytes tree tested.0 tested.1, all_lawful (one.0 ∷ two.0 ∷ []) (all.1.0 one.0 one.1, (all.1.1.0 two.0 two.1, tt)), tt)
+      chosen tested.0 one.0 two.0 p (pred_lawful T network bytes tree tested.0 tested.1) (all.1.0 one.0 one.1) (all.1.1.0 two.0 two.1) same
 
   operands_lawful : (head : Token) (top : PolicyTop) (rs : List (Reading PolicyTree)) → ((below : Policies) → below ≢ none → IsLawfulTop top below) → AllByRecursion IsLawfulReading rs → IsLawfulReading (next (gathered rs) (joined head top))
   operands_lawful head top rs here all p e =

@@ -1,22 +1,19 @@
 -- Predicates that are read are lawful.
 use Rattle.std.specs.Prelude.{◌≡◌, ◌≢◌, ℕ, Bool, true, false, if◌then◌else◌, List, [], ◌∷◌, Ok, Err}
 use Rattle.std.specs.List.{AllByRecursion}
-use Rattle.std.proofs.Common.{refl, ap, subst}
+use Rattle.std.proofs.Common.{ap, subst}
 use Rattle.pq_term.specs.declared.token.Token.{Token}
 use Rattle.pq_grammar.specs.declared.class.Class.TheVariants.{TrueWord, FalseWord, NotWord, AndWord, OrWord}
 use Rattle.pq_grammar.specs.Tables.{is_class}
 use Rattle.pq_tree.specs.Trees.{Forest, nothing, grown, Tree}
 use Rattle.pq_tree.specs.Texts.{text_in, class_in_text}
-use Rattle.pq_fields.specs.declared.field.Field.{Field}
-use Rattle.pq_fields.specs.Pred.{PredTop, Always, Never, Every, Some as SomeHold, Negated, Preds, none, put, PredTree, preds, leaf, IsLawfulTop, AreLawful, IsLawfulPred}
+use Rattle.pq_fields.specs.Pred.{PredTop, Always, Never, Every, Some as SomeHold, Negated, Preds, none, PredTree, preds, leaf, IsLawfulTop, AreLawful, IsLawfulPred}
 use Rattle.pq_model.specs.Topology.{Topology}
-use Rattle.pq_topo.specs.declared.fault.NameKind.{NameKind}
-use Rattle.pq_topo.specs.declared.fault.NameKind.TheVariants.{BadValue}
 use Rattle.pq_topo.specs.Named.{IsNamedTopology}
-use Rattle.pq_topo.specs.Naming.{Reading, faulty, named, next, gathered}
+use Rattle.pq_topo.specs.Naming.{Reading, named, next, gathered}
 use Rattle.pq_topo.proofs.Readings.{next_ok}
 use Rattle.pq_pred.specs.Values.{Ruled, field_at, test_of}
-use Rattle.pq_pred.specs.Predicates.{test_at, test_below, negation, joined, pred_step, pred_readings, pred_of}
+use Rattle.pq_pred.specs.Predicates.{test_below, negation, joined, pred_step, pred_readings, pred_of}
 use Rattle.pq_compile.proofs.Fits.{test_lawful}
 
 -- what a token names

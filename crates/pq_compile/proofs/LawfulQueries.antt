@@ -1,22 +1,21 @@
 -- Queries that are read are lawful.
-use Rattle.std.specs.Prelude.{◌≡◌, ◌≢◌, ℕ, Bool, true, false, if◌then◌else◌, List, [], ◌∷◌, Ok, Err}
+use Rattle.std.specs.Prelude.{◌≡◌, ◌≢◌, ℕ, Bool, true, false, if◌then◌else◌, List, [], ◌∷◌, Ok}
 use Rattle.std.specs.List.{AllByRecursion}
-use Rattle.std.proofs.Common.{refl, subst}
+use Rattle.std.proofs.Common.{subst}
 use Rattle.pq_term.specs.declared.token.Token.{Token}
 use Rattle.pq_grammar.specs.declared.class.Class.TheVariants.{InAtom, OutAtom, InOutAtom, EndAtom, InGroup, OutGroup, InOutGroup, Caret, Bar, Ampersand, Tilde, Star}
 use Rattle.pq_grammar.specs.Tables.{is_class}
 use Rattle.pq_tree.specs.Trees.{Forest, nothing, grown, Tree}
-use Rattle.pq_tree.specs.Texts.{text_in, class_in_text}
+use Rattle.pq_tree.specs.Texts.{class_in_text}
 use Rattle.pq_fields.specs.Pred.{PredTree, IsLawfulPred}
 use Rattle.pq_model.specs.Topology.{Topology}
 use Rattle.pq_topo.specs.declared.fault.NameKind.TheVariants.{BadValue}
 use Rattle.pq_topo.specs.Named.{IsNamedTopology}
 use Rattle.pq_topo.specs.Naming.{Reading, faulty, next, gathered}
 use Rattle.pq_topo.proofs.Readings.{next_ok}
-use Rattle.pq_pred.specs.Predicates.{pred_of}
 use Rattle.pq_query.specs.Groups.{Group}
 use Rattle.pq_query.specs.Query.{QueryTop, Enters, Leaves, Passes, Ends, InTurn, Either, Both, Other, Repeated, Queries, none, QueryTree, leaf, queries}
-use Rattle.pq_query.specs.Resolved.{groups_after, Side, later, pred_in, groups_in, bare_in, grouped_in, entering, leaving, passing, hop_of, grouped_hop_of, end_of, single, joined, atom_of, query_step, query_readings, query_of}
+use Rattle.pq_query.specs.Resolved.{Side, later, pred_in, groups_in, bare_in, grouped_in, entering, leaving, passing, hop_of, grouped_hop_of, end_of, single, joined, atom_of, query_step, query_readings, query_of}
 use Rattle.pq_compile.specs.Lawful.{AreLawfulGroups, IsLawfulTop, AreLawfulQueries, IsLawfulQuery}
 use Rattle.pq_compile.proofs.LawfulPreds.{all_gathered, pred_lawful}
 use Rattle.pq_compile.proofs.LawfulGroups.{none_lawful, groups_lawful}
