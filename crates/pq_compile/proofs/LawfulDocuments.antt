@@ -118,23 +118,27 @@ topology_lawful bytes f T e =
     let same : record { switches = switched.0; links = linked.0 } ≡ T = cc in
     subst IsNamedTopology same (subst (λ ls. IsNamedTopology (record { switches = switched.0; links = ls })) ordered (network_with bytes switched.0 f links.0 links.1 network))
 
+-- what stands in a document that is read for a network
+described : (bytes : List ℕ) (f : Forest) (T : Topology) → IsNamedTopology T → (parts : List (Named PolicyTree)) (queries : List (Named QueryTree)) (d : DocumentTree) → parts_of T bytes f ≡ Ok parts → queries_of T bytes f ≡ Ok queries → record { topology = T; parts = parts; queries = queries } ≡ d → IsLawfulDocument d
+described bytes f T network parts queries d parted asked same =
+    let policies = statements_lawful PolicyTree IsLawfulPolicy bytes PartWord 1024 (policy_of T bytes) (policy_lawful T network bytes) f parts parted in
+    let questions = statements_lawful QueryTree IsLawfulQuery bytes QueryWord 256 (query_of T bytes) (query_lawful T network bytes) f queries asked in
+    subst IsLawfulDocument same (record {
+      topology = network;
+      few_parts = policies.0;
+      part_names = policies.1;
+      parts = policies.2;
+      few_queries = questions.0;
+      query_names = questions.1;
+      queries = questions.2;
+    })
+
 -- what statements describe is lawful
 pub document_lawful : (bytes : List ℕ) (f : Forest) (d : DocumentTree) → document_of bytes f ≡ Ok d → IsLawfulDocument d
 document_lawful bytes f d e =
     let made = next_ok (topology_of bytes f) (λ T. next (parts_of T bytes f) (λ parts. next (queries_of T bytes f) (λ queries. Ok (record { topology = T; parts = parts; queries = queries })))) d e in
     let T = made.0 in
-    let network = topology_lawful bytes f T made.1 in
     let parted = next_ok (parts_of T bytes f) (λ parts. next (queries_of T bytes f) (λ queries. Ok (record { topology = T; parts = parts; queries = queries }))) d made.2 in
     let asked = next_ok (queries_of T bytes f) (λ queries. Ok (record { topology = T; parts = parted.0; queries = queries })) d parted.2 in
     let same : record { topology = T; parts = parted.0; queries = asked.0 } ≡ d = cc in
-    let parts = statements_lawful PolicyTree IsLawfulPolicy bytes PartWord 1024 (policy_of T bytes) (policy_lawful T network bytes) f parted.0 parted.1 in
-    let queries = statements_lawful QueryTree IsLawfulQuery bytes QueryWord 256 (query_of T bytes) (query_lawful T network bytes) f asked.0 asked.1 in
-    subst IsLawfulDocument same (record {
-      topology = network;
-      few_parts = parts.0;
-      part_names = parts.1;
-      parts = parts.2;
-      few_queries = queries.0;
-      query_names = queries.1;
-      queries = queries.2;
-    })
+    described bytes f T (topology_lawful bytes f T made.1) parted.0 asked.0 d parted.1 asked.1 same

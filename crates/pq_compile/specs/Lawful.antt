@@ -21,12 +21,14 @@ pub record AreLawfulValues (f : Field) (ns : List ℕ) : Type 0 where
   pub fit : All (λ n. n < 2 ^ width_of f) ns
   pub differ : IsDistinct nat_eq ns
 
--- the field is no IPv6 address; its values are lawful, and where none are stated, it is `switch` or `port`
+-- a group of the field may take these values; where none are stated, the field is `switch` or `port`
+abbrev pub MayTake : Field → Option (List ℕ) → Type 0
+MayTake f (Some ns) = AreLawfulValues f ns
+MayTake f None = is_listed f ≡ true
+
+-- the field is no IPv6 address, and may take the values
 abbrev pub IsLawfulGroup : Group → Type 0
-IsLawfulGroup g = (is_wide g.field ≡ false) × by g.values where
-  by : Option (List ℕ) → Type 0
-  by (Some ns) = AreLawfulValues g.field ns
-  by None = is_listed g.field ≡ true
+IsLawfulGroup g = (is_wide g.field ≡ false) × MayTake g.field g.values
 
 -- the groups of brackets are lawful, and their fields differ
 pub record AreLawfulGroups (gs : List Group) : Type 0 where
