@@ -3,6 +3,7 @@
 
 mod document;
 mod fault;
+mod lawful;
 mod laws;
 mod names;
 mod parts;
@@ -13,5 +14,9 @@ mod tests;
 
 pub use document::Document;
 pub use fault::DocumentFault;
+pub use lawful::{
+    documents_that_are_read_are_lawful, policies_that_are_read_are_lawful,
+    predicates_that_are_read_are_lawful, queries_that_are_read_are_lawful,
+};
 pub use laws::has_one_document;
 pub use reading::read_document;
