@@ -3,7 +3,6 @@ use crate::*;
 use pq_fields::{Field, Pred};
 use pq_policy::Policy;
 use pq_query::{Group, Query};
-use pq_term::Name;
 use pq_topo::{NameKind, Topology};
 use std::alloc::{AllocError, Global};
 use std::fmt::Write;
@@ -612,4 +611,445 @@ fn faults_stand_at_these_bytes(rt: HostRuntime) {
     ] {
         assert_eq!(rt; answered(rt.alloc(), text.as_bytes()), wanted, "{text}");
     }
+}
+
+/// Whether this becomes of the text, at this byte.
+fn is_answered(alloc: Global, text: &str, wanted: Answer, place: usize) -> bool {
+    answered(alloc, text.as_bytes()) == (wanted, place)
+}
+
+#[test]
+fn other_bytes_stand_in_comments_alone(rt: HostRuntime) -> Result<(), Fail> {
+    let alloc = rt.alloc();
+    for byte in 0x7f..=0xffu8 {
+        let mut text = Vec::from_slice(alloc, b"part a = drop; ")?;
+        text.push(byte)?;
+        assert_eq!(rt; answered(alloc, &text), (Answer::Lex, 15), "{byte}");
+        let mut text = Vec::from_slice(alloc, b"part a = # ")?;
+        text.push(byte)?;
+        text.extend_from_slice(b"\n drop;")?;
+        assert_eq!(rt; answered(alloc, &text), (Answer::Accepted, 0), "{byte}");
+    }
+    for byte in 0..0x20u8 {
+        let text = [b'#', b'\n', byte];
+        let wanted = match byte {
+            b'\t' | b'\n' | b'\r' => (Answer::Accepted, 0),
+            _ => (Answer::Lex, 2),
+        };
+        assert_eq!(rt; answered(alloc, &text), wanted, "{byte}");
+    }
+    Ok(())
+}
+
+#[test]
+fn a_cut_text_ends_too_early(rt: HostRuntime) {
+    let text = "query q = in_group(true, [port of (12)])*;";
+    for (length, wanted) in [
+        (0, (Answer::Accepted, 0)),
+        (3, (Answer::Syntax, 0)),
+        (5, (Answer::Syntax, 5)),
+        (6, (Answer::Syntax, 6)),
+        (9, (Answer::Syntax, 9)),
+        (12, (Answer::Syntax, 10)),
+        (18, (Answer::Syntax, 18)),
+        (19, (Answer::Syntax, 19)),
+        (21, (Answer::Syntax, 21)),
+        (26, (Answer::Syntax, 26)),
+        (30, (Answer::Syntax, 30)),
+        (32, (Answer::Syntax, 31)),
+        (36, (Answer::Syntax, 36)),
+        (40, (Answer::Syntax, 40)),
+        (41, (Answer::Syntax, 41)),
+        (42, (Answer::Accepted, 0)),
+    ] {
+        assert_eq!(rt;
+            answered(rt.alloc(), &text.as_bytes()[..length]),
+            wanted,
+            "{length}"
+        );
+    }
+}
+
+/// The front, so many times the opening, the middle, as many times the closing, and the end.
+fn nested(
+    alloc: Global,
+    front: &str,
+    opening: &str,
+    count: usize,
+    middle: &str,
+    closing: &str,
+) -> Result<String, AllocError> {
+    let mut text = String::new(alloc);
+    write!(text, "{front}")?;
+    for _ in 0..count {
+        write!(text, "{opening}")?;
+    }
+    write!(text, "{middle}")?;
+    for _ in 0..count {
+        write!(text, "{closing}")?;
+    }
+    Ok(text)
+}
+
+#[test]
+fn a_hundred_may_be_open(rt: HostRuntime) -> Result<(), Fail> {
+    let alloc = rt.alloc();
+    for (front, opening, count, middle, closing, wanted, place) in [
+        ("part a = ", "(", 100, "drop", ")", Answer::Accepted, 0),
+        ("part a = ", "(", 101, "drop", ")", Answer::Syntax, 109),
+        ("part a = ", "(", 99, "fwd(1)", ")", Answer::Accepted, 0),
+        ("part a = ", "(", 100, "fwd(1)", ")", Answer::Syntax, 112),
+        (
+            "part a = fwd(1) >> ",
+            "(",
+            100,
+            "drop",
+            ")",
+            Answer::Accepted,
+            0,
+        ),
+        (
+            "part a = if(",
+            "not ",
+            99,
+            "true, drop, drop)",
+            "",
+            Answer::Accepted,
+            0,
+        ),
+        (
+            "part a = if(",
+            "not ",
+            100,
+            "true, drop, drop)",
+            "",
+            Answer::Syntax,
+            408,
+        ),
+        (
+            "part a = if(",
+            "not true and ",
+            150,
+            "true, drop, drop)",
+            "",
+            Answer::Accepted,
+            0,
+        ),
+        (
+            "query q = ",
+            "~",
+            99,
+            "in_atom(true)",
+            "",
+            Answer::Accepted,
+            0,
+        ),
+        (
+            "query q = ",
+            "~",
+            100,
+            "in_atom(true)",
+            "",
+            Answer::Syntax,
+            117,
+        ),
+        (
+            "query q = ",
+            "~ in_atom(true) ^ ",
+            150,
+            "in_atom(true)",
+            "",
+            Answer::Accepted,
+            0,
+        ),
+        (
+            "query q = ",
+            "(",
+            98,
+            "in_group(true, [port])",
+            ")",
+            Answer::Accepted,
+            0,
+        ),
+        (
+            "query q = ",
+            "(",
+            99,
+            "in_group(true, [port])",
+            ")",
+            Answer::Syntax,
+            124,
+        ),
+        (
+            "query q = ",
+            "(",
+            98,
+            "in_group(true, [port of (1)])",
+            ")",
+            Answer::Syntax,
+            132,
+        ),
+    ] {
+        let mut text = nested(alloc, front, opening, count, middle, closing)?;
+        write!(text, ";")?;
+        assert!(rt; is_answered(alloc, &text, wanted, place), "{text}");
+    }
+    Ok(())
+}
+
+/// So many statements of a sort with this text.
+fn statements(alloc: Global, sort: &str, count: u32, body: &str) -> Result<String, AllocError> {
+    let mut text = String::new(alloc);
+    for number in 0..count {
+        write!(text, "{sort} x{number} = {body};\n")?;
+    }
+    Ok(text)
+}
+
+/// Whether so many statements of a sort are accepted, and one more, which breaks other rules too, is one too many.
+fn is_full(alloc: Global, sort: &str, count: u32, body: &str) -> Result<bool, AllocError> {
+    let mut text = statements(alloc, sort, count, body)?;
+    if !is_answered(alloc, &text, Answer::Accepted, 0) {
+        return Ok(false);
+    }
+    let place = text.len();
+    write!(text, "{sort} x0 = {body};")?;
+    Ok(is_answered(alloc, &text, Answer::Name(NameKind::Many), place))
+}
+
+#[test]
+fn there_are_1024_parts_at_most(rt: HostRuntime) -> Result<(), Fail> {
+    assert!(rt; is_full(rt.alloc(), "part", 1024, "drop")?);
+    Ok(())
+}
+
+#[test]
+fn there_are_256_queries_at_most(rt: HostRuntime) -> Result<(), Fail> {
+    assert!(rt; is_full(rt.alloc(), "query", 256, "in_atom(true)")?);
+    Ok(())
+}
+
+#[test]
+fn there_are_256_switches_at_most(rt: HostRuntime) -> Result<(), Fail> {
+    let alloc = rt.alloc();
+    let mut text = String::new(alloc);
+    for number in 0..256u32 {
+        write!(text, "switch s{number} = {number} ports 1;\n")?;
+    }
+    assert!(rt; is_answered(alloc, &text, Answer::Accepted, 0));
+    let place = text.len();
+    write!(text, "switch s1 = 1 ports 0;")?;
+    assert!(rt; is_answered(alloc, &text, Answer::Name(NameKind::Many), place));
+    Ok(())
+}
+
+/// The topology as text: of each switch the datapath number, the ports and the limit, and the ends of each link.
+fn shown(alloc: Global, topology: &Topology) -> Result<String, AllocError> {
+    let mut text = String::new(alloc);
+    for switch in topology.switches() {
+        write!(text, "{}:", switch.datapath)?;
+        for port in &switch.ports {
+            write!(text, " {port}")?;
+        }
+        write!(text, " limit {}; ", switch.limit)?;
+    }
+    for link in topology.links() {
+        write!(
+            text,
+            "{}.{}-{}.{} ",
+            link.first.0, link.first.1, link.second.0, link.second.1
+        )?;
+    }
+    Ok(text)
+}
+
+/// Whether the text describes the network that is shown so.
+fn is_network(alloc: Global, text: &str, wanted: &str) -> Result<bool, AllocError> {
+    match read_document(alloc, text.as_bytes()) {
+        Ok(document) => Ok(shown(alloc, &document.topology)?.as_str() == wanted),
+        Err(_) => Ok(false),
+    }
+}
+
+/// Whether the text has these parts, in this order.
+fn has_parts(alloc: Global, text: &str, wanted: &[(&str, Policy)]) -> bool {
+    let Ok(document) = read_document(alloc, text.as_bytes()) else {
+        return false;
+    };
+    if document.parts.len() != wanted.len() {
+        return false;
+    }
+    for (part, other) in document.parts.iter().zip(wanted) {
+        if part.0.bytes() != other.0.as_bytes() {
+            return false;
+        }
+        if part.1 != other.1 {
+            return false;
+        }
+    }
+    true
+}
+
+#[test]
+fn switches_and_links_make_a_topology(rt: HostRuntime) -> Result<(), Fail> {
+    let alloc = rt.alloc();
+    assert!(rt; is_network(alloc, "part a = drop;", "")?);
+    assert!(rt;
+        is_network(
+            alloc,
+            "switch b = 7 ports 9, 2 limit 5; switch a = 0x5 ports 3, 1, 2; link b 2 a 3; link a 2 a 1;",
+            "5: 1 2 3 limit 2000; 7: 2 9 limit 5; 5.1-5.2 5.3-7.2 ",
+        )?
+    );
+    Ok(())
+}
+
+#[test]
+fn parts_have_their_policies(rt: HostRuntime) -> Result<(), Fail> {
+    let alloc = rt.alloc();
+    assert!(rt; has_parts(alloc, "query q = in_atom(true);", &[]));
+    // A sequence binds closer than a union, and parentheses are their own operand.
+    let nested = Policy::Seq(vec![in alloc; Policy::Drop, Policy::Flood]?);
+    let first = Policy::Seq(vec![in alloc; Policy::Fwd(2), nested, Policy::Identity]?);
+    let union = Policy::Union(vec![in alloc; first, Policy::Mod(Field::EthDst, 0x0200_0000_000a)]?);
+    let no = Box::new(alloc, Policy::Fwd(4_294_967_040))?;
+    let yes = Box::new(alloc, Policy::Drop)?;
+    let choice = Policy::If(Pred::Equal(Field::Switch, 7), yes, no);
+    assert!(rt;
+        has_parts(
+            alloc,
+            "switch s = 7 ports 1; part z = fwd(2) >> (drop >> flood) >> identity + mod(eth_dst=02:00:00:00:00:0A); part a = if(switch=s, drop, fwd(4294967040));",
+            &[("z", union), ("a", choice)],
+        )
+    );
+    Ok(())
+}
+
+/// Whether the text's one part lets packets pass by this predicate.
+fn has_filter(alloc: Global, text: &str, pred: Pred) -> bool {
+    has_parts(alloc, text, &[("a", Policy::Filter(pred))])
+}
+
+#[test]
+fn filters_have_their_predicates(rt: HostRuntime) -> Result<(), Fail> {
+    let alloc = rt.alloc();
+    let not = Pred::Not(Box::new(alloc, Pred::Equal(Field::Port, 1))?);
+    let all = Pred::And(vec![in alloc; not, Pred::Equal(Field::EthType, 0x0806), Pred::False]?);
+    let any = Pred::Or(vec![in alloc; all, Pred::True]?);
+    assert!(rt;
+        has_filter(
+            alloc,
+            "part a = filter(not port=1 and eth_type=0x0806 and false or true);",
+            any,
+        )
+    );
+    for (text, pred) in [
+        (
+            "part a = filter(ipv4_dst=10.0.0.99/24);",
+            Pred::Prefix(Field::Ipv4Dst, 0x0a00_0000, 24),
+        ),
+        (
+            "part a = filter(ipv4_src=10.0.0.99/0);",
+            Pred::Prefix(Field::Ipv4Src, 0, 0),
+        ),
+        (
+            "part a = filter(ipv4_src=10.0.0.99/32);",
+            Pred::Prefix(Field::Ipv4Src, 0x0a00_0063, 32),
+        ),
+        (
+            "part a = filter(ipv4_src=10.0.0.99);",
+            Pred::Equal(Field::Ipv4Src, 0x0a00_0063),
+        ),
+        (
+            "part a = filter(ipv6_src=1:2:3:4:5:6:7:8);",
+            Pred::Wide(
+                Field::Ipv6Src,
+                0x0001_0002_0003_0004_0005_0006_0007_0008,
+                128,
+            ),
+        ),
+        (
+            "part a = filter(ipv6_dst=FE8f:0:0:0:0:0:0:1/12);",
+            Pred::Wide(
+                Field::Ipv6Dst,
+                0xfe80_0000_0000_0000_0000_0000_0000_0000,
+                12,
+            ),
+        ),
+        (
+            "part a = filter(eth_src=00:11:22:aa:BB:ff);",
+            Pred::Equal(Field::EthSrc, 0x0011_22aa_bbff),
+        ),
+    ] {
+        assert!(rt; has_filter(alloc, text, pred), "{text}");
+    }
+    Ok(())
+}
+
+/// Whether the groups are one of this field with these values, and the switch.
+fn is_grouped(groups: &[Group], field: Field, wanted: &[u64]) -> bool {
+    match groups {
+        [first, second] => {
+            let stated = match &first.values {
+                Some(values) => values.as_slice() == wanted,
+                None => false,
+            };
+            stated
+                && first.field == field
+                && second.field == Field::Switch
+                && second.values.is_none()
+        }
+        _ => false,
+    }
+}
+
+/// Whether the query is an entry by this predicate, any number of times, without groups.
+fn is_repeated_entry(query: &Query, wanted: &Pred) -> bool {
+    match query {
+        Query::Star(entry) => match &**entry {
+            Query::In(pred, groups) => pred == wanted && groups.is_empty(),
+            _ => false,
+        },
+        _ => false,
+    }
+}
+
+/// Whether the query is a departure of any packet, with a group of these ports and one of switches.
+fn is_grouped_departure(query: &Query, ports: &[u64]) -> bool {
+    match query {
+        Query::Out(Pred::True, groups) => is_grouped(groups, Field::Port, ports),
+        _ => false,
+    }
+}
+
+/// Whether the query is a repeated entry by this predicate, and then a departure with a group of these ports.
+fn is_path(query: &Query, wanted: &Pred, ports: &[u64]) -> bool {
+    match query {
+        Query::Cat(operands) => match operands.as_slice() {
+            [first, second] => {
+                is_repeated_entry(first, wanted) && is_grouped_departure(second, ports)
+            }
+            _ => false,
+        },
+        _ => false,
+    }
+}
+
+#[test]
+fn queries_have_their_operands(rt: HostRuntime) -> Result<(), Fail> {
+    let alloc = rt.alloc();
+    let text = "switch s = 7 ports 1; part a = drop; \
+        query q = in_atom(switch=s)* ^ out_group(true, [port of (9, 2), switch]);";
+    let found = match read_document(alloc, text.as_bytes()) {
+        Ok(document) => match document.queries.as_slice() {
+            [(name, query)] => {
+                name.bytes() == b"q".as_slice()
+                    && is_path(query, &Pred::Equal(Field::Switch, 7), &[9, 2])
+            }
+            _ => false,
+        },
+        Err(_) => false,
+    };
+    assert!(rt; found);
+    Ok(())
 }
