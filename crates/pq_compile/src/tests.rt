@@ -258,6 +258,10 @@ const TEXTS: &[(&str, Answer)] = &[
         Answer::Name(NameKind::UnknownPort),
     ),
     (
+        "switch s = 1 ports 1, 2; link s !0 s 1;",
+        Answer::Name(NameKind::UnknownPort),
+    ),
+    (
         "switch s = 1 ports 1, 2; link s !9 t 9;",
         Answer::Name(NameKind::UnknownPort),
     ),
@@ -839,6 +843,41 @@ fn there_are_256_switches_at_most(rt: HostRuntime) -> Result<(), Fail> {
     assert!(rt; is_answered(alloc, &text, Answer::Accepted, 0));
     let place = text.len();
     write!(text, "switch s1 = 1 ports 0;")?;
+    assert!(rt; is_answered(alloc, &text, Answer::Name(NameKind::Many), place));
+    Ok(())
+}
+
+#[test]
+fn reserved_words_are_no_names(rt: HostRuntime) -> Result<(), Fail> {
+    let alloc = rt.alloc();
+    let words =
+        "switch ports limit link part query remove true false not and or filter mod fwd flood drop \
+        identity if of in_atom out_atom in_out_atom in_group out_group in_out_group end_atom";
+    for word in words.split(' ') {
+        let mut text = String::new(alloc);
+        write!(text, "part {word} = drop;")?;
+        assert!(rt; is_answered(alloc, &text, Answer::Syntax, 5), "{word}");
+        // One letter more makes it a name.
+        let mut text = String::new(alloc);
+        write!(text, "part {word}s_ = drop;")?;
+        assert!(rt; is_answered(alloc, &text, Answer::Accepted, 0), "{word}");
+    }
+    Ok(())
+}
+
+#[test]
+fn there_are_4096_ports_at_most(rt: HostRuntime) -> Result<(), Fail> {
+    let alloc = rt.alloc();
+    let mut text = String::new(alloc);
+    write!(text, "switch a = 1 ports 1")?;
+    for port in 2..4097u32 {
+        write!(text, ", {port}")?;
+    }
+    write!(text, ";")?;
+    assert!(rt; is_answered(alloc, &text, Answer::Accepted, 0));
+    write!(text, " switch b = 2 ports ")?;
+    let place = text.len();
+    write!(text, "1 limit 0;")?;
     assert!(rt; is_answered(alloc, &text, Answer::Name(NameKind::Many), place));
     Ok(())
 }
