@@ -1,15 +1,13 @@
 -- What `if` reads of its children.
-use Rattle.std.proofs.Common.{◌≡◌, ℕ, ◌<◌, ◌≤◌, ◌≢◌, List, [], ◌∷◌, length, slice_index_or, refl, ap, sym, arith, Ok, Err}
+use Rattle.std.proofs.Common.{◌≡◌, ℕ, ◌<◌, ◌≤◌, ◌≢◌, List, [], ◌∷◌, length, slice_index_or, refl, arith, Ok}
 use Rattle.pq_term.specs.declared.token.Token.{Token}
 use Rattle.pq_term.specs.declared.token.Kind.TheVariants.{Word}
 use Rattle.pq_tree.specs.declared.term.Term.{Term}
 use Rattle.pq_tree.specs.declared.term.Term.TheViews.{roll-Term}
 use Rattle.pq_tree.specs.Trees.{Tree, tree, trees}
 use Rattle.pq_model.specs.Topology.{Topology}
-use Rattle.pq_topo.specs.declared.fault.NameFault.{NameFault}
-use Rattle.pq_topo.specs.declared.fault.NameFault.TheVariants.{Name, Memory}
 use Rattle.pq_topo.specs.declared.fault.NameKind.TheVariants.{BadValue}
-use Rattle.pq_topo.specs.Naming.{Reading, IsAnswer, faulty, next}
+use Rattle.pq_topo.specs.Naming.{Reading, faulty, next}
 use Rattle.pq_pred.specs.Predicates.{pred_of}
 use Rattle.pq_fields.specs.Pred.{PredTree}
 use Rattle.pq_policy.specs.Policy.{Choose, PolicyTree, policies}
@@ -48,14 +46,3 @@ others T bytes head (x ∷ []) other = refl
 others T bytes head (x ∷ y ∷ []) other = refl
 others T bytes head (x ∷ y ∷ z ∷ []) other = absurd (other refl)
 others T bytes head (x ∷ y ∷ z ∷ w ∷ ts) other = refl
-
--- a fault of the first of two readings is that of both
-pub fault_first : {A B C D : Type 0} (view : A → B) (later : C → D) (e : NameFault) (r : Reading B) (f : B → Reading D)
-    → IsAnswer view (Err e) r → IsAnswer later (Err e) (next r f)
-fault_first view later (Name at kind) r f h = ap (λ r. next r f) h
-fault_first view later Memory r f h = tt
-
--- after what was read comes the second reading
-pub then_second : {A B D : Type 0} (view : A → B) (value : A) (r : Reading B) (f : B → Reading D)
-    → IsAnswer view (Ok value) r → next r f ≡ f (view value)
-then_second view value r f h = sym (ap (λ r. next r f) h)
