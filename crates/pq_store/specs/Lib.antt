@@ -1,0 +1,11 @@
+pub mod Arena
+pub mod Code
+pub mod Compaction
+pub mod Diagram
+pub mod Least
+pub mod Moves
+pub mod Search
+pub mod Store
+pub mod Test
+pub mod Tree
+pub mod View
