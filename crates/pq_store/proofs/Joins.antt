@@ -100,7 +100,7 @@ module _ {L : Type 0} where
   leaf_diagram l = record { lawful = tt; ascends = tt; asks_once = tt; reduced = tt; fits = λ f. omega arith }
 
   -- unequal sides under a test are a diagram
-  fork_diagram : (s : Test) (y n : Tree L) → IsJoinable s y n → IsDiagram y → IsDiagram n → (HasEqualSides s y n → ⊥) → IsDiagram (Fork s y n)
+  pub fork_diagram : (s : Test) (y n : Tree L) → IsJoinable s y n → IsDiagram y → IsDiagram n → (HasEqualSides s y n → ⊥) → IsDiagram (Fork s y n)
   fork_diagram s y n may d e differ = record {
     lawful = (may.lawful, d.lawful, e.lawful);
     ascends = (may.before_yes, may.before_no, d.ascends, e.ascends);
@@ -132,10 +132,6 @@ module _ {L : Type 0} where
   no_value ts k i j s x b v shows asked fail is =
       value_there ts j shows.no_tree x shows.no_is ∙ (ap (λ c. Some (if c then value shows.yes_tree x else value shows.no_tree x)) (sym fail ∙ asked)
       ∙ (sym (value_there ts k (Fork s shows.yes_tree shows.no_tree) x shows.is) ∙ is))
-
-  -- equal sides are joined by the no side
-  pub equal_join : (ts : List (Tree L)) (s : Test) (i j : ℕ) → IsPastAt ts s j i → JoinsAt ts s i j ts j
-  equal_join ts s i j is y n y_is n_is = let p = is n n_is in let e : y ≡ past s n = cc in (n, n_is, inl (e, refl))
 
   -- and it has the value of both
   pub equal_value : (ts : List (Tree L)) (s : Test) (i j : ℕ) → AreDiagrams ts → AreJoinable ts s i j → i < length ts → j < length ts → IsPastAt ts s j i → TellsBoth ts s i j ts j

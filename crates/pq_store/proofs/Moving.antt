@@ -48,14 +48,6 @@ zip_weaker P Q h (x ∷ xs) [] pairs = pairs
 zip_weaker P Q h (x ∷ xs) (y ∷ ys) pairs = (h x y pairs.0, zip_weaker P Q h xs ys pairs.1)
 
 module _ {L : Type 0} where
-  -- in an empty store nothing has moved
-  pub moves_none : (ts : List (Tree L)) (kept : List Bool) → Moves ts kept [] []
-  moves_none ts kept = record {
-    same = λ k id moves. cc moves;
-    each = λ k h. absurd (omega arith);
-    only = λ id t at. cc at;
-  }
-
   -- a kept place moves to an id that has its tree
   pub moves_one : (ts : List (Tree L)) (kept : List Bool) (moved : List (Option ℕ)) (old new : List (Tree L)) (id : ℕ) → IsMarked kept (length moved) → length moved < length ts → slice_get new id ≡ slice_get ts (length moved) → Keeps old new → AddsOnly old new id → Moves ts kept moved old → Moves ts kept (moved ++ Some id ∷ []) new
   moves_one ts kept moved old new id marked within is keeps adds moves = record {

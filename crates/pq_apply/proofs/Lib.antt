@@ -1,0 +1,16 @@
+pub mod AtomTrees
+pub mod Choices
+pub mod Examples
+pub mod Few
+pub mod Gates
+pub mod Junctions
+pub mod Kept
+pub mod Leading
+pub mod Pairs
+pub mod Places
+pub mod PredTrees
+pub mod Remembered
+pub mod Restricted
+pub mod SetNumbers
+pub mod SingleTests
+pub mod Splits

@@ -1,0 +1,14 @@
+pub mod Atoms
+pub mod Choice
+pub mod Choosing
+pub mod Examples
+pub mod Junction
+pub mod Memo
+pub mod Operands
+pub mod Pairing
+pub mod Predicates
+pub mod Product
+pub mod Restricting
+pub mod Restriction
+pub mod Split
+pub mod Together
