@@ -61,8 +61,10 @@ impl<L: Leaf> Store<L> {
         self.cells.len() as u64
     }
 
-    /// Where the store takes its memory.
-    pub fn allocator(&self) -> Global {
+    /// Where the store takes its memory: there is one global allocator, so any two handles of it are equal.
+    pub fn allocator(&self) -> Global
+        ensures { (other : Global) → result ≡ other }
+    {
         *self.cells.allocator()
     }
 
