@@ -1,11 +1,16 @@
 -- What is read whole of a known input, and when a command is done.
-use Rattle.std.proofs.Common.{◌≡◌, ℕ, ◌≤◌, List, ◌++◌, length, ap, sym, ◌∙◌, subst, arith, length-append, append-nil, IfSome, Option, Some, None}
+use Rattle.std.proofs.Common.{◌≡◌, ℕ, Bool, true, false, refl, ◌≤◌, List, ◌++◌, length, ap, sym, ◌∙◌, subst, arith, length-append, append-nil, IfSome, Option, Some, None}
 use Rattle.std.specs.Io.KnownBytes.{Consumes, IsAtEnd}
 use Rattle.pq_io.specs.Faults.{Rose}
 use Rattle.pq_small.specs.SmallForm.{SmallForm, IsSmallForm}
 use Rattle.pq_command.specs.declared.outcome.Outcome.{Outcome}
 use Rattle.pq_command.specs.declared.outcome.Outcome.TheVariants.{Done, Words, ReadFault, TooLong, Lex, Syntax, Name, NotYet, Damaged, ScheduleFull, WriteFault, Memory}
-use Rattle.pq_command.specs.Answers.{ReadsWhole, ReadsMore, IsCompileAnswer, IsRefused, IsReplayAnswer, IsInspectAnswer, HasReadFaults, HasWriteFaults, IsDoneOrMemory, document_limit, install_limit}
+use Rattle.pq_command.specs.Answers.{ReadsWhole, ReadsMore, IsCompileAnswer, IsDocument, IsRefused, IsReplayAnswer, IsInspectAnswer, HasReadFaults, HasWriteFaults, IsDoneOrMemory, document_limit, install_limit}
+use Rattle.std.proofs.lemmas.Bool.{true≢false}
+use Rattle.pq_compile.specs.declared.fault.DocumentFault.{DocumentFault}
+use Rattle.pq_compile.specs.declared.fault.DocumentFault.TheVariants as fault
+use Rattle.pq_compile.specs.Documents.{IsDocumentFault}
+use Rattle.pq_compile.proofs.OneDocument.{no_document_fault}
 use Rattle.pq_install.specs.Damage.{IsDamagedAt}
 use Rattle.pq_inspect.specs.Inspected.{IsWholeInstall, IsSpoiledAt}
 use Rattle.pq_inspect.proofs.Unspoiled.{not_spoiled}
@@ -32,25 +37,36 @@ not_more : (bytes : List ℕ) (now before after : Option (List ℕ)) (limit : �
     → ReadsMore (record { left = Some bytes; rest = now; before = before; after = after }) limit → length bytes ≤ limit → ⊥
 not_more bytes now before after limit (text, taken, long) short = let most = no_longer bytes text now taken in absurd (omega arith)
 
+-- the fault is want of memory
+abbrev is_memory : DocumentFault → Bool
+is_memory (fault.Lex at) = false
+is_memory (fault.Syntax at) = false
+is_memory (fault.Name at kind) = false
+is_memory fault.Memory = true
+
+-- a document has no other fault
+no_fault : (bytes : List ℕ) (f : DocumentFault) → IsDocument bytes → IsDocumentFault bytes f → is_memory f ≡ false → ⊥
+no_fault bytes f document is other = absurd (true≢false (sym (ap is_memory (no_document_fault bytes document.0 f document.1 is)) ∙ other))
+
 pub compiled : (o : Outcome) (left now before after : Option (List ℕ)) (reads read writes written : ℕ)
     → IsCompileAnswer o (record { left = left; rest = now; before = before; after = after }) → HasReadFaults o reads read → HasWriteFaults o writes written
     → (Rose reads read → ⊥) → (Rose writes written → ⊥)
-    → IfSome left (λ bytes. length bytes ≤ document_limit → (s : SmallForm) → IsSmallForm bytes s → IsDoneOrMemory o)
+    → IfSome left (λ bytes. length bytes ≤ document_limit → IsDocument bytes → (s : SmallForm) → IsSmallForm bytes s → IsDoneOrMemory o)
 compiled o None now before after reads read writes written answer read_faults write_faults no_read no_write = tt
-compiled Done (Some bytes) now before after reads read writes written answer read_faults write_faults no_read no_write = λ short s form. tt
-compiled Memory (Some bytes) now before after reads read writes written answer read_faults write_faults no_read no_write = λ short s form. tt
-compiled ReadFault (Some bytes) now before after reads read writes written answer read_faults write_faults no_read no_write = λ short s form. no_read read_faults
-compiled WriteFault (Some bytes) now before after reads read writes written answer read_faults write_faults no_read no_write = λ short s form. no_write write_faults
+compiled Done (Some bytes) now before after reads read writes written answer read_faults write_faults no_read no_write = λ short document s form. tt
+compiled Memory (Some bytes) now before after reads read writes written answer read_faults write_faults no_read no_write = λ short document s form. tt
+compiled ReadFault (Some bytes) now before after reads read writes written answer read_faults write_faults no_read no_write = λ short document s form. no_read read_faults
+compiled WriteFault (Some bytes) now before after reads read writes written answer read_faults write_faults no_read no_write = λ short document s form. no_write write_faults
 compiled (Lex at) (Some bytes) now before after reads read writes written answer read_faults write_faults no_read no_write =
-    λ short s form. (of_whole bytes now before after document_limit (IsRefused (Lex at)) answer).0 s form
+    λ short document s form. no_fault bytes (fault.Lex at) document (of_whole bytes now before after document_limit (IsRefused (Lex at)) answer) refl
 compiled (Syntax at) (Some bytes) now before after reads read writes written answer read_faults write_faults no_read no_write =
-    λ short s form. (of_whole bytes now before after document_limit (IsRefused (Syntax at)) answer).0 s form
+    λ short document s form. no_fault bytes (fault.Syntax at) document (of_whole bytes now before after document_limit (IsRefused (Syntax at)) answer) refl
 compiled (Name at kind) (Some bytes) now before after reads read writes written answer read_faults write_faults no_read no_write =
-    λ short s form. (of_whole bytes now before after document_limit (IsRefused (Name at kind)) answer).0 s form
+    λ short document s form. no_fault bytes (fault.Name at kind) document (of_whole bytes now before after document_limit (IsRefused (Name at kind)) answer) refl
 compiled NotYet (Some bytes) now before after reads read writes written answer read_faults write_faults no_read no_write =
-    λ short s form. (of_whole bytes now before after document_limit (IsRefused NotYet) answer).0 s form
+    λ short document s form. (of_whole bytes now before after document_limit (IsRefused NotYet) answer).1 s form
 compiled TooLong (Some bytes) now before after reads read writes written answer read_faults write_faults no_read no_write =
-    λ short s form. not_more bytes now before after document_limit answer short
+    λ short document s form. not_more bytes now before after document_limit answer short
 compiled Words (Some bytes) now before after reads read writes written answer read_faults write_faults no_read no_write = absurd answer
 compiled (Damaged at) (Some bytes) now before after reads read writes written answer read_faults write_faults no_read no_write = absurd answer
 compiled ScheduleFull (Some bytes) now before after reads read writes written answer read_faults write_faults no_read no_write = absurd answer

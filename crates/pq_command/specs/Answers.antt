@@ -46,23 +46,27 @@ Puts s P = (written : List ℕ) × P written × Appends s.before s.after written
 abbrev pub PutsPart : Streams → (List ℕ → Type 0) → Type 0
 PutsPart s P = (written : List ℕ) × P written × AppendsPart s.before s.after written
 
--- why a text that is of no form that is compiled today gets no install: its first fault, or that it is a document all the same
-abbrev pub IsRefusal : List ℕ → Outcome → Type 0
-IsRefusal text (Lex at) = MeetsNoToken text at
-IsRefusal text (Syntax at) = IsSyntaxFault Document text at
-IsRefusal text (Name at kind) = IsNameFault text at kind
-IsRefusal text NotYet = (document : DocumentTree) × Spells text document
-IsRefusal text Memory = Unit {0}
-IsRefusal text _ = ⊥
+-- the text is a document
+abbrev pub IsDocument : List ℕ → Type 0
+IsDocument text = (document : DocumentTree) × Spells text document
 
--- the text is of no form that is compiled today, and this is why it gets no install
+-- the text is a document, and these bytes are its install
+abbrev pub IsInstallOf : List ℕ → List ℕ → Type 0
+IsInstallOf text written = IsDocument text × Compiles text written
+
+-- why a text gets no install: its first fault, or that it is a document of no form that is compiled today
 abbrev pub IsRefused : Outcome → List ℕ → Type 0
-IsRefused outcome text = IsNoForm text × IsRefusal text outcome
+IsRefused (Lex at) text = MeetsNoToken text at
+IsRefused (Syntax at) text = IsSyntaxFault Document text at
+IsRefused (Name at kind) text = IsNameFault text at kind
+IsRefused NotYet text = IsDocument text × IsNoForm text
+IsRefused Memory text = Unit {0}
+IsRefused _ text = ⊥
 
 -- what `compile` says of a document
 abbrev pub IsCompileAnswer : Outcome → Streams → Type 0
-IsCompileAnswer Done s = ReadsWhole s document_limit (λ text. Puts s (Compiles text))
-IsCompileAnswer WriteFault s = ReadsWhole s document_limit (λ text. PutsPart s (Compiles text))
+IsCompileAnswer Done s = ReadsWhole s document_limit (λ text. Puts s (IsInstallOf text))
+IsCompileAnswer WriteFault s = ReadsWhole s document_limit (λ text. PutsPart s (IsInstallOf text))
 IsCompileAnswer (Lex at) s = ReadsWhole s document_limit (IsRefused (Lex at))
 IsCompileAnswer (Syntax at) s = ReadsWhole s document_limit (IsRefused (Syntax at))
 IsCompileAnswer (Name at kind) s = ReadsWhole s document_limit (IsRefused (Name at kind))

@@ -1,5 +1,5 @@
-ghost use Rattle.std.specs.Prelude.{◌≡◌};
-ghost use Rattle.pq_command.specs.Answers.{HasReadFaults, HasWriteFaults, IsCompileAnswer, IsRefusal, OnRefusal, streams};
+ghost use Rattle.std.specs.Prelude.{◌≡◌, IfErr, IfOk};
+ghost use Rattle.pq_command.specs.Answers.{HasReadFaults, HasWriteFaults, IsCompileAnswer, IsInstallOf, IsRefused, OnRefusal, streams};
 
 use crate::outcome::Outcome;
 use crate::reading::{Unread, read_whole};
@@ -11,16 +11,23 @@ use std::alloc::Global;
 /// The most bytes that a document has.
 const DOCUMENT_LIMIT: usize = 524_288;
 
-/// Why a text that is of no form that is compiled today gets no install: its first fault, where it has one.
-fn refusal(alloc: Global, text: &[u8]) -> Outcome
-    ensures { IsRefusal text.now result }
+/// The install of a document, or why there is none: the text's first fault, or that no install is made today of such a
+/// document.
+fn install_of(alloc: Global, text: &[u8]) -> Result<Vec<u8>, Outcome>
+    ensures ok { IfOk result (λ install. IsInstallOf text.now install.items) }
+    ensures err { IfErr result (λ outcome. IsRefused outcome text.now) }
 {
     match read_document(alloc, text) {
-        Ok(_) => Outcome::NotYet,
-        Err(DocumentFault::Lex { at }) => Outcome::Lex { at },
-        Err(DocumentFault::Syntax { at }) => Outcome::Syntax { at },
-        Err(DocumentFault::Name { at, kind }) => Outcome::Name { at, kind },
-        Err(DocumentFault::Memory) => Outcome::Memory,
+        Ok(_) => {}
+        Err(DocumentFault::Lex { at }) => return Err(Outcome::Lex { at }),
+        Err(DocumentFault::Syntax { at }) => return Err(Outcome::Syntax { at }),
+        Err(DocumentFault::Name { at, kind }) => return Err(Outcome::Name { at, kind }),
+        Err(DocumentFault::Memory) => return Err(Outcome::Memory),
+    }
+    match compile_small(alloc, text) {
+        Ok(Some(install)) => Ok(install),
+        Ok(None) => Err(Outcome::NotYet),
+        Err(_) => Err(Outcome::Memory),
     }
 }
 
@@ -37,12 +44,11 @@ pub(crate) fn compile<S: Source, K: Sink>(alloc: Global, source: &mut S, sink: &
         Err(Unread::TooLong) => return Outcome::TooLong,
         Err(Unread::Memory) => return Outcome::Memory,
     };
-    match compile_small(alloc, &text) {
-        Ok(Some(install)) => match sink.write(&install) {
+    match install_of(alloc, &text) {
+        Ok(install) => match sink.write(&install) {
             Ok(()) => Outcome::Done,
             Err(_) => Outcome::WriteFault,
         },
-        Ok(None) => refusal(alloc, &text),
-        Err(_) => Outcome::Memory,
+        Err(outcome) => outcome,
     }
 }

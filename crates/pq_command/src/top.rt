@@ -9,6 +9,7 @@ ghost use Rattle.pq_command.specs.Answers.{
   HasReadFaults,
   HasWriteFaults,
   IsCompileAnswer,
+  IsDocument,
   IsDoneOrMemory,
   IsInspectAnswer,
   IsReplayAnswer,
@@ -44,7 +45,7 @@ pub fn run<S: Source, K: Sink>(
     ensures read_faults { HasReadFaults result (S.faults source.old) (S.faults source.new) }
     ensures write_faults { HasWriteFaults result (K.faults sink.old) (K.faults sink.new) }
     ensures refusal { OnRefusal result (sink.new ≡ sink.old) }
-    ensures completes_compile { (Rose (S.faults source.old) (S.faults source.new) → ⊥) → (Rose (K.faults sink.old) (K.faults sink.new) → ⊥) → command_of (map string_bytes words.now) ≡ Some Command.Compile → IfSome (S.left source.old) (λ bytes. length bytes ≤ document_limit → (s : SmallForm) → IsSmallForm bytes s → IsDoneOrMemory result) }
+    ensures completes_compile { (Rose (S.faults source.old) (S.faults source.new) → ⊥) → (Rose (K.faults sink.old) (K.faults sink.new) → ⊥) → command_of (map string_bytes words.now) ≡ Some Command.Compile → IfSome (S.left source.old) (λ bytes. length bytes ≤ document_limit → IsDocument bytes → (s : SmallForm) → IsSmallForm bytes s → IsDoneOrMemory result) }
     ensures completes_replay { (Rose (S.faults source.old) (S.faults source.new) → ⊥) → (Rose (K.faults sink.old) (K.faults sink.new) → ⊥) → command_of (map string_bytes words.now) ≡ Some Command.Replay → IfSome (S.left source.old) (λ bytes. length bytes ≤ install_limit → IsReplayable bytes → IsDoneOrMemory result) }
     ensures completes_inspect { (Rose (S.faults source.old) (S.faults source.new) → ⊥) → (Rose (K.faults sink.old) (K.faults sink.new) → ⊥) → command_of (map string_bytes words.now) ≡ Some Command.Inspect → IfSome (S.left source.old) (λ bytes. length bytes ≤ install_limit → IsWholeInstall bytes → IsDoneOrMemory result) }
 {

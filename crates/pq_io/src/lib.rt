@@ -4,6 +4,8 @@
 //! count of faults. `MemorySource` and `MemorySink` tell contracts their bytes, and fail at the
 //! calls that their maker chose. `StreamSource` and `StreamSink` stand over a reader and a writer of
 //! std.
+//!
+//! `Steps` counts steps of work, for contracts alone.
 #![tactic(auto)]
 
 mod faults;
@@ -11,6 +13,7 @@ mod memory_sink;
 mod memory_source;
 mod sink;
 mod source;
+mod steps;
 mod stream_sink;
 mod stream_source;
 #[cfg(test)]
@@ -21,5 +24,6 @@ pub use memory_sink::MemorySink;
 pub use memory_source::MemorySource;
 pub use sink::Sink;
 pub use source::Source;
+pub use steps::Steps;
 pub use stream_sink::StreamSink;
 pub use stream_source::StreamSource;
