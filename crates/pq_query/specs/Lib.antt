@@ -3,3 +3,5 @@ pub mod Query
 pub mod Resolved
 pub mod Labels
 pub mod Language
+pub mod Instances
+pub mod Counts

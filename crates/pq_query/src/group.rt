@@ -13,9 +13,11 @@ pub struct Group {
 }
 
 impl Model for Group {
-    ghost use Rattle.pq_query.specs.Groups.{Group as GroupValue, stored_group};
+    ghost use Rattle.pq_query.specs.Groups.{DiffersEach, Group as GroupValue, stored_group};
 
     ghost Value = { GroupValue };
 
     ghost view = { stored_group };
+
+    ghost invariant = { λ g. DiffersEach (stored_group g) };
 }

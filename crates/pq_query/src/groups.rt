@@ -1,5 +1,6 @@
 //! The groups of brackets, by their fields and values.
-ghost use Rattle.std.specs.Prelude.{◌≡◌, [], ◌∷◌, ◌++◌, IfOk};
+ghost use Rattle.std.specs.Prelude.{◌≡◌, [], ◌∷◌, ◌++◌, IfOk, nat_eq};
+ghost use Rattle.std.specs.List.{IsDistinct};
 ghost use Rattle.pq_tree.specs.Trees.{tree, trees};
 ghost use Rattle.pq_topo.specs.Naming.{IsAnswer};
 ghost use Rattle.pq_fields.specs.Packet.{is_wide};
@@ -73,7 +74,8 @@ fn values_in(
     field: Field,
     terms: &[Term<'_>],
 ) -> Result<Vec<u64>, NameFault>
-    ensures { IsAnswer (λ values. values.items) result (values_after topology.now bytes.now field [] (trees terms.now)) }
+    ensures values { IsAnswer (λ values. values.items) result (values_after topology.now bytes.now field [] (trees terms.now)) }
+    ensures differ { IfOk result (λ values. IsDistinct nat_eq values.items) }
 {
     let values = read_values(alloc, bytes, topology, field, terms)?;
     match Vec::from_slice(alloc, values.as_slice()) {

@@ -2,14 +2,20 @@
 #![tactic(auto)]
 
 mod atoms;
+mod counts;
 mod group;
 mod groups;
 mod instance;
+mod listing;
 mod query;
 mod resolve;
+mod sizes;
+mod values;
 
+pub use counts::label_count;
 pub use group::Group;
 pub use instance::Instance;
+pub use listing::{InstancesFault, instances};
 pub use query::Query;
 pub use resolve::resolve_query;
 

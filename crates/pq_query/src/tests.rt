@@ -1,8 +1,9 @@
 //! Queries and faults of texts, worked out by hand from the naming rules.
 use crate::*;
 use bumpalo::Bump;
+use pq_term::Name;
 use pq_topo::{NameFault, NameKind, Topology};
-use pq_tree::{Term, read_terms};
+use pq_tree::{Term, read_terms, text_in};
 use std::alloc::{AllocError, Global};
 use std::test::Fail;
 
@@ -263,6 +264,101 @@ fn the_first_faulty_token_decides(rt: HostRuntime) -> Result<(), Fail> {
         ),
     ] {
         assert!(rt; has_marked_fault(rt.alloc(), marked, kind)?, "{marked}");
+    }
+    Ok(())
+}
+
+/// The statements of switches `s3` and `s7`, with ports 1 and 2 and ports 2 and 5.
+const NETWORK: &str = "switch s3 = 3 ports 1, 2; switch s7 = 7 ports 2, 5; ";
+
+/// The query of a statement, with its name.
+fn named_query(
+    alloc: Global,
+    statement: &Term<'_>,
+    text: &[u8],
+    topology: &Topology,
+) -> Option<(Name, Query)> {
+    let [name, path, ..] = statement.children else {
+        return None;
+    };
+    let Some(name) = Name::of(text_in(text, &name.head)) else {
+        return None;
+    };
+    match resolve_query(alloc, path, text, topology) {
+        Ok(query) => Some((name, query)),
+        Err(_) => None,
+    }
+}
+
+/// The topology of the two switches and the queries behind them; `None` where the text gives none.
+fn read_network(alloc: Global, text: &[u8]) -> Option<(Topology, Vec<(Name, Query)>)> {
+    let bump = Bump::new(alloc);
+    let Ok(statements) = read_terms(alloc, &bump, text) else {
+        return None;
+    };
+    let Ok(topology) = Topology::resolve(alloc, statements, text) else {
+        return None;
+    };
+    let mut queries = Vec::new(alloc);
+    for statement in statements.iter().skip(2) {
+        let Some(query) = named_query(alloc, statement, text, &topology) else {
+            return None;
+        };
+        match queries.push(query) {
+            Ok(()) => {}
+            Err(_) => return None,
+        }
+    }
+    Some((topology, queries))
+}
+
+/// The counts of the labels of the text's queries, and its instances, as they are shown.
+fn shown_instances(alloc: Global, text: &str) -> Result<String, AllocError> {
+    let document = format!(in alloc; "{NETWORK}{text}")?;
+    let Some((topology, queries)) = read_network(alloc, document.as_str().as_bytes()) else {
+        return format!(in alloc; "no document");
+    };
+    if 256 < queries.len() {
+        return format!(in alloc; "many queries");
+    }
+    let mut counts = Vec::new(alloc);
+    for named in &queries {
+        counts.push(label_count(&named.1, &topology))?;
+    }
+    let all = instances(alloc, &queries, &topology);
+    format!(in alloc; "{counts:?} {all:?}")
+}
+
+#[test]
+fn instances_ascend_by_query_and_then_by_label(rt: HostRuntime) -> Result<(), Fail> {
+    for (text, wanted) in [
+        ("", "[] Ok([])"),
+        (
+            "query q = end_atom(true);",
+            "[1] Ok([Instance { query: 0, label: Label { values: [] } }])",
+        ),
+        // A port number that both switches have is one value.
+        (
+            "query q = out_atom(true); query r = in_group(true, [port]);",
+            "[1, 3] Ok([Instance { query: 0, label: Label { values: [] } }, Instance { query: 1, label: Label { values: [1] } }, Instance { query: 1, label: Label { values: [2] } }, Instance { query: 1, label: Label { values: [5] } }])",
+        ),
+        // Stated values ascend, and the first value decides first.
+        (
+            "query q = in_out_group(true, [switch], true, [ip_proto of (17, 6)]);",
+            "[4] Ok([Instance { query: 0, label: Label { values: [3, 6] } }, Instance { query: 0, label: Label { values: [3, 17] } }, Instance { query: 0, label: Label { values: [7, 6] } }, Instance { query: 0, label: Label { values: [7, 17] } }])",
+        ),
+        // The sum of the counts decides.
+        (
+            "query q = in_group(true, [tcp_src of (1, 2, 3, 4, 5, 6, 7, 8), tcp_dst of (1, 2, 3, 4, 5, 6, 7, 8), udp_src of (1, 2, 3, 4, 5, 6, 7, 8), switch]); query r = end_atom(true);",
+            "[1024, 1] Err(InstancesFull { count: 1025 })",
+        ),
+        // A count of 8 ^ 12 is beyond 32 bits.
+        (
+            "query q = in_out_group(true, [tcp_src of (1, 2, 3, 4, 5, 6, 7, 8), tcp_dst of (1, 2, 3, 4, 5, 6, 7, 8), udp_src of (1, 2, 3, 4, 5, 6, 7, 8), udp_dst of (1, 2, 3, 4, 5, 6, 7, 8), ip_proto of (1, 2, 3, 4, 5, 6, 7, 8), eth_type of (1, 2, 3, 4, 5, 6, 7, 8)], true, [tcp_src of (1, 2, 3, 4, 5, 6, 7, 8), tcp_dst of (1, 2, 3, 4, 5, 6, 7, 8), udp_src of (1, 2, 3, 4, 5, 6, 7, 8), udp_dst of (1, 2, 3, 4, 5, 6, 7, 8), ip_proto of (1, 2, 3, 4, 5, 6, 7, 8), eth_type of (1, 2, 3, 4, 5, 6, 7, 8)]);",
+            "[4294967295] Err(InstancesFull { count: 4294967295 })",
+        ),
+    ] {
+        assert_eq!(rt; shown_instances(rt.alloc(), text)?.as_str(), wanted);
     }
     Ok(())
 }
