@@ -1,0 +1,16 @@
+pub mod Below
+pub mod Rows
+pub mod Order
+pub mod Places
+pub mod Searching
+pub mod Searched
+pub mod Keys
+pub mod Products
+pub mod Assembled
+pub mod Letters
+pub mod Found
+pub mod Alike
+pub mod Tellings
+pub mod Counted
+pub mod FewRests
+pub mod FewStates

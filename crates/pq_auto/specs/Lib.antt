@@ -1,0 +1,9 @@
+pub mod Machine
+pub mod Numbering
+pub mod Exploration
+pub mod Stored
+pub mod Search
+pub mod Tables
+pub mod Searched
+pub mod Rests
+pub mod Telling

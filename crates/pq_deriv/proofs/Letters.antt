@@ -1,0 +1,88 @@
+-- Rests and sets of rests after a half step, one more at a time.
+use Rattle.std.proofs.Common.{◌≡◌, ℕ, Bool, true, false, ◌&&◌, ◌||◌, ◌==◌, ◌<◌, List, [], ◌∷◌, ◌++◌, ◌-◌, rules, take, drop, length, refl, sym, ◌∙◌, arith}
+use Rattle.std.proofs.Math.Bool.{or-true, or_comm}
+use Rattle.std.proofs.Math.Seq.{take-length, take-append_seam, drop-append_seam}
+use Rattle.pq_expr.specs.Word.{HalfStep, Word}
+use Rattle.pq_expr.specs.declared.expr.Expr.{Expr}
+use Rattle.pq_expr.specs.Expr.{InTurn, Either, Both, ExprTree, Exprs, expr_tree, expr_trees}
+use Rattle.pq_expr.specs.Language.{Language, joined, in_turn, repeated, holds, languages}
+use Rattle.pq_expr.proofs.Cuts.{repeated_cons}
+use Rattle.pq_deriv.specs.Parts.{parts, members, set_of, first_part, behind_part}
+use Rattle.pq_deriv.specs.Left.{Left, left, lefts, set_left, turn_left, top_left, repeated_left}
+use Rattle.pq_deriv.specs.Stepped.{some_ends, stepped_left, IsSetStepped, AreStepped, AreSetsStepped}
+use Rattle.pq_deriv.proofs.Reading.{parts_front, members_read}
+use Rattle.pq_deriv.proofs.Turns.{or_false, and_false, and_true, one_language, set_cons, set_ends, turn_front, turn_stepped}
+
+-- a member more
+pub member_more : (left : Left) (l : HalfStep) (part rest : List ℕ) (old new later : List (List ℕ)) → ((v : Word) → left rest v ≡ left part (l ∷ v)) →
+    ((P : Language) (w : Word) → set_left left P new w ≡ (joined (left rest) P w || set_left left P old w)) →
+    (P : Language) (w : Word) → (set_left left P new w || stepped_left l left P later w) ≡ (set_left left P old w || stepped_left l left P (part ∷ later) w)
+member_more left l part rest old new later steps puts P w =
+    let same : left rest ≡ (λ v. left part (l ∷ v)) = one_language steps in
+    rw (puts P w, same) (moved (joined (λ v. left part (l ∷ v)) P w) (set_left left P old w) (stepped_left l left P later w)) where
+      moved : (j s u : Bool) → ((j || s) || u) ≡ (s || (j || u))
+      moved true true u = refl
+      moved true false u = refl
+      moved false s u = refl
+
+-- a set to which nothing is added
+pub set_kept : (l : HalfStep) (e : ExprTree) (old stepped : List (List ℕ)) (r : List ℕ) → ((P : Language) (w : Word) → set_left (left e) P stepped w ≡ stepped_left l (left e) P old w) → r ≡ set_of stepped →
+    IsSetStepped l e false old (members r)
+set_kept l e old stepped r steps spelled P w = rw (spelled, members_read stepped, steps P w) (sym (or_false (stepped_left l (left e) P old w)))
+
+-- a set to which the begun rest is added
+pub set_begun : (l : HalfStep) (e : ExprTree) (old stepped new : List (List ℕ)) (start begun r : List ℕ) → ((P : Language) (w : Word) → set_left (left e) P stepped w ≡ stepped_left l (left e) P old w) →
+    ((v : Word) → left e start v ≡ holds e v) → ((v : Word) → left e begun v ≡ left e start (l ∷ v)) →
+    ((P : Language) (w : Word) → set_left (left e) P new w ≡ (joined (left e begun) P w || set_left (left e) P stepped w)) → r ≡ set_of new → IsSetStepped l e true old (members r)
+set_begun l e old stepped new start begun r steps starts begins puts spelled P w =
+    let same : left e begun ≡ (λ v. holds e (l ∷ v)) = one_language (λ v. begins v ∙ starts (l ∷ v)) in
+    rw (spelled, members_read new, puts P w, same, steps P w) (or_comm (joined (λ v. holds e (l ∷ v)) P w) (stepped_left l (left e) P old w))
+
+-- an operand in turn more
+pub turn_more : (l : HalfStep) (e : Expr) (es : List Expr) (begins : Bool) (old set more : List ℕ) → IsSetStepped l (expr_tree e) begins (members (first_part old)) (members set) →
+    AreSetsStepped l (expr_trees es) ((begins && holds (expr_tree e) []) || some_ends (left (expr_tree e)) (members (first_part old))) (behind_part old) more →
+    AreSetsStepped l (expr_trees (e ∷ es)) begins old ((length set ∷ set) ++ more)
+turn_more l e es begins old set more steps rest w =
+    let Ps = languages (expr_trees es) in
+    let ls = lefts (expr_trees es) in
+    rw (take-append_seam set more, drop-append_seam set more, steps (in_turn Ps) w, rest w, turn_front (holds (expr_tree e)) Ps (left (expr_tree e)) ls (length Ps) old (l ∷ w))
+    (turn_stepped begins (holds (expr_tree e)) Ps (left (expr_tree e)) (members (first_part old)) l w (turn_left Ps ls (parts (length Ps) (behind_part old)) (l ∷ w)))
+
+-- no operand is left
+pub turn_over : (l : HalfStep) (begins : Bool) (old new : List ℕ) → AreSetsStepped l (expr_trees []) begins old new
+turn_over l begins old new w = rw (and_false begins) refl
+
+pub turn_whole : (l : HalfStep) (es : List Expr) (old new : List ℕ) → (length es == 0) ≡ false → AreSetsStepped l (expr_trees es) false old new → (w : Word) →
+    top_left InTurn (languages (expr_trees es)) (lefts (expr_trees es)) new w ≡ top_left InTurn (languages (expr_trees es)) (lefts (expr_trees es)) old (l ∷ w)
+turn_whole l [] old new some steps w = absurd (search (some, rules))
+turn_whole l (e ∷ es) old new some steps w = steps w
+
+-- a rest more
+pub rest_more : (l : HalfStep) (e : Expr) (es : List Expr) (old r more : List ℕ) → ((w : Word) → left (expr_tree e) r w ≡ left (expr_tree e) (first_part old) (l ∷ w)) →
+    AreStepped l (expr_trees es) (behind_part old) more → AreStepped l (expr_trees (e ∷ es)) old ((length r ∷ r) ++ more)
+rest_more l e es old r more steps rest w =
+    rw (take-append_seam r more, drop-append_seam r more, parts_front (length (lefts (expr_trees es))) old, steps w, rest w) refl
+
+pub either_steps : (l : HalfStep) (es : Exprs) (old new : List ℕ) → AreStepped l es old new → (w : Word) → top_left Either (languages es) (lefts es) new w ≡ top_left Either (languages es) (lefts es) old (l ∷ w)
+either_steps l es old new steps w = rw (steps w) refl
+
+pub both_step : (l : HalfStep) (es : Exprs) (old new : List ℕ) → AreStepped l es old new → (w : Word) → top_left Both (languages es) (lefts es) new w ≡ top_left Both (languages es) (lefts es) old (l ∷ w)
+both_step l es old new steps w = rw (steps w) refl
+
+-- a repetition
+starred : (f a j s : Bool) → (s || (((f && true) || (a && true)) && j)) ≡ ((f && j) || ((a && j) || s))
+starred f a true true = simp or-true refl
+starred f a true false = simp (and_true, or_false) refl
+starred f a false true = simp or-true refl
+starred f a false false = simp and_false refl
+
+pub repetition_steps : (l : HalfStep) (e : ExprTree) (old new : List ℕ) → 0 < length old →
+    IsSetStepped l e (repeated_left (holds e) (left e) old []) (members (take (length old - 1) (drop 1 old))) (members new) →
+    (w : Word) → repeated_left (holds e) (left e) (0 ∷ new) w ≡ repeated_left (holds e) (left e) old (l ∷ w)
+repetition_steps l e [] new some steps w = absurd (omega (arith, some))
+repetition_steps l e (fresh ∷ set) new some steps w =
+    let all = repeated (holds e) in
+    let count : length (fresh ∷ set) - 1 ≡ length set = omega arith in
+    let stepped = rw (count, take-length set) at steps in
+    stepped all w ∙ rw (set_ends (left e) all (members set), set_cons (left e) all l w (members set), repeated_cons (holds e) l w)
+    (starred (fresh == 1) (some_ends (left e) (members set)) (joined (λ v. holds e (l ∷ v)) all w) (stepped_left l (left e) all (members set) w))

@@ -1,0 +1,10 @@
+pub mod Reading
+pub mod Turns
+pub mod Members
+pub mod Beginnings
+pub mod Letters
+pub mod Choices
+pub mod Ascending
+pub mod Rests
+pub mod Inserted
+pub mod Shaped

@@ -1,0 +1,79 @@
+-- Numbers that are rests: in parts, and with sets.
+use Rattle.std.proofs.Common.{◌≡◌, ◌==◌, true, false, rules, ℕ, suc, ◌<◌, ◌-◌, inl, inr, List, [], ◌∷◌, ◌++◌, length, map, replicate, take, drop, get_or, arith, refl, ap, subst}
+use Rattle.std.proofs.Math.Seq.{take-length}
+use Rattle.std.proofs.lemmas.List.{append-nil}
+use Rattle.std.specs.List.Sorted.{IsStrictlySortedBy}
+use Rattle.pq_expr.specs.declared.expr.Expr.{Expr}
+use Rattle.pq_expr.specs.Expr.{InTurn, Repeated, expr_tree, expr_trees}
+use Rattle.pq_deriv.specs.Parts.{spelled}
+use Rattle.pq_deriv.specs.Choices.{IsOneOf, choices}
+use Rattle.pq_deriv.specs.Rests.{AreMembers, sets, first_rests, in_parts, top_rests, rests, all_rests, IsRest}
+use Rattle.pq_deriv.proofs.Choices.{one_changed, one_before, one_behind, one_chosen}
+use Rattle.pq_deriv.proofs.Rests.{one_set}
+
+-- one of the changed elements comes from an element
+from_changed : {A B : Type 0} (f : A → B) (xs : List A) (y : B) → IsOneOf (map f xs) y → (x : A) × IsOneOf xs x × (f x ≡ y)
+from_changed f [] y one = absurd one
+from_changed f (x ∷ xs) y (inl is) = (x, inl refl, is)
+from_changed f (x ∷ xs) y (inr one) = let later = from_changed f xs y one in (later.0, inr later.1, later.2)
+
+-- no part, and a part more
+pub no_part : IsOneOf (in_parts []) []
+no_part = inl refl
+
+pub part_more : (U : List (List ℕ)) (Us : List (List (List ℕ))) (r more : List ℕ) → IsOneOf U r → IsOneOf (in_parts Us) more → IsOneOf (in_parts (U ∷ Us)) ((length r ∷ r) ++ more)
+part_more U Us r more one others =
+    let c = from_changed spelled (choices Us) more others in
+    subst (λ (z : List ℕ). IsOneOf (in_parts (U ∷ Us)) ((length r ∷ r) ++ z)) c.2 (one_changed spelled (choices (U ∷ Us)) (r ∷ c.0) (one_chosen U (choices Us) r c.0 one c.1))
+
+-- sets without members, and with one
+pub no_members : (U : List (List ℕ)) → AreMembers U []
+unfolding IsStrictlySortedBy
+no_members U = (tt, tt)
+
+one_member : (U : List (List ℕ)) (r : List ℕ) → IsOneOf U r → AreMembers U (r ∷ [])
+unfolding IsStrictlySortedBy
+one_member U r one = ((tt, tt), (one, tt))
+
+none_have : (Us : List (List (List ℕ))) → IsOneOf (in_parts (map sets Us)) (replicate (length Us) 0)
+none_have [] = no_part
+none_have (U ∷ Us) = part_more (sets U) (map sets Us) [] (replicate (length Us) 0) (one_set U [] (no_members U)) (none_have Us)
+
+-- operands of which the first is begun
+count_operands : (es : List Expr) → length (rests (expr_trees es)) ≡ length es
+count_operands [] = refl
+count_operands (e ∷ es) = ap suc (count_operands es)
+
+pub turn_shaped : (es : List Expr) (e : Expr) (r : List ℕ) → 0 < length es → e ≡ get_or es 0 e → IsRest (expr_tree e) r →
+    IsOneOf (top_rests InTurn (rests (expr_trees es))) ((length (1 ∷ length r ∷ r) ∷ 1 ∷ length r ∷ r) ++ replicate (length (take (length es - 1) (drop 1 es))) 0)
+turn_shaped [] e r some is one = absurd (omega (arith, some))
+turn_shaped (x ∷ es) e r some is one =
+    let count : length (x ∷ es) - 1 ≡ length es = omega arith in
+    let first : IsRest (expr_tree x) r = subst (λ (y : Expr). IsRest (expr_tree y) r) is one in
+    let set : IsOneOf (sets (all_rests (expr_tree x))) (1 ∷ length r ∷ r) =
+    subst (λ (z : List ℕ). IsOneOf (sets (all_rests (expr_tree x))) (1 ∷ length r ∷ z)) (append-nil r) (one_set (all_rests (expr_tree x)) (r ∷ []) (one_member (all_rests (expr_tree x)) r first)) in
+    rw (count, take-length es)
+    (part_more (sets (all_rests (expr_tree x))) (map sets (rests (expr_trees es))) (1 ∷ length r ∷ r) (replicate (length es) 0) set
+    (subst (λ (n : ℕ). IsOneOf (in_parts (map sets (rests (expr_trees es)))) (replicate n 0)) (count_operands es) (none_have (rests (expr_trees es)))))
+
+-- operands in turn: none, or some
+pub turn_none : (es : List Expr) → (length es == 0) ≡ true → IsOneOf (top_rests InTurn (rests (expr_trees es))) (0 ∷ [])
+turn_none [] none = inl refl
+turn_none (e ∷ es) none = absurd (search (none, rules))
+
+pub turn_some : (es : List Expr) → (length es == 0) ≡ false → top_rests InTurn (rests (expr_trees es)) ≡ in_parts (map sets (rests (expr_trees es)))
+turn_some [] some = absurd (search (some, rules))
+turn_some (e ∷ es) some = refl
+
+-- the rests of a repetition
+pub repeated_begun : (Us : List (List (List ℕ))) (r : List ℕ) → IsOneOf (sets (first_rests Us)) r → IsOneOf (top_rests Repeated Us) (0 ∷ r)
+repeated_begun Us r one =
+    one_before (map (λ (set : List ℕ). 0 ∷ set) (sets (first_rests Us))) (map (λ (set : List ℕ). 1 ∷ set) (sets (first_rests Us))) (0 ∷ r) (one_changed (λ (set : List ℕ). 0 ∷ set) (sets (first_rests Us)) r one)
+
+pub repeated_fresh : (Us : List (List (List ℕ))) → IsOneOf (top_rests Repeated Us) (1 ∷ [])
+repeated_fresh Us =
+    one_behind (map (λ (set : List ℕ). 0 ∷ set) (sets (first_rests Us))) (map (λ (set : List ℕ). 1 ∷ set) (sets (first_rests Us))) (1 ∷ [])
+    (one_changed (λ (set : List ℕ). 1 ∷ set) (sets (first_rests Us)) [] (one_set (first_rests Us) [] (no_members (first_rests Us))))
+
+pub repeated_over : (Us : List (List (List ℕ))) → IsOneOf (top_rests Repeated Us) (0 ∷ [])
+repeated_over Us = repeated_begun Us [] (one_set (first_rests Us) [] (no_members (first_rests Us)))

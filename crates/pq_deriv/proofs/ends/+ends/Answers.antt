@@ -1,0 +1,37 @@
+use Rattle.std.proofs.Common.{◌+◌, [], length, drop, ◌∙◌, arith}
+use Rattle.pq_expr.specs.Expr.{expr_tree, expr_trees}
+use Rattle.pq_expr.proofs.Trees.{tree_Cat, tree_Or, tree_And}
+use Rattle.pq_expr.specs.Language.{holds, languages}
+use Rattle.pq_deriv.specs.Parts.{parts, members, first_part, behind_part}
+use Rattle.pq_deriv.specs.Left.{left, lefts, turn_left}
+use Rattle.pq_deriv.proofs.Reading.{item_first, parts_more}
+use Rattle.pq_deriv.proofs.Turns.{turn_front, turn_passed}
+use Rattle.pq_deriv.proofs.ends.+ends.Goals as goal
+
+pub ends-returns-in-Cat : goal.ends-returns-in-Cat
+ends-returns-in-Cat t c = rw (c.in-Cat.is, tree_Cat c.in-Cat.exprs) (rw c.deref.ensures.value at c.turn_ends.ensures)
+
+pub ends-returns-in-Or : goal.ends-returns-in-Or
+ends-returns-in-Or t c = rw (c.in-Or.is, tree_Or c.in-Or.exprs) (rw c.deref-in-Or.ensures.value at c.one_ends.ensures)
+
+pub ends-returns-in-And : goal.ends-returns-in-And
+ends-returns-in-And t c = rw (c.in-And.is, tree_And c.in-And.exprs) (rw c.deref-in-And.ensures.value at c.all_end.ensures)
+
+pub member_ends-loop-more-preserved : goal.member_ends-loop-more-preserved
+member_ends-loop-more-preserved t c =
+    let before = rw (parts_more c.loop-more.more c.loop-more.left.now (omega arith)) at c.loop-more.invariant in
+    let ends = rw (c.split_part.ensures.part, c.if-ends.false) at c.ends.ensures in
+    rw c.split_part.ensures.behind (rw (← ends) at before)
+
+pub turn_ends-loop-expr-preserved : goal.turn_ends-loop-expr-preserved
+turn_ends-loop-expr-preserved t c =
+    let es = c.args.exprs.now in
+    let i = c.loop-expr.expr-index in
+    let e = c.expr-item.result in
+    let later = expr_trees (drop (i + 1) es) in
+    let r = c.loop-expr.left.now in
+    let first = item_first es i e c.loop-expr-test.true c.expr-item.is in
+    let before = rw (first, turn_front (holds (expr_tree e)) (languages later) (left (expr_tree e)) (lefts later) (length (languages later)) r []) at c.loop-expr.invariant in
+    let passes = rw c.split_part.ensures.part at c.passes-begins.ensures in
+    rw (passes, c.split_part.ensures.behind)
+    (turn_passed c.loop-expr.begins (holds (expr_tree e)) (languages later) (left (expr_tree e)) (members (first_part r)) (turn_left (languages later) (lefts later) (parts (length (languages later)) (behind_part r)) []) ∙ before)

@@ -1,0 +1,3 @@
+pub mod Cuts
+pub mod Trees
+pub mod Pieces

@@ -1,0 +1,3 @@
+pub mod Word
+pub mod Expr
+pub mod Language

@@ -1,0 +1,14 @@
+//! Regular expressions over the half steps of packets.
+#![tactic(auto)]
+
+mod expr;
+mod laws;
+mod numbers;
+mod side;
+#[cfg(test)]
+mod tests;
+mod twins;
+
+pub use expr::Expr;
+pub use laws::repetition_is_any_number_of_pieces;
+pub use side::Side;

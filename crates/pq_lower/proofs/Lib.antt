@@ -1,0 +1,15 @@
+pub mod Seams
+pub mod Seen
+pub mod Joining
+pub mod Linking
+pub mod Repeating
+pub mod Numbers
+pub mod Fulfilling
+pub mod Windows
+pub mod Standing
+pub mod Meaning
+pub mod Places
+pub mod Growth
+pub mod Bounds
+pub mod Going
+pub mod Whole

@@ -1,0 +1,3 @@
+pub mod HalfSteps
+pub mod Pieces
+pub mod Lowered

@@ -1,0 +1,46 @@
+//! Queries as expressions.
+ghost use Rattle.std.specs.Prelude.{◌≡◌, ◌≤◌, ◌<◌, ◌+◌, ◌*◌, ◌^◌, ◌↔◌, true, ◌++◌, List, IfOk, OnOk, OnErr, map, length};
+ghost use Rattle.pq_fields.specs.declared.pred.Pred.{Pred as PredValue};
+ghost use Rattle.pq_fields.specs.Pred.{pred_tree};
+ghost use Rattle.pq_model.specs.Word.{Word, is_word};
+ghost use Rattle.pq_expr.specs.Expr.{IsLawful, bound, expr_tree};
+ghost use Rattle.pq_expr.specs.Language.{holds};
+ghost use Rattle.pq_query.specs.Language.{lang};
+ghost use Rattle.pq_query.specs.Query.{query_tree};
+ghost use Rattle.pq_lower.specs.HalfSteps.{half_steps};
+ghost use Rattle.pq_lower.specs.Lowered.{query_atoms};
+
+use crate::lowering::lower_query;
+use crate::predicates::every_packet;
+use pq_expr::Expr;
+use pq_fields::{Label, Pred};
+use pq_query::Query;
+use std::alloc::{AllocError, Global};
+
+/// The half-step expression of a query under a label, over a list of predicates that grows by those that the query needs.
+///
+/// The label has a value for each grouped field of the query, in text order; a test without a value holds of no packet. The
+/// list gains one predicate that holds of every packet, and at most two for each atom. It fails only where there is no memory,
+/// and then leaves the list as it was.
+pub fn lower(
+    alloc: Global,
+    query: &Query,
+    label: &Label,
+    preds: &mut Vec<Pred>,
+) -> Result<Expr, AllocError>
+    requires preds { length preds.old.items < 2 ^ 31 }
+    requires atoms { query_atoms (query_tree query.now) < 2 ^ 29 }
+    ensures language { IfOk result (λ e. (w : Word) → is_word w ≡ true → (lang (query_tree query.now) label.now w ↔ (holds (expr_tree e) (half_steps (map pred_tree preds.new.items) w) ≡ true))) }
+    ensures grown { OnOk result ((more : List PredValue) × (preds.new.items ≡ preds.old.items ++ more) × (length more ≤ 1 + 2 * query_atoms (query_tree query.now))) }
+    ensures bound { IfOk result (λ e. bound (expr_tree e) ≤ length preds.new.items) }
+    ensures lawful { IfOk result (λ e. IsLawful (expr_tree e)) }
+    ensures err { OnErr result (preds.new.items ≡ preds.old.items) }
+{
+    let base = preds.len() as u32;
+    let mut added = Vec::new(alloc);
+    added.push(every_packet())?;
+    let mut place = 0;
+    let piece = lower_query(alloc, base, query, label.values(), &mut place, &mut added)?;
+    preds.append(&mut added)?;
+    Ok(piece.expr)
+}

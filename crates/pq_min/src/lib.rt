@@ -1,0 +1,13 @@
+//! The least automaton: its classes of words, numbered by least word.
+#![tactic(auto)]
+
+mod classes;
+mod minimisation;
+mod partition;
+mod quotient;
+mod refinement;
+#[cfg(test)]
+mod tests;
+
+pub use classes::Classes;
+pub use minimisation::minimise;
