@@ -5,8 +5,6 @@ mod expr;
 mod laws;
 mod numbers;
 mod side;
-#[cfg(test)]
-mod tests;
 mod twins;
 
 pub use expr::Expr;
