@@ -3,3 +3,4 @@ pub mod Order
 pub mod Packet
 pub mod Pred
 pub mod Stored
+pub mod Writes

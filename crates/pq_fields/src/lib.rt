@@ -10,6 +10,7 @@ mod pred;
 mod presence;
 mod truth;
 mod widths;
+mod writes;
 
 pub use field::Field;
 pub use label::Label;
@@ -20,6 +21,7 @@ pub use pred::Pred;
 pub use presence::has;
 pub use truth::holds;
 pub use widths::width;
+pub use writes::{Writes, writes_are_ordered_by_numbers};
 
 #[cfg(test)]
 mod tests;

@@ -185,3 +185,55 @@ fn fields_have_names(rt: HostRuntime) {
     }
     assert_eq!(rt; field_name(Field::UdpSrc), b"udp_src".as_slice());
 }
+
+#[test]
+fn writes_reach_the_fields_that_a_packet_has(rt: HostRuntime) {
+    let writes = Writes::none()
+        .set(Field::Port, 2)
+        .set(Field::EthDst, 0xa1)
+        .set(Field::Ipv4Src, 0x0a000001)
+        .set(Field::UdpDst, 53)
+        .set(Field::UdpDst, 67);
+    let tcp = packet_of(0x0800, 6);
+    assert_eq!(rt;
+        writes.on(&tcp),
+        tcp.with(Field::Port, 2)
+            .with(Field::EthDst, 0xa1)
+            .with(Field::Ipv4Src, 0x0a000001),
+    );
+    let udp_over_ipv6 = packet_of(0x86dd, 17);
+    assert_eq!(rt;
+        writes.on(&udp_over_ipv6),
+        udp_over_ipv6
+            .with(Field::Port, 2)
+            .with(Field::EthDst, 0xa1)
+            .with(Field::UdpDst, 67),
+    );
+    let arp = packet_of(0x0806, 17);
+    assert_eq!(rt;
+        writes.on(&arp),
+        arp.with(Field::Port, 2).with(Field::EthDst, 0xa1)
+    );
+    assert_eq!(rt; Writes::none().on(&tcp), tcp);
+    assert_eq!(rt; writes.get(Field::UdpDst), Some(67));
+    assert_eq!(rt; writes.get(Field::TcpDst), None);
+    assert_eq!(rt; writes.get(Field::EthType), None);
+}
+
+#[test]
+fn no_number_stands_below_every_number(rt: HostRuntime) {
+    let none = Writes::none();
+    for (lesser, greater) in [
+        (none, none.set(Field::Port, 0)),
+        (none.set(Field::Port, 0), none.set(Field::Port, 1)),
+        (none.set(Field::EthSrc, 9), none.set(Field::Port, 0)),
+        (none.set(Field::UdpDst, 9), none.set(Field::UdpSrc, 0)),
+        (
+            none.set(Field::TcpSrc, 1),
+            none.set(Field::TcpSrc, 1).set(Field::UdpDst, 0),
+        ),
+    ] {
+        assert!(rt; lesser < greater);
+        assert!(rt; lesser != greater);
+    }
+}
