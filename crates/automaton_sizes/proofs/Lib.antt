@@ -1,3 +1,4 @@
 pub mod Atoms
 pub mod Distinct
 pub mod Nowhere
+pub mod Operands

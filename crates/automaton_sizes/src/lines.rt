@@ -16,7 +16,7 @@ const SHOWN: u64 = 4;
 /// The line of a query: its name, how many states and classes its automaton has, and its report. A row of the report is
 /// the tag of a class, which is the class's number and 1, with the instances that hold the words of the class; a class
 /// without instances has no row. Of a long report only the first rows are shown, and how many more there are.
-pub fn line(
+pub(crate) fn line(
     alloc: Global,
     name: &str,
     query: Query,

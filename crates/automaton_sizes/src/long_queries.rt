@@ -1,11 +1,25 @@
 //! Queries of many atoms or instances, built by hand.
+ghost use Rattle.std.specs.Prelude.{◌≡◌, IfOk, [], ◌∷◌, ◌++◌};
+ghost use Rattle.pq_query.specs.Query.{query_tree};
+ghost use Rattle.automaton_sizes.specs.Queries.{
+  any_packets,
+  at_many_ports,
+  in_turn,
+  one_of,
+  varied_atoms,
+  varied_chains,
+  varied_port,
+};
+
 use crate::queries::{at_port, group, in_atom};
 use pq_fields::{Field, Pred};
 use pq_query::Query;
 use std::alloc::{AllocError, Global};
 
 /// So many times `in_atom(true)` and then the last query, joined by `^`.
-pub fn chain(alloc: Global, count: u32, last: Query) -> Result<Query, AllocError> {
+pub fn chain(alloc: Global, count: u32, last: Query) -> Result<Query, AllocError>
+    ensures { IfOk result (λ q. query_tree q ≡ in_turn (any_packets count ++ query_tree last ∷ [])) }
+{
     let mut operands = Vec::new(alloc);
     for _ in 0..count {
         operands.push(in_atom(alloc, Pred::True))?;
@@ -15,7 +29,9 @@ pub fn chain(alloc: Global, count: u32, last: Query) -> Result<Query, AllocError
 }
 
 /// `in_group(true, [port of (1, .., 32)])`.
-pub fn grouped_atom(alloc: Global) -> Result<Query, AllocError> {
+pub fn grouped_atom(alloc: Global) -> Result<Query, AllocError>
+    ensures { IfOk result (λ q. query_tree q ≡ at_many_ports) }
+{
     let values = vec![in alloc;
         1, 2, 3, 4, 5, 6, 7, 8, 9, 10, 11, 12, 13, 14, 15, 16, 17, 18, 19, 20, 21, 22, 23, 24, 25,
         26, 27, 28, 29, 30, 31, 32,
@@ -26,7 +42,9 @@ pub fn grouped_atom(alloc: Global) -> Result<Query, AllocError> {
 }
 
 /// The union of so many chains of ten atoms.
-pub fn union(alloc: Global, count: u64) -> Result<Query, AllocError> {
+pub fn union(alloc: Global, count: u8) -> Result<Query, AllocError>
+    ensures { IfOk result (λ q. query_tree q ≡ one_of (varied_chains count)) }
+{
     let mut operands = Vec::new(alloc);
     for chain in 0..count {
         operands.push(varied_chain(alloc, chain)?)?;
@@ -35,17 +53,20 @@ pub fn union(alloc: Global, count: u64) -> Result<Query, AllocError> {
 }
 
 /// Ten atoms `in_atom(port=NUMBER)`, joined by `^`, whose numbers are from 1 to 7 and vary with the number of the chain.
-fn varied_chain(alloc: Global, chain: u64) -> Result<Query, AllocError> {
+fn varied_chain(alloc: Global, chain: u8) -> Result<Query, AllocError>
+    ensures { IfOk result (λ q. query_tree q ≡ in_turn (varied_atoms chain 10)) }
+{
     let mut operands = Vec::new(alloc);
-    for place in 0..10u64 {
-        operands.push(in_atom(alloc, at_port(varied(chain, place))))?;
+    for place in 0..10u8 {
+        operands.push(in_atom(alloc, at_port(varied_port(chain, place))))?;
     }
     Ok(Query::Cat(operands))
 }
 
-/// A number from 1 to 7.
-fn varied(chain: u64, place: u64) -> u64 {
-    let square = place.wrapping_mul(place);
-    let step = (chain / 7).wrapping_mul(place);
-    chain.wrapping_add(step).wrapping_add(square) % 7 + 1
+/// A port from 1 to 7 that varies with two numbers.
+fn varied_port(chain: u8, place: u8) -> u64
+    ensures { result ≡ varied_port chain place }
+{
+    let (chain, place) = (u64::from(chain), u64::from(place));
+    (chain + chain / 7 * place + place * place) % 7 + 1
 }

@@ -8,7 +8,7 @@ use pq_query::Query;
 
 /// Whether the query holds the word.
 #[cycle(plain)]
-pub fn holds_word(query: &Query, word: &[Packet]) -> bool
+pub(crate) fn holds_word(query: &Query, word: &[Packet]) -> bool
     requires { length word.now ≤ 4 }
 {
     match query {
