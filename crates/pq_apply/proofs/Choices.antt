@@ -15,7 +15,7 @@ use Rattle.pq_apply.specs.Choosing.{IsChosen, IsChosenAt, IsFirstOfThree}
 use Rattle.pq_apply.specs.Memo.{Remembers, same_triple}
 use Rattle.pq_apply.specs.Split.{HasRootAt, IsAtOrBefore, IsEarlier, LeadsRoot, SplitsAt, root_of}
 use Rattle.pq_apply.specs.Together.{FitAsChoice}
-use Rattle.pq_apply.proofs.Places.{earlier_lawful, together, SidesAt, lawful_at, no_small, same_tree, sides_at, size_at, yes_small}
+use Rattle.pq_apply.proofs.Places.{earlier_lawful, together, SidesAt, lawful_at, no_small, same_tree, sides_at, sides_still, size_at, size_still, yes_small}
 use Rattle.pq_apply.proofs.Remembered.{remembers_more, remembers_still, triple_exact}
 use Rattle.pq_apply.proofs.Splits.{AreSides, IsJoined, IsRoot, IsSide, joinable, joined_is, root_tested, side_later, side_other}
 
@@ -154,18 +154,7 @@ module _ {L : Type 0} where
     right_sides = sides_at ts s first.right j ry rn first.lawful diagrams first.right_is right;
   }
 
-  -- sides keep their places while the store grows
-  sides_still : {ts vs : List (Tree L)} {s : Test} {t : Tree L} {y n : ℕ} → Keeps ts vs → SidesAt ts s t y n → SidesAt vs s t y n
-  sides_still {y = y} {n = n} keeps sides = record {
-    yes = sides.yes;
-    no = sides.no;
-    yes_is = keeps y sides.yes sides.yes_is;
-    no_is = keeps n sides.no sides.no_is;
-    yes_side = sides.yes_side;
-    no_side = sides.no_side;
-  }
-
-  -- and so do the three nodes
+  -- the three nodes stay while the store grows
   pub stage_still : {cs : List (Tree Bool)} {k : ℕ} {ts vs : List (Tree L)} {i j : ℕ} {s : Test} {cy cn ly ln ry rn : ℕ} → Keeps ts vs
       → IsChoiceStage cs k ts i j s cy cn ly ln ry rn → IsChoiceStage cs k vs i j s cy cn ly ln ry rn
   stage_still {i = i} {j = j} keeps st = record {
@@ -182,10 +171,6 @@ module _ {L : Type 0} where
     left_sides = sides_still keeps st.left_sides;
     right_sides = sides_still keeps st.right_sides;
   }
-
-  -- a node's tree has one size while the store grows
-  size_still : (ts vs : List (Tree L)) (k : ℕ) (t : Tree L) → slice_get ts k ≡ Some t → slice_get vs k ≡ Some t → size_at vs k ≡ size_at ts k
-  size_still ts vs k t t_is still = rw (t_is, still) refl
 
   -- parts of three trees may come together where the trees may
   parts_fit : {c d : Tree Bool} {y n z m : Tree L} → ((s : Test) → IsTested s d → IsTested s c) → ((s : Test) → IsTested s z → IsTested s y) → ((s : Test) → IsTested s m → IsTested s n)

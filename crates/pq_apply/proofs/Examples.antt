@@ -1,5 +1,5 @@
 -- The predicates of examples have diagrams, and these may come together.
-use Rattle.std.proofs.Common.{ℕ, zero, suc, ◌^◌, ◌<◌, ◌≡◌, ◌∙◌, Bool, true, false, List, [], ◌∷◌, refl, sym, ap, subst, inl, inr, arith}
+use Rattle.std.proofs.Common.{ℕ, ◌^◌, ◌<◌, ◌≡◌, ◌∙◌, Bool, true, false, List, [], ◌∷◌, refl, sym, ap, subst, inl, inr, arith}
 use Rattle.std.specs.Prelude.{◌==◌, Some, slice_get}
 use Rattle.std.specs.List.{Any, list_any}
 use Rattle.std.proofs.lemmas.Bool.{true≢false}
@@ -7,7 +7,6 @@ use Rattle.std.proofs.lemmas.Bool.Decides.{eqb_tells}
 use Rattle.std.proofs.lemmas.List.Elements.{All-nil, All-cons}
 use Rattle.std.proofs.lemmas.List.Folds.{Any-from_list_any}
 use Rattle.pq_fields.specs.declared.field.Field.{Field}
-use Rattle.pq_fields.specs.declared.field.Field.TheVariants.{Switch, Port, EthType, IpProto, EthSrc, EthDst, Ipv4Src, Ipv4Dst, TcpSrc, TcpDst, UdpSrc, UdpDst, Ipv6Src, Ipv6Dst}
 use Rattle.pq_fields.specs.declared.pred.Pred.TheVariants as pred
 use Rattle.pq_fields.specs.declared.pred.Pred.TheOpen.{Pred-F}
 use Rattle.pq_fields.specs.declared.pred.Pred.TheFolds.{fold-roll-Pred}
@@ -21,9 +20,10 @@ use Rattle.pq_apply.specs.Junction.{FitTogetherAll}
 use Rattle.pq_apply.specs.Product.{FitTogetherAt}
 use Rattle.pq_apply.specs.Examples.{IsExample, IsExampleAt, example_numbers}
 use Rattle.pq_apply.proofs.AtomTrees.{roomy}
+use Rattle.pq_apply.proofs.Required.{needs_among}
 
 -- a number found among some is among them
-found_among : (v : ℕ) (ns : List ℕ) → list_any (λ n. v == n) ns ≡ true → IsAmong v ns
+pub found_among : (v : ℕ) (ns : List ℕ) → list_any (λ n. v == n) ns ≡ true → IsAmong v ns
 found_among v ns found = by (Any-from_list_any (λ n. v == n) ns found)
   where
     same : (n : ℕ) → (v == n) ≡ true → v ≡ n
@@ -32,46 +32,14 @@ found_among v ns found = by (Any-from_list_any (λ n. v == n) ns found)
     by : Any (λ n. (v == n) ≡ true) ns → IsAmong v ns
     by (k, n, within, at, test) = (k, n, within, at, same n test)
 
--- all of these numbers are in examples
-abbrev AreKnown : List ℕ → Type 0
-AreKnown ns = (v : ℕ) → IsAmong v ns → IsAmong v example_numbers
-
--- all of none are
-none_known : AreKnown []
-none_known v (k, n, within, at, is) = absurd (omega arith)
-
--- so are one that is found among those of examples, and others that are
-more_known : (n : ℕ) (ns : List ℕ) → list_any (λ m. n == m) example_numbers ≡ true → AreKnown ns → AreKnown (n ∷ ns)
-more_known n ns found others v (zero, m, within, at, is) = subst (λ k. IsAmong k example_numbers) (at ∙ sym is) (found_among n example_numbers found)
-more_known n ns found others v (suc k, m, within, at, is) = others v (k, m, omega arith, at, is)
-
--- one such number is
-one_known : (n : ℕ) → list_any (λ m. n == m) example_numbers ≡ true → AreKnown (n ∷ [])
-one_known n found = more_known n [] found none_known
-
--- the EtherTypes of IP are
-ip_known : AreKnown (0x0800 ∷ 0x86dd ∷ [])
-ip_known = more_known 0x0800 (0x86dd ∷ []) refl (one_known 0x86dd refl)
-
--- the numbers in prerequisites are
-needs_known : (f : Field) → NeedsAmong (λ g. example_numbers) f
-needs_known Switch = record { types = none_known; protocols = none_known }
-needs_known Port = record { types = none_known; protocols = none_known }
-needs_known EthType = record { types = none_known; protocols = none_known }
-needs_known IpProto = record { types = ip_known; protocols = none_known }
-needs_known EthSrc = record { types = none_known; protocols = none_known }
-needs_known EthDst = record { types = none_known; protocols = none_known }
-needs_known Ipv4Src = record { types = one_known 0x0800 refl; protocols = none_known }
-needs_known Ipv4Dst = record { types = one_known 0x0800 refl; protocols = none_known }
-needs_known TcpSrc = record { types = ip_known; protocols = one_known 6 refl }
-needs_known TcpDst = record { types = ip_known; protocols = one_known 6 refl }
-needs_known UdpSrc = record { types = ip_known; protocols = one_known 17 refl }
-needs_known UdpDst = record { types = ip_known; protocols = one_known 17 refl }
-needs_known Ipv6Src = record { types = one_known 0x86dd refl; protocols = none_known }
-needs_known Ipv6Dst = record { types = one_known 0x86dd refl; protocols = none_known }
+-- the numbers in prerequisites are among those of examples
+pub needs_known : (f : Field) → NeedsAmong (λ g. example_numbers) f
+needs_known f =
+    needs_among (λ g. example_numbers) (found_among 0x0800 example_numbers refl) (found_among 0x86dd example_numbers refl) (found_among 6 example_numbers refl)
+    (found_among 17 example_numbers refl) f
 
 -- few numbers are tested together
-examples_few : AreFew (λ f. example_numbers)
+pub examples_few : AreFew (λ f. example_numbers)
 examples_few f = omega (arith, roomy f)
 
 -- the predicates of examples have few numbers

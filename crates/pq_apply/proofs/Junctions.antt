@@ -23,7 +23,7 @@ within_part : {A B : Type 0} (ns : Field → List ℕ) (t : Tree A) (u : Tree B)
 within_part ns t u tests within f v tested = within f v (tests f v tested)
 
 -- one tree may come together with two leaves
-pub leaves_fit : (cs ts : List (Tree Bool)) (k i j : ℕ) (a b : Bool) → ((t : Tree Bool) → slice_get cs k ≡ Some t → FitTogetherAll (t ∷ []))
+pub leaves_fit : {L : Type 0} (cs : List (Tree Bool)) (ts : List (Tree L)) (k i j : ℕ) (a b : L) → ((t : Tree Bool) → slice_get cs k ≡ Some t → FitTogetherAll (t ∷ []))
     → slice_get ts i ≡ Some (Tip a) → slice_get ts j ≡ Some (Tip b) → FitAsChoiceAt cs k ts i j
 leaves_fit cs ts k i j a b fit yes_is no_is c y n c_is y_is n_is =
     let own = fit c c_is in

@@ -1,5 +1,6 @@
 pub mod AtomTrees
 pub mod Choices
+pub mod Combined
 pub mod Examples
 pub mod Few
 pub mod Gates
@@ -10,6 +11,7 @@ pub mod Pairs
 pub mod Places
 pub mod PredTrees
 pub mod Remembered
+pub mod Required
 pub mod Restricted
 pub mod SetNumbers
 pub mod SingleTests

@@ -80,7 +80,7 @@ module _ {A B : Type 0} where
   }
 
   -- trees that may come together may do so at their places
-  fit_there : (ls : List (Tree A)) (x : ℕ) (rs : List (Tree B)) (y : ℕ) (t : Tree A) (u : Tree B) → slice_get ls x ≡ Some t → slice_get rs y ≡ Some u → FitTogether t u → FitTogetherAt ls x rs y
+  pub fit_there : (ls : List (Tree A)) (x : ℕ) (rs : List (Tree B)) (y : ℕ) (t : Tree A) (u : Tree B) → slice_get ls x ≡ Some t → slice_get rs y ≡ Some u → FitTogether t u → FitTogetherAt ls x rs y
   fit_there ls x rs y t u t_is u_is fit v w v_is w_is = subst (FitTogether v) (same_tree rs y u w u_is w_is) (subst (λ r. FitTogether r u) (same_tree ls x t v t_is v_is) fit)
 
   module _ {ls : List (Tree A)} {x : ℕ} {rs : List (Tree B)} {y : ℕ} {s : Test} {xy xn yy yn : ℕ} (st : IsStage ls x rs y s xy xn yy yn) where

@@ -7,7 +7,7 @@ use Rattle.pq_store.specs.Test.{IsLawful, Precedes}
 use Rattle.pq_store.specs.Tree.{Tree, past}
 use Rattle.pq_store.specs.Tree.Tree.{Fork}
 use Rattle.pq_store.specs.Diagram.{IsBefore}
-use Rattle.pq_store.specs.Store.{AreDiagrams, IsPastAt, ShowsBranch}
+use Rattle.pq_store.specs.Store.{AreDiagrams, IsPastAt, Keeps, ShowsBranch}
 use Rattle.pq_store.proofs.Elements.{at_place}
 use Rattle.pq_store.proofs.Sides.{size}
 use Rattle.pq_apply.specs.Split.{HasRootAt, IsAtOrBefore, IsEarlier, IsLawfulRoot, LeadsAt, SplitsAt}
@@ -101,3 +101,18 @@ module _ {L : Type 0} where
   -- and so is the no side
   pub no_small : {ts : List (Tree L)} {s : Test} {t : Tree L} {i j : ℕ} (k : ℕ) → slice_get ts k ≡ Some t → SidesAt ts s t i j → IsSmaller (IsRoot s t) (size_at ts j) (size_at ts k)
   no_small k t_is sides = rw (sides.no_is, t_is) (record { small = sides.no_side.small; smaller = sides.no_side.smaller })
+
+  -- sides keep their places while the store grows
+  pub sides_still : {ts vs : List (Tree L)} {s : Test} {t : Tree L} {y n : ℕ} → Keeps ts vs → SidesAt ts s t y n → SidesAt vs s t y n
+  sides_still {y = y} {n = n} keeps sides = record {
+    yes = sides.yes;
+    no = sides.no;
+    yes_is = keeps y sides.yes sides.yes_is;
+    no_is = keeps n sides.no sides.no_is;
+    yes_side = sides.yes_side;
+    no_side = sides.no_side;
+  }
+
+  -- a node's tree has one size while the store grows
+  pub size_still : (ts vs : List (Tree L)) (k : ℕ) (t : Tree L) → slice_get ts k ≡ Some t → slice_get vs k ≡ Some t → size_at vs k ≡ size_at ts k
+  size_still ts vs k t t_is still = rw (t_is, still) refl

@@ -74,12 +74,12 @@ module _ {L : Type 0} where
       by false = refl
 
   -- what a side tests the fork tests, and it tests no more numbers on a path
-  side_part : (b : Bool) (s : Test) (y n u : Tree L) → u ≡ (if b then y else n) → ((r : Test) → IsTested r u → IsTested r (Fork s y n)) × ((g : Field) → most g u ≤ most g (Fork s y n))
+  pub side_part : (b : Bool) (s : Test) (y n u : Tree L) → u ≡ (if b then y else n) → ((r : Test) → IsTested r u → IsTested r (Fork s y n)) × ((g : Field) → most g u ≤ most g (Fork s y n))
   side_part true s y n u is = ((λ r tested. inr (inl (subst (IsTested r) is tested))), λ g. let e = ap (most g) is in omega (arith, le-max_left (most g y) (most g n)))
   side_part false s y n u is = ((λ r tested. inr (inr (subst (IsTested r) is tested))), λ g. let e = ap (most g) is in omega (arith, le-max_right (most g y) (most g n)))
 
   -- the tree at the place of a side
-  side_at : (b : Bool) (ts : List (Tree L)) (i j next : ℕ) (y n u : Tree L) → slice_get ts i ≡ Some y → slice_get ts j ≡ Some n → next ≡ (if b then i else j) → slice_get ts next ≡ Some u → u ≡ (if b then y else n)
+  pub side_at : (b : Bool) (ts : List (Tree L)) (i j next : ℕ) (y n u : Tree L) → slice_get ts i ≡ Some y → slice_get ts j ≡ Some n → next ≡ (if b then i else j) → slice_get ts next ≡ Some u → u ≡ (if b then y else n)
   side_at true ts i j next y n u y_is n_is is at = let e = ap (slice_get ts) is in cc
   side_at false ts i j next y n u y_is n_is is at = let e = ap (slice_get ts) is in cc
 

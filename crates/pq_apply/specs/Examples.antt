@@ -5,9 +5,9 @@ use Rattle.pq_store.specs.Tree.{Tree}
 use Rattle.pq_apply.specs.Together.{Within}
 use Rattle.pq_apply.specs.Predicates.{IsPredWithin}
 
--- their numbers: those in prerequisites, a port, and a transport port
+-- their numbers: those in prerequisites, ports, and a transport port
 abbrev pub example_numbers : List ℕ
-example_numbers = 0x0800 ∷ 0x86dd ∷ 6 ∷ 17 ∷ 1 ∷ 80 ∷ []
+example_numbers = 0x0800 ∷ 0x86dd ∷ 6 ∷ 17 ∷ 1 ∷ 2 ∷ 3 ∷ 80 ∷ []
 
 -- a lawful predicate with only these numbers
 pub record IsExample (p : PredTree) : Type 0 where

@@ -4,6 +4,7 @@
 mod atoms;
 mod bits;
 mod choice;
+mod combination;
 mod junction;
 mod memo;
 mod predicates;
@@ -15,6 +16,8 @@ mod splitting;
 mod tests;
 
 pub use choice::ite;
+pub use combination::combine;
+pub use memo::{recall, remember};
 pub use predicates::pred_node;
 pub use products::product;
-pub use restriction::restrict;
+pub use restriction::{decided, restrict};

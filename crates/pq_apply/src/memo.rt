@@ -8,14 +8,14 @@ use std::alloc::AllocError;
 use std::hash::Hash;
 
 /// The node that was made for a key, if there is one.
-pub(crate) fn recall<K: Eq + Hash>(done: &IndexMap<K, NodeId>, key: &K) -> Option<NodeId>
+pub fn recall<K: Eq + Hash>(done: &IndexMap<K, NodeId>, key: &K) -> Option<NodeId>
     ensures { result ≡ get K.eq done.now key.now }
 {
     done.get(key).copied()
 }
 
 /// Notes the node that was made for a key.
-pub(crate) fn remember<K: Eq + Hash + Drop>(
+pub fn remember<K: Eq + Hash + Drop>(
     done: &mut IndexMap<K, NodeId>,
     key: K,
     id: NodeId,

@@ -35,7 +35,7 @@ pub fn product<A: Leaf, B: Leaf, C: Leaf, F: Fn(&A, &B) -> Result<C, AllocError>
 
 /// What two nodes begin with.
 #[derive(Drop)]
-enum Top<'a, A, B> {
+pub(crate) enum Top<'a, A, B> {
     /// Two leaves.
     Leaves(&'a A, &'a B),
     /// The first of their tests.
@@ -43,7 +43,7 @@ enum Top<'a, A, B> {
 }
 
 /// What two nodes begin with: the leaves, or the first of the tests.
-fn begin_with<'a, A: Leaf, B: Leaf>(
+pub(crate) fn begin_with<'a, A: Leaf, B: Leaf>(
     left: &'a Store<A>,
     x: NodeId,
     right: &'a Store<B>,

@@ -70,7 +70,7 @@ fn next_step<L: Leaf>(store: &Store<L>, node: NodeId, field: Field, value: u64) 
 }
 
 /// The answer to a test of a field with this number.
-fn decided(test: Test, value: u64) -> bool
+pub fn decided(test: Test, value: u64) -> bool
     requires { IsLawful test }
     ensures { result ≡ decides test value }
 {

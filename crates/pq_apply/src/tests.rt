@@ -3,6 +3,7 @@ ghost use Rattle.std.specs.Prelude.{◌≡◌, ◌<◌, ◌≤◌, ◌^◌, ◌=
 ghost use Rattle.std.specs.List.{list_any};
 ghost use Rattle.pq_fields.specs.Packet.{is_wide, width_of};
 ghost use Rattle.pq_fields.specs.Pred.{pred_tree};
+ghost use Rattle.pq_store.specs.Store.{Keeps};
 ghost use Rattle.pq_apply.specs.Examples.{IsExample, IsExampleAt, example_numbers};
 
 use crate::*;
@@ -63,6 +64,7 @@ fn node_of(store: &mut Store<bool>, pred: &Pred) -> Result<NodeId, AllocError>
     requires { IsExample (pred_tree pred.now) }
     ensures example { IfOk result (λ id. IsExampleAt store.new id) }
     ensures within { IfOk result (λ id. id < length store.new) }
+    ensures keeps { Keeps store.old store.new }
 {
     let id = pred_node(store, pred)?;
     Ok(id)
@@ -175,6 +177,31 @@ fn a_predicate_and_itself_are_one(rt: HostRuntime) -> Result<(), Fail> {
     let mut into = Store::new(alloc);
     let id = with_itself(&from, node, &mut into)?;
     assert!(rt; id == node_of(&mut into, &port)?);
+    Ok(())
+}
+
+/// Where both predicates hold, by combining their nodes.
+fn combined(store: &mut Store<bool>, left: &Pred, right: &Pred) -> Result<NodeId, AllocError>
+    requires left { IsExample (pred_tree left.now) }
+    requires right { IsExample (pred_tree right.now) }
+{
+    let and = |a: &bool, b: &bool| -> Result<bool, AllocError>
+        ensures { result ≡ Ok (a.now && b.now) }
+    { Ok(*a && *b) };
+    let x = node_of(store, left)?;
+    let y = node_of(store, right)?;
+    let id = combine(store, x, y, &and)?;
+    Ok(id)
+}
+
+#[test]
+fn two_predicates_combined_by_and_are_their_conjunction(rt: HostRuntime) -> Result<(), Fail> {
+    let alloc = rt.alloc();
+    let (port, to_web) = (equal(Field::Port, 1), equal(Field::TcpDst, 80));
+    let mut store = Store::new(alloc);
+    let id = combined(&mut store, &port, &to_web)?;
+    let conjunction = both(alloc, port, to_web)?;
+    assert!(rt; id == node_of(&mut store, &conjunction)?);
     Ok(())
 }
 

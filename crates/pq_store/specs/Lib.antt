@@ -4,6 +4,7 @@ pub mod Compaction
 pub mod Diagram
 pub mod Least
 pub mod Moves
+pub mod Options
 pub mod Search
 pub mod Store
 pub mod Test

@@ -19,3 +19,9 @@ impl Leaf for u64 {
 
     ghost exact = { λ x y. (unsigned_Decides x y).0 };
 }
+
+impl<T: Leaf> Leaf for Option<T> {
+    ghost use Rattle.pq_store.specs.Options.{same_option};
+
+    ghost exact = { same_option T.eq T.exact };
+}
