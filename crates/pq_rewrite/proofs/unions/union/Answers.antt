@@ -1,0 +1,10 @@
+use Rattle.std.proofs.lemmas.Option.{slice_get_within}
+use Rattle.pq_store.proofs.Elements.{at_place}
+use Rattle.pq_rewrite.proofs.unions.union.Goals as goal
+
+pub equal_rewritings_are_one-requires : goal.equal_rewritings_are_one-requires
+equal_rewritings_are_one-requires g c =
+    let t = at_place c.args.store.now c.args.x c.requires.x in
+    let u = at_place c.args.store.now c.args.y c.requires.y in
+    let united = c.in_ok-id.ensures.unites t.0 u.0 t.1 u.1 in
+    slice_get_within c.united.new.store c.in_ok-id.id united.0 united.1

@@ -1,0 +1,9 @@
+pub mod Calls
+pub mod Choices
+pub mod Examples
+pub mod Leaves
+pub mod Merged
+pub mod Order
+pub mod Rewriting
+pub mod Sequence
+pub mod Settled

@@ -1,0 +1,104 @@
+-- The steps to a sequence of two trees.
+use Rattle.std.specs.Prelude.{ℕ, ◌≡◌, Bool, ◌&&◌, ◌==◌, List, Some, slice_get}
+use Rattle.std.specs.List.{All, Any}
+use Rattle.std.specs.Option.{option_or}
+use Rattle.pq_fields.specs.declared.field.Field.{Field}
+use Rattle.pq_fields.specs.Order.{writes_eq}
+use Rattle.pq_fields.specs.Writes.{Written, AllFit, on}
+use Rattle.pq_store.specs.Tree.{Tree, value, IsPartOf}
+use Rattle.pq_store.specs.Tree.Tree.{Tip}
+use Rattle.pq_apply.specs.Together.{AreFew, Within}
+use Rattle.pq_rewrite.specs.Calls.{HasAt}
+use Rattle.pq_rewrite.specs.Rewriting.{CoversWrites, Gives, IsGiving}
+
+-- the numbers of the second, and those of the first in the other fields
+abbrev pub over : Written → Written → Written
+over v w =
+    record { port = option_or w.port v.port; eth_src = option_or w.eth_src v.eth_src; eth_dst = option_or w.eth_dst v.eth_dst; ipv4_src = option_or w.ipv4_src v.ipv4_src; ipv4_dst = option_or w.ipv4_dst v.ipv4_dst; tcp_src = option_or w.tcp_src v.tcp_src; tcp_dst = option_or w.tcp_dst v.tcp_dst; udp_src = option_or w.udp_src v.udp_src; udp_dst = option_or w.udp_dst v.udp_dst }
+
+-- two pairs of writes and an id are one
+abbrev pub same_move : Written × ℕ → Written × ℕ → Bool
+same_move p q = writes_eq p.0 q.0 && (p.1 == q.1)
+
+-- the numbers that are tested, and at each leaf those that are written and those in prerequisites, are among these
+pub record CoversLeaves (ns : Field → List ℕ) (t : Tree (List Written)) : Type 0 where
+  pub tests : Within ns t
+  pub leaves : (l : List Written) → IsPartOf (Tip l) t → All (λ w. AllFit w × CoversWrites ns w) l
+
+-- writes one after another: the first, and then each of these.
+pub record FitInTurn (w : Written) (ws : List Written) : Type 0 where
+  pub numbers : Field → List ℕ
+  pub few : AreFew numbers
+  pub fit : All AllFit ws
+  pub first : CoversWrites numbers w
+  pub second : All (CoversWrites numbers) ws
+
+-- the tree gives the packet written by the first and by one of the others
+pub record IsInTurn (w : Written) (ws : List Written) (t : Tree (List Written)) : Type 0 where
+  pub giving : IsGiving (λ x y. Any (λ v. y ≡ on v (on w x)) ws) t
+  pub tests : (ns : Field → List ℕ) → CoversWrites ns w → All (CoversWrites ns) ws → Within ns t
+
+-- writes, and then a tree.
+pub record FitAsFollowed (w : Written) (u : Tree (List Written)) : Type 0 where
+  pub numbers : Field → List ℕ
+  pub few : AreFew numbers
+  pub first : CoversWrites numbers w
+  pub second : CoversLeaves numbers u
+
+abbrev pub FitAsFollowedAt : Written → List (Tree (List Written)) → ℕ → Type 0
+FitAsFollowedAt w ts k = (u : Tree (List Written)) → slice_get ts k ≡ Some u → FitAsFollowed w u
+
+-- the tree gives what the other gives of the packet written
+pub record IsFollowed (w : Written) (u r : Tree (List Written)) : Type 0 where
+  pub giving : IsGiving (λ x y. Gives u (on w x) y) r
+  pub tests : (ns : Field → List ℕ) → CoversWrites ns w → CoversLeaves ns u → Within ns r
+
+pub record IsFollowedAt (w : Written) (ts : List (Tree (List Written))) (k id : ℕ) : Type 0 where
+  pub tree : Tree (List Written)
+  pub followed : Tree (List Written)
+  pub tree_is : slice_get ts k ≡ Some tree
+  pub followed_is : slice_get ts id ≡ Some followed
+  pub follows : IsFollowed w tree followed
+
+-- each of these writes, and then a tree.
+pub record FitAsFollowedEach (ws : List Written) (u : Tree (List Written)) : Type 0 where
+  pub numbers : Field → List ℕ
+  pub few : AreFew numbers
+  pub fit : All AllFit ws
+  pub first : All (CoversWrites numbers) ws
+  pub second : CoversLeaves numbers u
+
+abbrev pub FitAsFollowedEachAt : List Written → List (Tree (List Written)) → ℕ → Type 0
+FitAsFollowedEachAt ws ts k = (u : Tree (List Written)) → slice_get ts k ≡ Some u → FitAsFollowedEach ws u
+
+-- the tree gives what the other gives of the packets written
+pub record IsFollowedEach (ws : List Written) (u r : Tree (List Written)) : Type 0 where
+  pub giving : IsGiving (λ x y. Any (λ w. Gives u (on w x) y) ws) r
+  pub tests : (ns : Field → List ℕ) → All (CoversWrites ns) ws → CoversLeaves ns u → Within ns r
+
+abbrev pub FollowsEachAt : List Written → List (Tree (List Written)) → ℕ → List (Tree (List Written)) → ℕ → Type 0
+FollowsEachAt ws old k new id = (u : Tree (List Written)) → slice_get old k ≡ Some u → HasAt (IsFollowedEach ws u) new id
+
+-- a tree, and then a tree.
+pub record FitAsSequence (t u : Tree (List Written)) : Type 0 where
+  pub numbers : Field → List ℕ
+  pub few : AreFew numbers
+  pub first : CoversLeaves numbers t
+  pub second : CoversLeaves numbers u
+
+abbrev pub FitAsSequenceAt : List (Tree (List Written)) → ℕ → ℕ → Type 0
+FitAsSequenceAt ts i j = (t u : Tree (List Written)) → slice_get ts i ≡ Some t → slice_get ts j ≡ Some u → FitAsSequence t u
+
+-- the tree gives what the second gives of the packets that the first gives
+pub record IsInSequence (t u r : Tree (List Written)) : Type 0 where
+  pub giving : IsGiving (λ x y. Any (λ w. Gives u (on w x) y) (value t x)) r
+  pub tests : (ns : Field → List ℕ) → CoversLeaves ns t → CoversLeaves ns u → Within ns r
+
+pub record IsSequencedAt (ts : List (Tree (List Written))) (k j id : ℕ) : Type 0 where
+  pub tree : Tree (List Written)
+  pub second : Tree (List Written)
+  pub sequenced : Tree (List Written)
+  pub tree_is : slice_get ts k ≡ Some tree
+  pub second_is : slice_get ts j ≡ Some second
+  pub sequenced_is : slice_get ts id ≡ Some sequenced
+  pub sequence : IsInSequence tree second sequenced
