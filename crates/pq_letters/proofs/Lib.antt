@@ -1,0 +1,8 @@
+pub mod Examples
+pub mod Found
+pub mod Lettered
+pub mod NumberLists
+pub mod Numbered
+pub mod Places
+pub mod Signed
+pub mod Spelled

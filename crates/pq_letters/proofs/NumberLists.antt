@@ -1,0 +1,70 @@
+-- Lists of numbers in order: the first that differs decides.
+use Rattle.std.proofs.Common.{◌≡◌, ◌<◌, ◌⊎◌, ◌==◌, ◌&&◌, ◌||◌, ℕ, true, false, List, [], ◌∷◌, ◌++◌, length, refl, sym, ap, subst, ◌∙◌, inl, inr, arith, true≢false, lt-ltb, ltb-true, eqb-true}
+use Rattle.std.specs.Prelude.{nat_lt}
+use Rattle.std.proofs.lemmas.Bool.{and_parts, cases_order, or_cases}
+use Rattle.std.proofs.lemmas.Bool.Decides.{nat_tests}
+use Rattle.pq_fields.specs.Packet.{is_before}
+
+-- where one list stands before another, its first number is the smaller, or it is the same and the rest stands before the rest
+pub first_or_rest : (m n : ℕ) (xs ys : List ℕ) → is_before (m ∷ xs) (n ∷ ys) ≡ true → (m < n) ⊎ ((m ≡ n) × (is_before xs ys ≡ true))
+first_or_rest m n xs ys is = elim (or_cases (nat_lt m n) ((m == n) && is_before xs ys) is) [
+  | inl less ↦ inl (ltb-true m n less)
+  | inr same ↦ let parts = and_parts (m == n) (is_before xs ys) same in inr (eqb-true m n parts.0, parts.1)
+]
+
+-- a list with the smaller first number stands before the other
+pub by_first : (m n : ℕ) (xs ys : List ℕ) → m < n → is_before (m ∷ xs) (n ∷ ys) ≡ true
+by_first m n xs ys less = ap (λ b. b || ((m == n) && is_before xs ys)) (lt-ltb m n less)
+
+-- behind the same first number the rests decide
+pub same_first : (n : ℕ) (xs ys : List ℕ) → is_before (n ∷ xs) (n ∷ ys) ≡ is_before xs ys
+same_first n xs ys = grind (arith, nat_tests)
+
+-- behind the same numbers the rests decide
+pub same_piece : (xs us vs : List ℕ) → is_before (xs ++ us) (xs ++ vs) ≡ is_before us vs
+same_piece [] us vs = refl
+same_piece (x ∷ xs) us vs = same_first x (xs ++ us) (xs ++ vs) ∙ same_piece xs us vs
+
+-- pieces of the same length decide where one stands before the other
+pub by_piece : (xs ys us vs : List ℕ) → length xs ≡ length ys → is_before xs ys ≡ true → is_before (xs ++ us) (ys ++ vs) ≡ true
+by_piece xs [] us vs long is = absurd (true≢false (sym is))
+by_piece [] (y ∷ ys) us vs long is = absurd (omega arith)
+by_piece (x ∷ xs) (y ∷ ys) us vs long is = elim (first_or_rest x y xs ys is) [
+  | inl less ↦ by_first x y (xs ++ us) (ys ++ vs) less
+  | inr same ↦ subst (λ n. is_before (x ∷ xs ++ us) (n ∷ ys ++ vs) ≡ true) same.0 (same_first x (xs ++ us) (ys ++ vs) ∙ by_piece xs ys us vs (omega arith) same.1)
+]
+
+-- no list stands before one that stands before it
+pub not_back : (xs ys : List ℕ) → is_before xs ys ≡ true → is_before ys xs ≡ false
+not_back xs [] is = absurd (true≢false (sym is))
+not_back [] (y ∷ ys) is = refl
+not_back (x ∷ xs) (y ∷ ys) is = elim (first_or_rest x y xs ys is) [
+  | inl less ↦ grind (arith, nat_tests)
+  | inr same ↦ let rest = not_back xs ys same.1 in grind (arith, nat_tests)
+]
+
+-- of two lists of the same length one stands before the other, or they are one
+pub compared : (xs ys : List ℕ) → length xs ≡ length ys → (xs ≡ ys) ⊎ ((is_before xs ys ≡ true) ⊎ (is_before ys xs ≡ true))
+compared [] [] long = inl refl
+compared [] (y ∷ ys) long = absurd (omega arith)
+compared (x ∷ xs) [] long = absurd (omega arith)
+compared (x ∷ xs) (y ∷ ys) long = elim (cases_order x y) [
+  | inl same ↦ elim (compared xs ys (omega arith)) [
+    | inl rest ↦ inl (λ i. same i ∷ rest i)
+    | inr other ↦ inr (subst (λ n. (is_before (x ∷ xs) (n ∷ ys) ≡ true) ⊎ (is_before (n ∷ ys) (x ∷ xs) ≡ true)) same (elim other [
+      | inl less ↦ inl (same_first x xs ys ∙ less)
+      | inr more ↦ inr (same_first x ys xs ∙ more)
+    ]))
+  ]
+  | inr other ↦ inr (elim other [ inl less ↦ inl (by_first x y xs ys less) | inr more ↦ inr (by_first y x ys xs more) ])
+]
+
+-- behind pieces of the same length, of which the first doesn't stand before the second, a list stands before no other before which its rest doesn't stand
+pub not_by_piece : (xs ys us vs : List ℕ) → length xs ≡ length ys → is_before xs ys ≡ false → is_before us vs ≡ false → is_before (xs ++ us) (ys ++ vs) ≡ false
+not_by_piece xs ys us vs long first rest = elim (compared xs ys long) [
+  | inl same ↦ subst (λ zs. is_before (xs ++ us) (zs ++ vs) ≡ false) same (same_piece xs us vs ∙ rest)
+  | inr other ↦ elim other [
+    | inl less ↦ absurd (true≢false (sym less ∙ first))
+    | inr more ↦ not_back (ys ++ vs) (xs ++ us) (by_piece ys xs vs us (sym long) more)
+  ]
+]

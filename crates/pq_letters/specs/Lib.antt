@@ -1,0 +1,4 @@
+pub mod Letters
+pub mod Numbering
+pub mod Order
+pub mod Words
