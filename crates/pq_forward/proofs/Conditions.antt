@@ -1,0 +1,58 @@
+-- Trees made with the diagram of a predicate.
+use Rattle.std.proofs.Common.{ℕ, ◌<◌, ◌≡◌, ◌∙◌, Bool, true, List, length, refl, sym}
+use Rattle.pq_fields.specs.Pred.{PredTree, holds}
+use Rattle.pq_fields.specs.Writes.{Written}
+use Rattle.pq_store.specs.declared.test.Test.TheVariants.{Equal}
+use Rattle.pq_store.specs.Tree.{Tree, value}
+use Rattle.pq_apply.specs.Choice.{ChoosesAt, FitAsChoiceAt}
+use Rattle.pq_apply.specs.Predicates.{FitsAsNode, HoldsAt, IsPredTree, IsPredWithin}
+use Rattle.pq_rewrite.specs.Calls.{HasAt, IsKeeping, KeepsWhereAt}
+use Rattle.pq_rewrite.specs.Choices.{FitByAt}
+use Rattle.pq_rewrite.proofs.Choosing.{IsCondition, chooses_by, fit_by, fits_node, predicate_condition}
+use Rattle.pq_rewrite.proofs.Turns.{giving_as}
+use Rattle.pq_forward.specs.Forward.{ChoosesByPredAt, FitAsChosenAt, IsFiltered}
+
+module _ (p : PredTree) (cs : List (Tree Bool)) (k : ℕ) (told : HoldsAt p cs k) where
+  -- what is kept by it is filtered by the predicate
+  filters : (c : Tree Bool) (t : Tree (List Written)) → IsPredTree p c → IsKeeping c t → IsFiltered p t
+  filters c t tree keeping = record {
+    giving = giving_as (λ x y. (value c x ≡ true) × (y ≡ x)) (λ x y. (holds p x ≡ true) × (y ≡ x)) t
+        (λ x y fit. (λ both. (sym (tree.gives x fit) ∙ both.0, both.1), λ both. (tree.gives x fit ∙ both.0, both.1))) keeping.giving;
+    covers = λ ns within. record {
+      tests = λ f v tested. tree.tests ns within f v (keeping.tests (Equal f v) tested);
+      writes = λ f n writes. absurd (keeping.writes f n writes);
+    };
+  }
+
+  -- so it is at its place
+  pub filters_at : (ts : List (Tree (List Written))) (id : ℕ) → KeepsWhereAt cs k ts id → HasAt (IsFiltered p) ts id
+  filters_at ts id keeping =
+      let kept = keeping told.0 told.1 in
+      (kept.0, kept.1, filters told.0 kept.0 told.2 kept.2)
+
+module _ (p : PredTree) (ts : List (Tree (List Written))) (i j : ℕ) (fits : FitAsChosenAt p ts i j) where
+  -- the numbers that may be tested are those of the predicate
+  fit_by_pred : FitByAt (λ ns. IsPredWithin ns p) ts i j
+  fit_by_pred y n y_is n_is =
+      let fit = fits y n y_is n_is in
+      record { numbers = fit.numbers; few = fit.few; needs = fit.predicate; left = fit.left; right = fit.right }
+
+  -- a predicate fits a diagram where it does with two trees
+  pub pred_fits : i < length ts → j < length ts → FitsAsNode p
+  pred_fits i_within j_within = fits_node (λ ns. IsPredWithin ns p) p ts i j (λ ns within. within) i_within j_within fit_by_pred
+
+  module _ (cs : List (Tree Bool)) (k : ℕ) (told : HoldsAt p cs k) where
+    -- its diagram is a condition
+    condition : HasAt (IsCondition (holds p) (λ ns. IsPredWithin ns p)) cs k
+    condition = predicate_condition (holds p) (λ ns. IsPredWithin ns p) p cs k (λ x. refl) (λ ns within. within) told
+
+    -- the three may come together
+    pub choice_fits : FitAsChoiceAt cs k ts i j
+    choice_fits = fit_by (holds p) (λ ns. IsPredWithin ns p) cs k ts i j condition fit_by_pred
+
+    -- and the choice by its diagram is that by the predicate
+    pub chooses_by_pred : (new : List (Tree (List Written))) (id : ℕ) → ChoosesAt cs k ts i j new id → ChoosesByPredAt p ts i j new id
+    chooses_by_pred new id chooses y n y_is n_is =
+        let chosen = chooses_by (holds p) (λ ns. IsPredWithin ns p) cs k ts new i j id condition chooses y n y_is n_is in
+        let by = chosen.2 in
+        (chosen.0, chosen.1, record { gives = by.gives; tests = by.tests })

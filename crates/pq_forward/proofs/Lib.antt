@@ -1,0 +1,10 @@
+pub mod Conditions
+pub mod Examples
+pub mod Floods
+pub mod Halves
+pub mod Joined
+pub mod Joining
+pub mod Ports
+pub mod Spreads
+pub mod Switches
+pub mod Tops

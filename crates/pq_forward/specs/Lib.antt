@@ -1,0 +1,3 @@
+pub mod Examples
+pub mod Flood
+pub mod Forward
