@@ -5,12 +5,12 @@ use Rattle.pq_fields.specs.Writes.{Written}
 use Rattle.pq_store.specs.declared.test.Test.TheVariants.{Equal}
 use Rattle.pq_store.specs.Tree.{Tree, value}
 use Rattle.pq_apply.specs.Choice.{ChoosesAt, FitAsChoiceAt}
-use Rattle.pq_apply.specs.Predicates.{FitsAsNode, HoldsAt, IsPredTree, IsPredWithin}
+use Rattle.pq_apply.specs.Predicates.{FitsAsNode, HoldsAt, IsPredTree}
 use Rattle.pq_rewrite.specs.Calls.{HasAt, IsKeeping, KeepsWhereAt}
-use Rattle.pq_rewrite.specs.Choices.{FitByAt}
+use Rattle.pq_rewrite.specs.Choices.{ChoosesByAt, FitByAt}
 use Rattle.pq_rewrite.proofs.Choosing.{IsCondition, chooses_by, fit_by, fits_node, predicate_condition}
 use Rattle.pq_rewrite.proofs.Turns.{giving_as}
-use Rattle.pq_forward.specs.Forward.{ChoosesByPredAt, FitAsChosenAt, IsFiltered}
+use Rattle.pq_forward.specs.Forward.{IsFiltered, pred_needs}
 
 module _ (p : PredTree) (cs : List (Tree Bool)) (k : ℕ) (told : HoldsAt p cs k) where
   -- what is kept by it is filtered by the predicate
@@ -30,29 +30,20 @@ module _ (p : PredTree) (cs : List (Tree Bool)) (k : ℕ) (told : HoldsAt p cs k
       let kept = keeping told.0 told.1 in
       (kept.0, kept.1, filters told.0 kept.0 told.2 kept.2)
 
-module _ (p : PredTree) (ts : List (Tree (List Written))) (i j : ℕ) (fits : FitAsChosenAt p ts i j) where
-  -- the numbers that may be tested are those of the predicate
-  fit_by_pred : FitByAt (λ ns. IsPredWithin ns p) ts i j
-  fit_by_pred y n y_is n_is =
-      let fit = fits y n y_is n_is in
-      record { numbers = fit.numbers; few = fit.few; needs = fit.predicate; left = fit.left; right = fit.right }
-
+module _ (p : PredTree) (ts : List (Tree (List Written))) (i j : ℕ) (fits : FitByAt (pred_needs p) ts i j) where
   -- a predicate fits a diagram where it does with two trees
   pub pred_fits : i < length ts → j < length ts → FitsAsNode p
-  pred_fits i_within j_within = fits_node (λ ns. IsPredWithin ns p) p ts i j (λ ns within. within) i_within j_within fit_by_pred
+  pred_fits i_within j_within = fits_node (pred_needs p) p ts i j (λ ns within. within) i_within j_within fits
 
   module _ (cs : List (Tree Bool)) (k : ℕ) (told : HoldsAt p cs k) where
     -- its diagram is a condition
-    condition : HasAt (IsCondition (holds p) (λ ns. IsPredWithin ns p)) cs k
-    condition = predicate_condition (holds p) (λ ns. IsPredWithin ns p) p cs k (λ x. refl) (λ ns within. within) told
+    condition : HasAt (IsCondition (holds p) (pred_needs p)) cs k
+    condition = predicate_condition (holds p) (pred_needs p) p cs k (λ x. refl) (λ ns within. within) told
 
     -- the three may come together
     pub choice_fits : FitAsChoiceAt cs k ts i j
-    choice_fits = fit_by (holds p) (λ ns. IsPredWithin ns p) cs k ts i j condition fit_by_pred
+    choice_fits = fit_by (holds p) (pred_needs p) cs k ts i j condition fits
 
     -- and the choice by its diagram is that by the predicate
-    pub chooses_by_pred : (new : List (Tree (List Written))) (id : ℕ) → ChoosesAt cs k ts i j new id → ChoosesByPredAt p ts i j new id
-    chooses_by_pred new id chooses y n y_is n_is =
-        let chosen = chooses_by (holds p) (λ ns. IsPredWithin ns p) cs k ts new i j id condition chooses y n y_is n_is in
-        let by = chosen.2 in
-        (chosen.0, chosen.1, record { gives = by.gives; tests = by.tests })
+    pub chooses_by_pred : (new : List (Tree (List Written))) (id : ℕ) → ChoosesAt cs k ts i j new id → ChoosesByAt (holds p) (pred_needs p) ts i j new id
+    chooses_by_pred new id chooses = chooses_by (holds p) (pred_needs p) cs k ts new i j id condition chooses

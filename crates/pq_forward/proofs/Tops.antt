@@ -22,10 +22,11 @@ use Rattle.pq_rewrite.specs.Rewriting.{Covers, IsGiven, IsToWrite}
 use Rattle.pq_rewrite.proofs.Diffs.{on_none}
 use Rattle.pq_rewrite.proofs.Sets.{any_none, given_none}
 use Rattle.pq_rewrite.proofs.Standing.{has_there}
+use Rattle.pq_rewrite.specs.Choices.{ChoosesByAt, FitByAt, IsChoiceBy}
 use Rattle.pq_rewrite.proofs.Turns.{giving_as}
 use Rattle.pq_rewrite.proofs.Unchanged.{kept_unwritten, kept_where, unchanged}
 use Rattle.pq_forward.specs.Flood.{IsFlood}
-use Rattle.pq_forward.specs.Forward.{ArePoliciesWithin, ChoosesByPredAt, FitAsChosenAt, FitAsForward, IsChosenBy, IsFiltered, IsForward, IsForwards, joint}
+use Rattle.pq_forward.specs.Forward.{ArePoliciesWithin, FitAsForward, IsFiltered, IsForward, IsForwards, joint, pred_needs}
 use Rattle.pq_forward.proofs.Halves.{one_either, one_in_turn}
 
 module _ (P Q : Tree (List Written) → Type 0) (follows : (t : Tree (List Written)) → P t → Q t) (ts : List (Tree (List Written))) where
@@ -177,16 +178,16 @@ choice_of p a b = record { top = Choose p; below = policies (a ∷ b ∷ []) }
 
 module _ (T : Topology) (p : PredTree) (a b : PolicyTree) where
   -- the trees of both may come together with the predicate
-  pub sides_fit : FitAsForward T (choice_of p a b) → (ts : List (Tree (List Written))) (i j : ℕ) → HasAt (IsForward T a) ts i → HasAt (IsForward T b) ts j → FitAsChosenAt p ts i j
+  pub sides_fit : FitAsForward T (choice_of p a b) → (ts : List (Tree (List Written))) (i j : ℕ) → HasAt (IsForward T a) ts i → HasAt (IsForward T b) ts j → FitByAt (pred_needs p) ts i j
   sides_fit fit ts i j first second y n y_is n_is =
       let ns = fit.numbers in
       let all = fit.policies in
       let sides : ArePoliciesWithin ns (policies (a ∷ b ∷ [])) = all.1 in
       let left = (has_there (IsForward T a) ts i y first y_is).covers ns fit.topology (sides.0, sides.1, tt) in
       let right = (has_there (IsForward T b) ts j n second n_is).covers ns fit.topology sides.2 in
-      record { numbers = ns; few = fit.few; predicate = all.0; left = left.tests; right = right.tests }
+      record { numbers = ns; few = fit.few; needs = all.0; left = left.tests; right = right.tests }
 
-  module _ (y n r : Tree (List Written)) (left : IsForward T a y) (right : IsForward T b n) (chosen : IsChosenBy p y n r) where
+  module _ (y n r : Tree (List Written)) (left : IsForward T a y) (right : IsForward T b n) (chosen : IsChoiceBy (holds p) (pred_needs p) y n r) where
     -- what the chosen tree has on a packet is given by the policy chosen
     choice_given : (x : Numbers) → IsGiven x (yields T a x) (value y x) → IsGiven x (yields T b x) (value n x)
         → (c : Bool) → value r x ≡ (if c then value y x else value n x) → IsGiven x (Yields T (policies (a ∷ b ∷ [])) (if c then First else Second) x) (value r x)
@@ -214,7 +215,7 @@ module _ (T : Topology) (p : PredTree) (a b : PolicyTree) where
 
   -- so does the one at its place
   pub choice_at : (ts new : List (Tree (List Written))) (i j id : ℕ) → HasAt (IsForward T a) ts i → HasAt (IsForward T b) ts j
-      → ChoosesByPredAt p ts i j new id → HasAt (IsForward T (choice_of p a b)) new id
+      → ChoosesByAt (holds p) (pred_needs p) ts i j new id → HasAt (IsForward T (choice_of p a b)) new id
   choice_at ts new i j id first second chooses =
       let made = chooses first.0 second.0 first.1 second.1 in
       (made.0, made.1, choice_forward first.0 second.0 made.0 first.2 second.2 made.2)

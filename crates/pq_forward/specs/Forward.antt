@@ -1,16 +1,14 @@
 -- The diagram of a policy, the numbers that it may test and write, and the steps to it.
-use Rattle.std.specs.Prelude.{ℕ, suc, ◌+◌, ◌-◌, ◌≡◌, Bool, true, false, if◌then◌else◌, List, [], ◌∷◌, Some, slice_get, All}
+use Rattle.std.specs.Prelude.{ℕ, suc, ◌+◌, ◌-◌, ◌≡◌, Bool, true, false, List, [], ◌∷◌, All}
 use Rattle.pq_fields.specs.declared.field.Field.{Field}
 use Rattle.pq_fields.specs.declared.field.Field.TheVariants.{Switch, Port}
-use Rattle.pq_fields.specs.Packet.{Numbers, Fit}
 use Rattle.pq_fields.specs.Pred.{PredTree, holds}
 use Rattle.pq_fields.specs.Writes.{Written}
 use Rattle.pq_model.specs.Topology.{Topology}
 use Rattle.pq_policy.specs.Policy.{PolicyTop, Pass, Discard, Spread, Only, Write, Forward, Choose, Either, InTurn, Policies, none, put, PolicyTree, policies, Joint, AnyOne, Chained, Yields, yields}
-use Rattle.pq_store.specs.Tree.{Tree, value}
+use Rattle.pq_store.specs.Tree.{Tree}
 use Rattle.pq_apply.specs.Predicates.{IsPredWithin, NeedsAmong}
-use Rattle.pq_apply.specs.Together.{AreFew, IsAmong, Within}
-use Rattle.pq_rewrite.specs.Calls.{HasAt}
+use Rattle.pq_apply.specs.Together.{AreFew, IsAmong}
 use Rattle.pq_rewrite.specs.Rewriting.{Covers, IsGiving}
 
 -- Numbers.
@@ -71,25 +69,9 @@ pub record IsFiltered (p : PredTree) (t : Tree (List Written)) : Type 0 where
   pub giving : IsGiving (λ x y. (holds p x ≡ true) × (y ≡ x)) t
   pub covers : (ns : Field → List ℕ) → IsPredWithin ns p → Covers ns t
 
--- the numbers of a predicate and of two trees are at most half of each field's less one
-pub record FitAsChosen (p : PredTree) (y n : Tree (List Written)) : Type 0 where
-  pub numbers : Field → List ℕ
-  pub few : AreFew numbers
-  pub predicate : IsPredWithin numbers p
-  pub left : Within numbers y
-  pub right : Within numbers n
-
-abbrev pub FitAsChosenAt : PredTree → List (Tree (List Written)) → ℕ → ℕ → Type 0
-FitAsChosenAt p ts i j = (y n : Tree (List Written)) → slice_get ts i ≡ Some y → slice_get ts j ≡ Some n → FitAsChosen p y n
-
--- the tree has the value of the one where the predicate holds, and of the other elsewhere, and tests only what it and they test
-pub record IsChosenBy (p : PredTree) (y n r : Tree (List Written)) : Type 0 where
-  pub gives : (x : Numbers) → Fit x → value r x ≡ (if holds p x then value y x else value n x)
-  pub tests : (ns : Field → List ℕ) → IsPredWithin ns p → Within ns y → Within ns n → Within ns r
-
-abbrev pub ChoosesByPredAt : PredTree → List (Tree (List Written)) → ℕ → ℕ → List (Tree (List Written)) → ℕ → Type 0
-ChoosesByPredAt p old i j new id =
-    (y n : Tree (List Written)) → slice_get old i ≡ Some y → slice_get old j ≡ Some n → HasAt (IsChosenBy p y n) new id
+-- a choice by a predicate tests its numbers and those in prerequisites
+abbrev pub pred_needs : PredTree → (Field → List ℕ) → Type 0
+pred_needs p ns = IsPredWithin ns p
 
 -- Steps.
 

@@ -1,6 +1,6 @@
 //! The diagram of a policy, from those of its operands.
 ghost use Rattle.std.specs.Prelude.{◌≡◌, ◌<◌, ◌≤◌, ◌+◌, [], ◌∷◌, length, Some, slice_get, if◌then◌else◌, IfOk};
-ghost use Rattle.pq_fields.specs.Pred.{IsLawfulPred, pred_tree};
+ghost use Rattle.pq_fields.specs.Pred.{IsLawfulPred, holds, pred_tree};
 ghost use Rattle.pq_fields.specs.Writes.{no_writes};
 ghost use Rattle.pq_policy.specs.Policy.{
   AreLawfulPolicies,
@@ -12,16 +12,16 @@ ghost use Rattle.pq_store.specs.Tree.Tree.{Tip};
 ghost use Rattle.pq_store.specs.Store.{Keeps};
 ghost use Rattle.pq_apply.specs.Predicates.{FitsAsNode};
 ghost use Rattle.pq_rewrite.specs.Calls.{HasAt};
+ghost use Rattle.pq_rewrite.specs.Choices.{ChoosesByAt, FitByAt};
 ghost use Rattle.pq_rewrite.specs.Rewriting.{IsCanonicalRewriting};
 ghost use Rattle.pq_forward.specs.Forward.{
-  ChoosesByPredAt,
-  FitAsChosenAt,
   FitAsForward,
   FitAsForwards,
   IsFiltered,
   IsForward,
   IsForwards,
   joint,
+  pred_needs,
   work,
   work_of,
 };
@@ -171,8 +171,8 @@ fn chosen(
     requires lawful { IsLawfulPred (pred_tree pred.now) }
     requires yes { yes < length store.old }
     requires no { no < length store.old }
-    requires fit { FitAsChosenAt (pred_tree pred.now) store.old yes no }
-    ensures chooses { IfOk result (λ id. ChoosesByPredAt (pred_tree pred.now) store.old yes no store.new id) }
+    requires fit { FitByAt (pred_needs (pred_tree pred.now)) store.old yes no }
+    ensures chooses { IfOk result (λ id. ChoosesByAt (holds (pred_tree pred.now)) (pred_needs (pred_tree pred.now)) store.old yes no store.new id) }
     ensures tests { Keeps tests.old tests.new }
     ensures keeps { Keeps store.old store.new }
 {
