@@ -194,7 +194,7 @@ ipv6_lawful f text p is e =
     e
 
 exact_lawful : (f : Field) (r : Ruled ℕ) (p : PredTree) → is_wide f ≡ false → ((n : ℕ) → r ≡ Ok n → n < 2 ^ width_of f) → exact_test f r ≡ Ok p → IsLawfulPred p
-exact_lawful f (Ok n) p is fits e = let same : leaf (Equals f n) ≡ p = cc in subst IsLawfulPred same ((is, fits n refl), tt, tt)
+exact_lawful f (Ok n) p is fits e = let same : leaf (Equals f n) ≡ p = cc in subst IsLawfulPred same (fits n refl, tt, tt)
 exact_lawful f (Err kind) p is fits e = absurd cc
 
 -- the test of a field for a value is lawful

@@ -28,7 +28,8 @@ use Rattle.pq_query.specs.Query.{QueryTree}
 use Rattle.pq_query.specs.Resolved.{query_of}
 use Rattle.pq_compile.specs.Names.{keyword_at, new_name, name_at, Named, named_of, named_after}
 use Rattle.pq_compile.specs.Documents.{DocumentTree, parts_of, queries_of, document_of}
-use Rattle.pq_compile.specs.Lawful.{AreLawfulNames, names_in, IsLawfulQuery, IsLawfulDocument}
+use Rattle.pq_query.specs.Lawful.{IsLawfulQuery}
+use Rattle.pq_compile.specs.Lawful.{AreLawfulNames, names_in, IsLawfulDocument}
 use Rattle.pq_compile.proofs.LawfulPolicies.{policy_lawful}
 use Rattle.pq_compile.proofs.LawfulQueries.{query_lawful}
 

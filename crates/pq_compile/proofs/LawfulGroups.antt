@@ -20,7 +20,7 @@ use Rattle.pq_topo.proofs.SwitchRules.{all_push}
 use Rattle.pq_pred.specs.Values.{field_at, value_of}
 use Rattle.pq_query.specs.Groups.{Group}
 use Rattle.pq_query.specs.Resolved.{fresh_at, value_at, values_after, is_listed, is_field, is_grouped, grouped_at, unstated, stated, with_values, group_at, groups_after}
-use Rattle.pq_compile.specs.Lawful.{AreLawfulValues, IsLawfulGroup, AreLawfulGroups}
+use Rattle.pq_query.specs.Lawful.{AreLawfulValues, IsLawfulGroup, AreLawfulGroups}
 use Rattle.pq_compile.proofs.Fits.{value_fits}
 use Rattle.pq_compile.proofs.LawfulPreds.{named_ok}
 

@@ -16,7 +16,7 @@ use Rattle.pq_topo.proofs.Readings.{next_ok}
 use Rattle.pq_query.specs.Groups.{Group}
 use Rattle.pq_query.specs.Query.{QueryTop, Enters, Leaves, Passes, Ends, InTurn, Either, Both, Other, Repeated, Queries, none, QueryTree, leaf, queries}
 use Rattle.pq_query.specs.Resolved.{Side, later, pred_in, groups_in, bare_in, grouped_in, entering, leaving, passing, hop_of, grouped_hop_of, end_of, single, joined, atom_of, query_step, query_readings, query_of}
-use Rattle.pq_compile.specs.Lawful.{AreLawfulGroups, IsLawfulTop, AreLawfulQueries, IsLawfulQuery}
+use Rattle.pq_query.specs.Lawful.{AreLawfulGroups, IsLawfulTop, AreLawfulQueries, IsLawfulQuery}
 use Rattle.pq_compile.proofs.LawfulPreds.{all_gathered, pred_lawful}
 use Rattle.pq_compile.proofs.LawfulGroups.{none_lawful, groups_lawful}
 

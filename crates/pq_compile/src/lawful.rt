@@ -10,7 +10,8 @@ ghost use Rattle.pq_policy.specs.Resolved.{policy_of};
 ghost use Rattle.pq_query.specs.Query.{QueryTree};
 ghost use Rattle.pq_query.specs.Resolved.{query_of};
 ghost use Rattle.pq_compile.specs.Documents.{DocumentTree, Spells};
-ghost use Rattle.pq_compile.specs.Lawful.{IsLawfulQuery, IsLawfulDocument};
+ghost use Rattle.pq_query.specs.Lawful.{IsLawfulQuery};
+ghost use Rattle.pq_compile.specs.Lawful.{IsLawfulDocument};
 
 /// A predicate that is read for a network is lawful: numbers fit their fields, and no list of operands is empty.
 pub fn predicates_that_are_read_are_lawful()

@@ -85,7 +85,7 @@ is_prefixed f = nat_lt 5 (rank f) && nat_lt (rank f) 8
 abbrev pub IsLawfulTop : PredTop → Preds → Type 0
 IsLawfulTop Always below = Unit {0}
 IsLawfulTop Never below = Unit {0}
-IsLawfulTop (Equals f n) below = (is_wide f ≡ false) × (n < 2 ^ width_of f)
+IsLawfulTop (Equals f n) below = n < 2 ^ width_of f
 IsLawfulTop (Leads f n len) below = (is_prefixed f ≡ true) × (n < 2 ^ 32) × (len ≤ 32)
 IsLawfulTop (LeadsWide f n len) below = (is_wide f ≡ true) × (n < 2 ^ 128) × (len ≤ 128)
 IsLawfulTop Every below = below ≢ none

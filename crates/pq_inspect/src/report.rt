@@ -2,7 +2,7 @@ ghost use Rattle.pq_inspect.specs.Inspection.{pair_data, row_data};
 
 use crate::shown::{Shown, list};
 use pq_install::ReportRow;
-use pq_query::Instance;
+use pq_model::Instance;
 use serde_json::{Value, json};
 use std::alloc::{AllocError, Global};
 

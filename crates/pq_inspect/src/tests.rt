@@ -8,7 +8,7 @@ use crate::inspect;
 use pq_fields::Label;
 use pq_flowmod::{Action, GroupCommand, GroupMod, Message};
 use pq_install::{Install, ReportRow};
-use pq_query::Instance;
+use pq_model::Instance;
 use pq_term::Name;
 use pq_topo::{Link, Switch, Topology};
 use std::alloc::{AllocError, Global};

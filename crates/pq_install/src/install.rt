@@ -1,5 +1,5 @@
 use pq_flowmod::Message;
-use pq_query::Instance;
+use pq_model::Instance;
 use pq_term::Name;
 use pq_topo::Topology;
 use std::marker::Model;

@@ -5,8 +5,8 @@ ghost use Rattle.pq_model.specs.Install.{pair_bytes, row_bytes};
 
 use crate::install::ReportRow;
 use crate::numbers::{write_count, write_u64s};
+use pq_model::Instance;
 use pq_oxm::write_length;
-use pq_query::Instance;
 use std::alloc::AllocError;
 
 // An instance: the index of its query, the count of its label's values, and the values.

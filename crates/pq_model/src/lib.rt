@@ -10,6 +10,7 @@ mod covering;
 mod event;
 mod flow_mod;
 mod group_mod;
+mod instance;
 mod matching;
 mod message;
 mod orders;
@@ -26,6 +27,7 @@ pub use commuting::{commuting_is_symmetric, flow_mods_commute, group_mods_commut
 pub use event::Event;
 pub use flow_mod::{FlowCommand, FlowMod};
 pub use group_mod::{GroupCommand, GroupMod};
+pub use instance::Instance;
 pub use matching::Match;
 pub use message::Message;
 pub use orders::{

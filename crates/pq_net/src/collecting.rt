@@ -6,8 +6,7 @@ use crate::entry::Entry;
 use crate::lookups::pairs_of;
 use pq_fields::Packet;
 use pq_install::ReportRow;
-use pq_model::Sent;
-use pq_query::Instance;
+use pq_model::{Instance, Sent};
 use std::alloc::{AllocError, Global};
 
 /// Adds an entry for each instance of the row of the tag of a copy to the controller.

@@ -1,5 +1,5 @@
 use pq_fields::Packet;
-use pq_query::Instance;
+use pq_model::Instance;
 use std::marker::Model;
 
 /// An entry of a bucket: what the collector gets for one packet and one instance.

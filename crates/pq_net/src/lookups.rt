@@ -7,7 +7,7 @@ ghost use Rattle.pq_net.specs.Searches.{IsAt, IsNowhere};
 
 use crate::wiring::Wiring;
 use pq_install::ReportRow;
-use pq_query::Instance;
+use pq_model::Instance;
 use pq_switch::{Sent, Tables, Tagged, hop};
 use pq_topo::Switch;
 use std::alloc::{AllocError, Global};

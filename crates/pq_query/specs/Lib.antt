@@ -5,3 +5,4 @@ pub mod Labels
 pub mod Language
 pub mod Instances
 pub mod Counts
+pub mod Lawful

@@ -5,7 +5,6 @@ mod atoms;
 mod counts;
 mod group;
 mod groups;
-mod instance;
 mod listing;
 mod query;
 mod resolve;
@@ -14,8 +13,8 @@ mod values;
 
 pub use counts::label_count;
 pub use group::Group;
-pub use instance::Instance;
 pub use listing::{InstancesFault, instances};
+pub use pq_model::Instance;
 pub use query::Query;
 pub use resolve::resolve_query;
 

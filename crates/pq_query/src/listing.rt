@@ -6,11 +6,11 @@ ghost use Rattle.pq_query.specs.Labels.{ascending, datapath_numbers, one_from_ea
 ghost use Rattle.pq_query.specs.Query.{query_tree};
 
 use crate::counts::{count_all, count_labels};
-use crate::instance::Instance;
 use crate::query::Query;
 use crate::sizes::{Sizes, sizes_of};
 use crate::values::{Values, datapath_values, port_values, value_lists};
 use pq_fields::Label;
+use pq_model::Instance;
 use pq_term::Name;
 use pq_topo::Topology;
 use std::alloc::{AllocError, Global};

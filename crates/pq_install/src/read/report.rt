@@ -13,7 +13,7 @@ use crate::fault::Fault;
 use crate::install::ReportRow;
 use crate::read::front::{count_at, counted_u64s_at, u16_at};
 use pq_fields::Label;
-use pq_query::Instance;
+use pq_model::Instance;
 use std::alloc::{AllocError, Global};
 
 /// The greatest VLAN number that marks a packet.
