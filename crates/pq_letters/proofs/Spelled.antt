@@ -4,10 +4,11 @@ use Rattle.std.specs.Option.{unwrap_or}
 use Rattle.std.proofs.lemmas.List.Elements.{All-head, All-tail}
 use Rattle.std.proofs.lemmas.List.{length-map}
 use Rattle.pq_fields.specs.Packet.{Numbers, Fit, is_before, numbers, zero_packet}
+use Rattle.pq_model.specs.Classes.{AllObservedFit}
 use Rattle.pq_model.specs.Word.{Word, Observation, In, Out, alternates, observed_packet, word_is_before}
 use Rattle.pq_store.specs.Least.{precedes}
 use Rattle.pq_letters.specs.Letters.{LettersValue, IsLettered, IsLeastOf, letter_at}
-use Rattle.pq_letters.specs.Words.{AllObservedFit, least_observation, least_word, letter_number, letters_are_before, letters_of}
+use Rattle.pq_letters.specs.Words.{least_observation, least_word, letter_number, letters_are_before, letters_of}
 use Rattle.pq_letters.proofs.NumberLists.{by_first, by_piece, first_or_rest, not_by_piece, same_first, same_piece}
 
 -- the numbers of the packets that a word observes, one packet after the other

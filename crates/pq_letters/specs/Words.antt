@@ -1,8 +1,8 @@
 -- Words of packets and words of letters.
-use Rattle.std.specs.Prelude.{ℕ, Bool, List, ◌∷◌, length, map, All}
+use Rattle.std.specs.Prelude.{ℕ, Bool, List, ◌∷◌, length, map}
 use Rattle.std.specs.Option.{unwrap_or}
 use Rattle.std.proofs.Math.ListN.{get_or}
-use Rattle.pq_fields.specs.Packet.{Numbers, Fit, is_before, zero_packet}
+use Rattle.pq_fields.specs.Packet.{Numbers, is_before, zero_packet}
 use Rattle.pq_model.specs.Word.{Word, Observation, In, Out, observed_packet}
 use Rattle.pq_letters.specs.Letters.{LettersValue, letter_at}
 
@@ -22,10 +22,6 @@ least_observation a (Out x) = Out (get_or a.least (letter_number a x) zero_packe
 -- the word with the least packet of each letter
 abbrev pub least_word : LettersValue → Word → Word
 least_word a w = map (least_observation a) w
-
--- each packet that the word observes fits
-abbrev pub AllObservedFit : Word → Type 0
-AllObservedFit w = All (λ o. Fit (observed_packet o)) w
 
 -- words of letters are in the order of their length, and then of their letters, the first that differs deciding
 abbrev pub letters_are_before : List ℕ → List ℕ → Bool

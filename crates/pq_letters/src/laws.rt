@@ -1,6 +1,7 @@
 ghost use Rattle.std.specs.Prelude.{◌≡◌, true, false};
+ghost use Rattle.pq_model.specs.Classes.{AllObservedFit};
 ghost use Rattle.pq_model.specs.Word.{Word, is_word, word_is_before};
-ghost use Rattle.pq_letters.specs.Words.{AllObservedFit, least_word, letters_are_before, letters_of};
+ghost use Rattle.pq_letters.specs.Words.{least_word, letters_are_before, letters_of};
 
 use crate::letters::Letters;
 

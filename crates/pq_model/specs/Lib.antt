@@ -16,3 +16,4 @@ pub mod TablesMachine
 pub mod Tagged
 pub mod Topology
 pub mod Word
+pub mod Classes

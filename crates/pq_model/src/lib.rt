@@ -6,6 +6,7 @@
 mod action;
 mod blocks;
 mod commuting;
+mod copying;
 mod covering;
 mod event;
 mod flow_mod;

@@ -6,3 +6,4 @@ pub mod Language
 pub mod Instances
 pub mod Counts
 pub mod Lawful
+pub mod Languages

@@ -1,0 +1,4 @@
+pub mod Order
+pub mod Spelled
+pub mod Following
+pub mod Joined

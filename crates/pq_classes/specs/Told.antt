@@ -1,0 +1,31 @@
+-- What letters of packets and an automaton over them tell of words of packets.
+use Rattle.std.specs.Prelude.{◌≡◌, ◌↔◌, ℕ, suc, ◌<◌, List, length}
+use Rattle.std.specs.List.{Contains}
+use Rattle.pq_model.specs.Classes.{Languages, HasClasses, IsPath, IsTag, has_even_length}
+use Rattle.pq_model.specs.Lawful.{Ascends}
+use Rattle.pq_model.specs.Word.{Word}
+use Rattle.pq_auto.specs.Machine.{Machine, accepted_at, is_even_at, reached}
+use Rattle.pq_letters.specs.Letters.{LettersValue}
+use Rattle.pq_letters.specs.Words.{letters_of}
+
+-- the class of a word: the state that the letters of its packets lead to
+abbrev pub class_of : LettersValue → Machine → Word → ℕ
+class_of a m w = reached m (letters_of a w)
+
+-- these are the instances that hold the word, ascending
+pub record AreHolding (Ls : Languages) (w : Word) (is : List ℕ) : Type 0 where
+  pub ascend : Ascends is
+  pub exact : (i : ℕ) → Contains is i ↔ Ls i w
+
+-- the class of the word says its parity, which instances hold it, and its tag
+pub record IsTold (Ls : Languages) (a : LettersValue) (m : Machine) (w : Word) : Type 0 where
+  pub within : class_of a m w < length m.rows
+  pub even : is_even_at m (class_of a m w) ≡ has_even_length w
+  pub accepted : AreHolding Ls w (accepted_at m (class_of a m w))
+  pub tag : IsTag Ls w (suc (class_of a m w))
+
+-- the automaton's states are the classes of words, over these letters
+pub record AreClasses (Ls : Languages) (a : LettersValue) (m : Machine) : Type 0 where
+  pub letters : m.letters ≡ length a.least
+  pub told : (w : Word) → IsPath w → IsTold Ls a m w
+  pub count : HasClasses Ls (length m.rows)

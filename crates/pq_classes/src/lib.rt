@@ -1,0 +1,2 @@
+//! The classes of the words that the instances of queries tell apart, over letters of packets.
+#![tactic(auto)]
