@@ -16,50 +16,6 @@ fn packet_of(eth_type: u64, ip_proto: u64) -> Packet
 }
 
 #[test]
-fn widths_are_those_of_the_headers(rt: HostRuntime) {
-    for (field, bits) in [
-        (Field::Switch, 64),
-        (Field::Port, 32),
-        (Field::EthType, 16),
-        (Field::IpProto, 8),
-        (Field::EthSrc, 48),
-        (Field::EthDst, 48),
-        (Field::Ipv4Src, 32),
-        (Field::Ipv4Dst, 32),
-        (Field::TcpSrc, 16),
-        (Field::TcpDst, 16),
-        (Field::UdpSrc, 16),
-        (Field::UdpDst, 16),
-        (Field::Ipv6Src, 128),
-        (Field::Ipv6Dst, 128),
-    ] {
-        assert_eq!(rt; width(field), bits);
-    }
-}
-
-#[test]
-fn headers_follow_the_types_before_them(rt: HostRuntime) {
-    let tcp = packet_of(0x0800, 6);
-    assert!(rt; has(Field::TcpSrc, &tcp));
-    assert!(rt; has(Field::Ipv4Dst, &tcp));
-    assert!(rt; !has(Field::UdpSrc, &tcp));
-    assert!(rt; !has(Field::Ipv6Dst, &tcp));
-
-    let udp_over_ipv6 = packet_of(0x86dd, 17);
-    assert!(rt; has(Field::UdpDst, &udp_over_ipv6));
-    assert!(rt; has(Field::IpProto, &udp_over_ipv6));
-    assert!(rt; has(Field::Ipv6Src, &udp_over_ipv6));
-    assert!(rt; !has(Field::TcpDst, &udp_over_ipv6));
-    assert!(rt; !has(Field::Ipv4Src, &udp_over_ipv6));
-
-    let arp = packet_of(0x0806, 6);
-    assert!(rt; has(Field::EthDst, &arp));
-    assert!(rt; has(Field::Port, &arp));
-    assert!(rt; !has(Field::IpProto, &arp));
-    assert!(rt; !has(Field::TcpSrc, &arp));
-}
-
-#[test]
 fn bits_are_counted_from_the_highest(rt: HostRuntime) {
     let x = Packet::zero()
         .with(Field::Ipv4Dst, 0xc000_0201)
@@ -76,18 +32,6 @@ fn bits_are_counted_from_the_highest(rt: HostRuntime) {
         assert!(rt; u32::from(index) < width(field));
         assert_eq!(rt; x.bit(field, index), set);
     }
-}
-
-#[test]
-fn a_write_changes_one_field(rt: HostRuntime) {
-    let x = Packet::zero().with(Field::UdpSrc, 53);
-    fits(x);
-    packets_are_ordered_by_numbers();
-    assert_eq!(rt; x.get(Field::UdpSrc), 53);
-    assert_eq!(rt; x.get(Field::UdpDst), 0);
-    assert_eq!(rt; x.with(Field::UdpSrc, 0), Packet::zero());
-    assert!(rt; Packet::zero() < x);
-    assert!(rt; x < Packet::zero().with(Field::TcpDst, 1));
 }
 
 #[test]
@@ -156,37 +100,6 @@ fn tests_look_at_fields_that_are_there(rt: HostRuntime) {
 }
 
 #[test]
-fn operators_join_tests(rt: HostRuntime) -> Result<(), AllocError> {
-    let x = packet_of(0x0800, 17).with(Field::UdpDst, 53);
-    let mut both = Vec::new(rt.alloc());
-    both.push(Pred::Equal(Field::UdpDst, 53))?;
-    both.push(Pred::Equal(Field::UdpSrc, 53))?;
-    assert!(rt; !holds(&Pred::And(both), &x));
-    let mut either = Vec::new(rt.alloc());
-    either.push(Pred::Equal(Field::UdpSrc, 53))?;
-    either.push(Pred::Equal(Field::UdpDst, 53))?;
-    assert!(rt; holds(&Pred::Or(either), &x));
-    let negated = Pred::Not(Box::new(rt.alloc(), Pred::Equal(Field::TcpDst, 53))?);
-    assert!(rt; holds(&negated, &x));
-    Ok(())
-}
-
-#[test]
-fn fields_have_names(rt: HostRuntime) {
-    for (name, field) in [
-        (b"switch" as &[u8], Some(Field::Switch)),
-        (b"ip_proto", Some(Field::IpProto)),
-        (b"ipv6_dst", Some(Field::Ipv6Dst)),
-        (b"ipv6", None),
-        (b"Port", None),
-        (b"", None),
-    ] {
-        assert_eq!(rt; field_named(name), field);
-    }
-    assert_eq!(rt; field_name(Field::UdpSrc), b"udp_src".as_slice());
-}
-
-#[test]
 fn writes_reach_the_fields_that_a_packet_has(rt: HostRuntime) {
     let writes = Writes::none()
         .set(Field::Port, 2)
@@ -218,22 +131,4 @@ fn writes_reach_the_fields_that_a_packet_has(rt: HostRuntime) {
     assert_eq!(rt; writes.get(Field::UdpDst), Some(67));
     assert_eq!(rt; writes.get(Field::TcpDst), None);
     assert_eq!(rt; writes.get(Field::EthType), None);
-}
-
-#[test]
-fn no_number_stands_below_every_number(rt: HostRuntime) {
-    let none = Writes::none();
-    for (lesser, greater) in [
-        (none, none.set(Field::Port, 0)),
-        (none.set(Field::Port, 0), none.set(Field::Port, 1)),
-        (none.set(Field::EthSrc, 9), none.set(Field::Port, 0)),
-        (none.set(Field::UdpDst, 9), none.set(Field::UdpSrc, 0)),
-        (
-            none.set(Field::TcpSrc, 1),
-            none.set(Field::TcpSrc, 1).set(Field::UdpDst, 0),
-        ),
-    ] {
-        assert!(rt; lesser < greater);
-        assert!(rt; lesser != greater);
-    }
 }

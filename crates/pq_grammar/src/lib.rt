@@ -22,6 +22,3 @@ pub use mark::{Lexeme, Mark};
 pub use parser::read_marks;
 pub use sort::Sort;
 pub use symbol::{Role, Symbol};
-
-#[cfg(test)]
-mod tests;

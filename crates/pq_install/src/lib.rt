@@ -21,6 +21,3 @@ pub use laws::{
 };
 pub use read::whole::read_install;
 pub use write::write_install;
-
-#[cfg(test)]
-mod tests;

@@ -7,6 +7,3 @@ mod values;
 
 pub use predicates::resolve_pred;
 pub use values::{faulty, field_at, port_value, value_of};
-
-#[cfg(test)]
-mod tests;

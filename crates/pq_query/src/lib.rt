@@ -17,6 +17,3 @@ pub use listing::{InstancesFault, instances};
 pub use pq_model::Instance;
 pub use query::Query;
 pub use resolve::resolve_query;
-
-#[cfg(test)]
-mod tests;

@@ -13,6 +13,3 @@ mod values;
 pub use event_line::event_of_line;
 pub use schedule::{ScheduleFault, a_text_is_read_one_way, read_schedule};
 pub use state::{write_bucket, write_delivered, write_flight};
-
-#[cfg(test)]
-mod tests;

@@ -14,6 +14,3 @@ pub use compile::{compile_small, install_does_what_the_form_means};
 pub use install::is_lawful_install;
 pub use reading::{is_one_small_form, read_small};
 pub use small::Small;
-
-#[cfg(test)]
-mod tests;

@@ -22,6 +22,3 @@ pub use names::{is_name, is_reserved};
 pub use numbers::{decimal_value, number_value};
 pub use scan::token_at;
 pub use token::{Kind, Next, Token};
-
-#[cfg(test)]
-mod tests;

@@ -12,6 +12,3 @@ pub use fault::{NameFault, NameKind};
 pub use link::Link;
 pub use switch::Switch;
 pub use topology::Topology;
-
-#[cfg(test)]
-mod tests;

@@ -11,6 +11,3 @@ pub use laws::has_one_reading;
 pub use reading::{read_edit, read_terms};
 pub use term::Term;
 pub use text::{class_in_text, text_in};
-
-#[cfg(test)]
-mod tests;
