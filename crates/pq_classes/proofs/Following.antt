@@ -27,13 +27,13 @@ follow_within m is s within (l ∷ w) (first, rest) =
 -- Lists that ascend.
 
 -- the list has the number at some place
-abbrev Has : List ℕ → ℕ → Type 0
+abbrev pub Has : List ℕ → ℕ → Type 0
 Has xs i = (k : ℕ) × (slice_get xs k ≡ Some i)
 
-has_from : (xs : List ℕ) (i : ℕ) → Contains xs i → Has xs i
+pub has_from : (xs : List ℕ) (i : ℕ) → Contains xs i → Has xs i
 has_from xs i (k, within, is) = (k, slice_get-get_or xs k i within ∙ ap Some is)
 
-contains_from : (xs : List ℕ) (i k : ℕ) → slice_get xs k ≡ Some i → Contains xs i
+pub contains_from : (xs : List ℕ) (i k : ℕ) → slice_get xs k ≡ Some i → Contains xs i
 contains_from xs i k at = (k, slice_get_within xs k i at, get_or_from_slice_get xs k i i at)
 
 -- each later number is greater than the first

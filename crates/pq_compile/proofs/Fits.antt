@@ -1,6 +1,6 @@
 -- The numbers that a text stands for fit the fields that they are read for.
 use Rattle.std.specs.Prelude.{◌≡◌, ℕ, ◌+◌, ◌-◌, ◌*◌, ◌^◌, ◌<◌, ◌≤◌, Bool, true, false, ◌&&◌, if◌then◌else◌, List, [], ◌∷◌, length, fold, ◌==◌, nat_le, bytes_eq, Option, Some, None, Ok, Err}
-use Rattle.std.specs.List.{AllByRecursion}
+use Rattle.std.specs.List.{AllByRecursion, Any}
 use Rattle.std.specs.Str.{byte}
 use Rattle.std.proofs.Common.{arith, suc, refl, sym, ap, subst}
 use Rattle.std.proofs.Math.Nat.{pow-zero, pow-succ', mul-le-mul_right, div-mul-le_self}
@@ -15,12 +15,13 @@ use Rattle.pq_term.proofs.GroupValues.{mac_groups, ipv4_groups, ipv6_groups}
 use Rattle.pq_fields.specs.declared.field.Field.{Field}
 use Rattle.pq_fields.specs.declared.field.Field.TheVariants.{Switch as SwitchField, Port, EthType, IpProto, EthSrc, EthDst, Ipv4Src, Ipv4Dst, TcpSrc, TcpDst, UdpSrc, UdpDst, Ipv6Src, Ipv6Dst}
 use Rattle.pq_fields.specs.Packet.{width_of, is_wide}
-use Rattle.pq_fields.specs.Pred.{PredTop, PredTree, Equals, Leads, LeadsWide, leaf, is_prefixed, IsLawfulPred}
+use Rattle.pq_fields.specs.Pred.{PredTop, PredTree, Equals, Leads, LeadsWide, leaf, is_prefixed, FitsField, IsPredOver}
 use Rattle.pq_model.specs.Topology.{Switch, Topology, named_in, switch_named}
 use Rattle.pq_model.specs.Install.{IsLawfulSwitch}
 use Rattle.pq_topo.specs.declared.fault.NameKind.{NameKind}
 use Rattle.pq_topo.specs.declared.fault.NameKind.TheVariants.{BadValue, UnknownSwitch}
 use Rattle.pq_topo.specs.Named.{IsNamedTopology}
+use Rattle.pq_pred.specs.Named.{MayStand}
 use Rattle.pq_pred.specs.Values.{Ruled, or_else, within, name_in, switch_value, value_of, cleared, address_test, address_part, length_part, ipv4_test, ipv6_test, exact_test, test_of}
 
 -- Addresses.
@@ -134,15 +135,15 @@ module _ (T : Topology) (named : IsNamedTopology T) where
 -- Tests.
 
 -- an IPv4 address has 32 bits
-prefixed_width : (f : Field) → is_prefixed f ≡ true → (width_of f ≡ 32) × (is_wide f ≡ false)
+prefixed_width : (f : Field) → is_prefixed f ≡ true → width_of f ≡ 32
 prefixed_width SwitchField e = absurd cc
 prefixed_width Port e = absurd cc
 prefixed_width EthType e = absurd cc
 prefixed_width IpProto e = absurd cc
 prefixed_width EthSrc e = absurd cc
 prefixed_width EthDst e = absurd cc
-prefixed_width Ipv4Src e = (refl, refl)
-prefixed_width Ipv4Dst e = (refl, refl)
+prefixed_width Ipv4Src e = refl
+prefixed_width Ipv4Dst e = refl
 prefixed_width TcpSrc e = absurd cc
 prefixed_width TcpDst e = absurd cc
 prefixed_width UdpSrc e = absurd cc
@@ -165,10 +166,10 @@ decimal_most most text n e = by (is_decimal most text) refl e
     by false is e = absurd cc
 
 -- what holds of the test of all bits, and of each prefix, holds of a test of an address
-address_lawful : (P : PredTree → Type 0) (exact : ℕ → PredTop) (prefix : ℕ → ℕ → PredTop) (most : ℕ) (number : Option ℕ) (length : Option (List ℕ)) (p : PredTree) → ((n : ℕ) → number ≡ Some n → P (leaf (exact n))) → ((n len : ℕ) → number ≡ Some n → len ≤ most → P (leaf (prefix n len))) → address_test exact prefix most number length ≡ Ok p → P p
-address_lawful P exact prefix most None length p whole part e = absurd cc
-address_lawful P exact prefix most (Some n) None p whole part e = let same : leaf (exact n) ≡ p = cc in subst P same (whole n refl)
-address_lawful P exact prefix most (Some n) (Some length) p whole part e = by (decimal_of most length) refl e
+address_over : (P : PredTree → Type 0) (exact : ℕ → PredTop) (prefix : ℕ → ℕ → PredTop) (most : ℕ) (number : Option ℕ) (length : Option (List ℕ)) (p : PredTree) → ((n : ℕ) → number ≡ Some n → P (leaf (exact n))) → ((n len : ℕ) → number ≡ Some n → len ≤ most → P (leaf (prefix n len))) → address_test exact prefix most number length ≡ Ok p → P p
+address_over P exact prefix most None length p whole part e = absurd cc
+address_over P exact prefix most (Some n) None p whole part e = let same : leaf (exact n) ≡ p = cc in subst P same (whole n refl)
+address_over P exact prefix most (Some n) (Some length) p whole part e = by (decimal_of most length) refl e
   where
     by : (o : Option ℕ) → decimal_of most length ≡ o → address_test exact prefix most (Some n) (Some length) ≡ Ok p → P p
     by (Some len) is e =
@@ -179,29 +180,89 @@ address_lawful P exact prefix most (Some n) (Some length) p whole part e = by (d
         let made : address_test exact prefix most (Some n) (Some length) ≡ Err BadValue = rw is refl in
         absurd cc
 
-ipv4_lawful : (f : Field) (text : List ℕ) (p : PredTree) → is_prefixed f ≡ true → ipv4_test f text ≡ Ok p → IsLawfulPred p
-ipv4_lawful f text p is e =
-    address_lawful IsLawfulPred (Equals f) (λ n len. Leads f (cleared f len n) len) 32 (ipv4_of (address_part text)) (length_part text) p
-    (λ n there. (((prefixed_width f is).1, subst (λ w. n < 2 ^ w) (sym (prefixed_width f is).0) (ipv4_fits (address_part text) n there)), tt, tt))
-    (λ n len there short. ((is, cleared_fits f len n (2 ^ 32) (ipv4_fits (address_part text) n there), short), tt, tt))
-    e
+-- what is read as a value of a field may stand for it, as V says
+pub record ReadsOver (T : Topology) (V : Field → ℕ → Type 0) : Type 0 where
+  pub values : (f : Field) (text : List ℕ) (n : ℕ) → value_of T f text ≡ Ok n → V f n
+  pub addresses : (f : Field) (n : ℕ) → is_prefixed f ≡ true → n < 2 ^ 32 → V f n
 
-ipv6_lawful : (f : Field) (text : List ℕ) (p : PredTree) → is_wide f ≡ true → ipv6_test f text ≡ Ok p → IsLawfulPred p
-ipv6_lawful f text p is e =
-    address_lawful IsLawfulPred (λ n. LeadsWide f n 128) (λ n len. LeadsWide f (cleared f len n) len) 128 (ipv6_of (address_part text)) (length_part text) p
-    (λ n there. ((is, ipv6_fits (address_part text) n there, omega arith), tt, tt))
-    (λ n len there short. ((is, cleared_fits f len n (2 ^ 128) (ipv6_fits (address_part text) n there), short), tt, tt))
-    e
+-- it fits the width of the field
+pub reads_fitting : (T : Topology) → IsNamedTopology T → ReadsOver T FitsField
+reads_fitting T named = record { values = value_fits T named; addresses = λ f n is fits. subst (λ w. n < 2 ^ w) (sym (prefixed_width f is)) fits }
 
-exact_lawful : (f : Field) (r : Ruled ℕ) (p : PredTree) → is_wide f ≡ false → ((n : ℕ) → r ≡ Ok n → n < 2 ^ width_of f) → exact_test f r ≡ Ok p → IsLawfulPred p
-exact_lawful f (Ok n) p is fits e = let same : leaf (Equals f n) ≡ p = cc in subst IsLawfulPred same (fits n refl, tt, tt)
-exact_lawful f (Err kind) p is fits e = absurd cc
+module _ (T : Topology) where
+  -- the switch with a name has its datapath number
+  datapath_named : (ss : List Switch) (name : List ℕ) (n : ℕ) → named_in ss name ≡ Some n → Any (λ s. s.datapath ≡ n) ss
+  datapath_named [] name n e = absurd cc
+  datapath_named (s ∷ ss) name n e = by (bytes_eq s.name name) e (datapath_named ss name n)
+    where
+      by : (b : Bool) → (if b then Some s.datapath else named_in ss name) ≡ Some n → (named_in ss name ≡ Some n → Any (λ s. s.datapath ≡ n) ss) → Any (λ s. s.datapath ≡ n) (s ∷ ss)
+      by true e more = let same : s.datapath ≡ n = cc in (0, s, omega arith, refl, same)
+      by false e more = let found = more e in (suc found.0, found.1, omega (arith, found.2), found.3, found.4)
 
--- the test of a field for a value is lawful
-pub test_lawful : (T : Topology) → IsNamedTopology T → (f : Field) (text : List ℕ) (p : PredTree) → test_of T f text ≡ Ok p → IsLawfulPred p
-test_lawful T named f text p e = by (is_prefixed f) refl (is_wide f) refl e
-  where
-    by : (b : Bool) → is_prefixed f ≡ b → (c : Bool) → is_wide f ≡ c → (if b then ipv4_test f text else if c then ipv6_test f text else exact_test f (value_of T f text)) ≡ Ok p → IsLawfulPred p
-    by true is c wide e = ipv4_lawful f text p is e
-    by false is true wide e = ipv6_lawful f text p wide e
-    by false is false wide e = exact_lawful f (value_of T f text) p wide (value_fits T named f text) e
+  switch_stands : (name : Option (List ℕ)) (n : ℕ) → switch_value T name ≡ Ok n → Any (λ s. s.datapath ≡ n) T.switches
+  switch_stands (Some name) n e = datapath_named T.switches name n (there UnknownSwitch (switch_named T name) n e)
+  switch_stands None n e = absurd cc
+
+  value_stands : (f : Field) (text : List ℕ) (n : ℕ) → value_of T f text ≡ Ok n → MayStand T f n
+  value_stands SwitchField text n e = switch_stands (name_in text) n e
+  value_stands Port text n e = within_bounds 1 4294967040 (number_of text) n e
+  value_stands EthType text n e = tt
+  value_stands IpProto text n e = tt
+  value_stands EthSrc text n e = tt
+  value_stands EthDst text n e = tt
+  value_stands Ipv4Src text n e = tt
+  value_stands Ipv4Dst text n e = tt
+  value_stands TcpSrc text n e = tt
+  value_stands TcpDst text n e = tt
+  value_stands UdpSrc text n e = tt
+  value_stands UdpDst text n e = tt
+  value_stands Ipv6Src text n e = tt
+  value_stands Ipv6Dst text n e = tt
+
+  address_stands : (f : Field) (n : ℕ) → is_prefixed f ≡ true → n < 2 ^ 32 → MayStand T f n
+  address_stands SwitchField n is fits = absurd cc
+  address_stands Port n is fits = absurd cc
+  address_stands EthType n is fits = tt
+  address_stands IpProto n is fits = tt
+  address_stands EthSrc n is fits = tt
+  address_stands EthDst n is fits = tt
+  address_stands Ipv4Src n is fits = tt
+  address_stands Ipv4Dst n is fits = tt
+  address_stands TcpSrc n is fits = tt
+  address_stands TcpDst n is fits = tt
+  address_stands UdpSrc n is fits = tt
+  address_stands UdpDst n is fits = tt
+  address_stands Ipv6Src n is fits = tt
+  address_stands Ipv6Dst n is fits = tt
+
+  -- it is a number of the network
+  pub reads_standing : ReadsOver T (MayStand T)
+  reads_standing = record { values = value_stands; addresses = address_stands }
+
+module _ (T : Topology) (V : Field → ℕ → Type 0) (over : ReadsOver T V) where
+  ipv4_over : (f : Field) (text : List ℕ) (p : PredTree) → is_prefixed f ≡ true → ipv4_test f text ≡ Ok p → IsPredOver V p
+  ipv4_over f text p is e =
+      address_over (IsPredOver V) (Equals f) (λ n len. Leads f (cleared f len n) len) 32 (ipv4_of (address_part text)) (length_part text) p
+      (λ n there. (over.addresses f n is (ipv4_fits (address_part text) n there), tt, tt))
+      (λ n len there short. ((is, cleared_fits f len n (2 ^ 32) (ipv4_fits (address_part text) n there), short), tt, tt))
+      e
+
+  ipv6_over : (f : Field) (text : List ℕ) (p : PredTree) → is_wide f ≡ true → ipv6_test f text ≡ Ok p → IsPredOver V p
+  ipv6_over f text p is e =
+      address_over (IsPredOver V) (λ n. LeadsWide f n 128) (λ n len. LeadsWide f (cleared f len n) len) 128 (ipv6_of (address_part text)) (length_part text) p
+      (λ n there. ((is, ipv6_fits (address_part text) n there, omega arith), tt, tt))
+      (λ n len there short. ((is, cleared_fits f len n (2 ^ 128) (ipv6_fits (address_part text) n there), short), tt, tt))
+      e
+
+  exact_over : (f : Field) (r : Ruled ℕ) (p : PredTree) → ((n : ℕ) → r ≡ Ok n → V f n) → exact_test f r ≡ Ok p → IsPredOver V p
+  exact_over f (Ok n) p stands e = let same : leaf (Equals f n) ≡ p = cc in subst (IsPredOver V) same (stands n refl, tt, tt)
+  exact_over f (Err kind) p stands e = absurd cc
+
+  -- the test of a field for a value
+  pub test_over : (f : Field) (text : List ℕ) (p : PredTree) → test_of T f text ≡ Ok p → IsPredOver V p
+  test_over f text p e = by (is_prefixed f) refl (is_wide f) refl e
+    where
+      by : (b : Bool) → is_prefixed f ≡ b → (c : Bool) → is_wide f ≡ c → (if b then ipv4_test f text else if c then ipv6_test f text else exact_test f (value_of T f text)) ≡ Ok p → IsPredOver V p
+      by true is c wide e = ipv4_over f text p is e
+      by false is true wide e = ipv6_over f text p wide e
+      by false is false wide e = exact_over f (value_of T f text) p (over.values f text) e

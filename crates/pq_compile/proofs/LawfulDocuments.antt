@@ -22,16 +22,19 @@ use Rattle.pq_topo.proofs.Readings.{next_ok, unless_ok}
 use Rattle.pq_topo.proofs.SwitchRules.{all_push, network_of}
 use Rattle.pq_topo.proofs.LinkRules.{network_with}
 use Rattle.pq_pred.specs.Values.{name_in}
-use Rattle.pq_policy.specs.Policy.{PolicyTree, IsLawfulPolicy}
+use Rattle.pq_policy.specs.Policy.{PolicyTree, IsLawfulPolicy, IsPolicyOver}
 use Rattle.pq_policy.specs.Resolved.{policy_of}
 use Rattle.pq_query.specs.Query.{QueryTree}
 use Rattle.pq_query.specs.Resolved.{query_of}
 use Rattle.pq_compile.specs.Names.{keyword_at, new_name, name_at, Named, named_of, named_after}
 use Rattle.pq_compile.specs.Documents.{DocumentTree, parts_of, queries_of, document_of}
-use Rattle.pq_query.specs.Lawful.{IsLawfulQuery}
+use Rattle.pq_fields.specs.Pred.{FitsField}
+use Rattle.pq_pred.specs.Named.{MayStand}
+use Rattle.pq_query.specs.Lawful.{IsLawfulQuery, IsQueryOver}
 use Rattle.pq_compile.specs.Lawful.{AreLawfulNames, names_in, IsLawfulDocument}
-use Rattle.pq_compile.proofs.LawfulPolicies.{policy_lawful}
-use Rattle.pq_compile.proofs.LawfulQueries.{query_lawful}
+use Rattle.pq_compile.proofs.Fits.{reads_fitting, reads_standing}
+use Rattle.pq_compile.proofs.LawfulPolicies.{policy_over}
+use Rattle.pq_compile.proofs.LawfulQueries.{query_over}
 
 -- Names.
 
@@ -122,16 +125,22 @@ topology_lawful bytes f T e =
 -- what stands in a document that is read for a network
 described : (bytes : List ℕ) (f : Forest) (T : Topology) → IsNamedTopology T → (parts : List (Named PolicyTree)) (queries : List (Named QueryTree)) (d : DocumentTree) → parts_of T bytes f ≡ Ok parts → queries_of T bytes f ≡ Ok queries → record { topology = T; parts = parts; queries = queries } ≡ d → IsLawfulDocument d
 described bytes f T network parts queries d parted asked same =
-    let policies = statements_lawful PolicyTree IsLawfulPolicy bytes PartWord 1024 (policy_of T bytes) (policy_lawful T network bytes) f parts parted in
-    let questions = statements_lawful QueryTree IsLawfulQuery bytes QueryWord 256 (query_of T bytes) (query_lawful T network bytes) f queries asked in
+    let fitting = reads_fitting T network in
+    let standing = reads_standing T in
+    let policies = statements_lawful PolicyTree IsLawfulPolicy bytes PartWord 1024 (policy_of T bytes) (policy_over T FitsField fitting bytes) f parts parted in
+    let named_policies = statements_lawful PolicyTree (IsPolicyOver (MayStand T)) bytes PartWord 1024 (policy_of T bytes) (policy_over T (MayStand T) standing bytes) f parts parted in
+    let questions = statements_lawful QueryTree IsLawfulQuery bytes QueryWord 256 (query_of T bytes) (query_over T FitsField fitting bytes) f queries asked in
+    let named_questions = statements_lawful QueryTree (IsQueryOver (MayStand T)) bytes QueryWord 256 (query_of T bytes) (query_over T (MayStand T) standing bytes) f queries asked in
     subst IsLawfulDocument same (record {
       topology = network;
       few_parts = policies.0;
       part_names = policies.1;
       parts = policies.2;
+      named_parts = named_policies.2;
       few_queries = questions.0;
       query_names = questions.1;
       queries = questions.2;
+      named_queries = named_questions.2;
     })
 
 -- what statements describe is lawful

@@ -13,27 +13,26 @@ use Rattle.pq_fields.specs.declared.field.Field.{Field}
 use Rattle.pq_fields.specs.Packet.{width_of, is_wide, rank}
 use Rattle.pq_model.specs.Topology.{Topology}
 use Rattle.pq_topo.specs.declared.fault.NameKind.TheVariants.{Doubled, NotListed}
-use Rattle.pq_topo.specs.Named.{IsNamedTopology}
 use Rattle.pq_topo.specs.Naming.{unless, named}
 use Rattle.pq_topo.proofs.Readings.{next_ok, unless_ok}
 use Rattle.pq_topo.proofs.SwitchRules.{all_push}
 use Rattle.pq_pred.specs.Values.{field_at, value_of}
 use Rattle.pq_query.specs.Groups.{Group}
 use Rattle.pq_query.specs.Resolved.{fresh_at, value_at, values_after, is_listed, is_field, is_grouped, grouped_at, unstated, stated, with_values, group_at, groups_after}
-use Rattle.pq_query.specs.Lawful.{AreLawfulValues, IsLawfulGroup, AreLawfulGroups}
-use Rattle.pq_compile.proofs.Fits.{value_fits}
+use Rattle.pq_query.specs.Lawful.{AreValuesOver, IsGroupOver, AreGroupsOver}
+use Rattle.pq_compile.proofs.Fits.{ReadsOver}
 use Rattle.pq_compile.proofs.LawfulPreds.{named_ok}
 
 -- Values.
 
 -- values of a list that were read so far
-record AreReadValues (f : Field) (ns : List ℕ) : Type 0 where
-  pub fit : AllByRecursion (λ n. n < 2 ^ width_of f) ns
+record AreReadValues (V : Field → ℕ → Type 0) (f : Field) (ns : List ℕ) : Type 0 where
+  pub fit : AllByRecursion (V f) ns
   pub differ : IsDistinct nat_eq ns
 
-no_values : (f : Field) → AreReadValues f []
+no_values : (V : Field → ℕ → Type 0) (f : Field) → AreReadValues V f []
 unfolding IsDistinct
-no_values f = record { fit = tt; differ = tt }
+no_values V f = record { fit = tt; differ = tt }
 
 -- the same field has the same place
 field_equiv : IsEquivalence is_field
@@ -48,21 +47,21 @@ grouped : (f : Field) (gs : List Group) → list_any (is_field f) (map (λ g. g.
 grouped f [] = refl
 grouped f (g ∷ gs) = ap (λ b. is_field f g.field || b) (grouped f gs)
 
-module _ (T : Topology) (network : IsNamedTopology T) (bytes : List ℕ) where
-  value_kept : (f : Field) (earlier : List ℕ) (t : Token) (n : ℕ) → value_at T bytes f earlier t ≡ Ok n → AreReadValues f earlier → AreReadValues f (earlier ++ n ∷ [])
+module _ (T : Topology) (V : Field → ℕ → Type 0) (over : ReadsOver T V) (bytes : List ℕ) where
+  value_kept : (f : Field) (earlier : List ℕ) (t : Token) (n : ℕ) → value_at T bytes f earlier t ≡ Ok n → AreReadValues V f earlier → AreReadValues V f (earlier ++ n ∷ [])
   value_kept f earlier t n e are =
       let value = value_of T f (text_in bytes t) in
       let told = next_ok (named t value) (fresh_at earlier t) n e in
       let m = told.0 in
       let fresh = unless_ok t ((list_any (λ k. m == k) earlier, Doubled) ∷ []) m n told.2 in
-      let fits : m < 2 ^ width_of f = value_fits T network f (text_in bytes t) m (named_ok t value m told.1) in
-      subst (λ k. AreReadValues f (earlier ++ k ∷ [])) fresh.1 (record {
-        fit = all_push (λ n. n < 2 ^ width_of f) earlier m are.fit fits;
+      let fits : V f m = over.values f (text_in bytes t) m (named_ok t value m told.1) in
+      subst (λ k. AreReadValues V f (earlier ++ k ∷ [])) fresh.1 (record {
+        fit = all_push (V f) earlier m are.fit fits;
         differ = IsDistinct-push nat_eq_equiv earlier m are.differ fresh.0.0;
       })
 
-  values_kept : (f : Field) (earlier : List ℕ) (below : Forest) (ns : List ℕ) → values_after T bytes f earlier below ≡ Ok ns → AreReadValues f earlier → AreReadValues f ns × (length earlier ≤ length ns)
-  values_kept f earlier nothing ns e are = let same : earlier ≡ ns = cc in (subst (AreReadValues f) same are, omega (arith, ap length same))
+  values_kept : (f : Field) (earlier : List ℕ) (below : Forest) (ns : List ℕ) → values_after T bytes f earlier below ≡ Ok ns → AreReadValues V f earlier → AreReadValues V f ns × (length earlier ≤ length ns)
+  values_kept f earlier nothing ns e are = let same : earlier ≡ ns = cc in (subst (AreReadValues V f) same are, omega (arith, ap length same))
   values_kept f earlier (grown t below rest) ns e are =
       let told = next_ok (value_at T bytes f earlier t) (λ n. values_after T bytes f (earlier ++ n ∷ []) rest) ns e in
       let later = values_kept f (earlier ++ told.0 ∷ []) rest ns told.2 (value_kept f earlier t told.0 told.1 are) in
@@ -70,13 +69,13 @@ module _ (T : Topology) (network : IsNamedTopology T) (bytes : List ℕ) where
       (later.0, omega (arith, later.1, long))
 
   -- a list with a value gives lawful values
-  values_lawful : (f : Field) (t : Token) (below rest : Forest) (ns : List ℕ) → values_after T bytes f [] (grown t below rest) ≡ Ok ns → AreLawfulValues f ns
-  values_lawful f t below rest ns e =
+  values_over : (f : Field) (t : Token) (below rest : Forest) (ns : List ℕ) → values_after T bytes f [] (grown t below rest) ≡ Ok ns → AreValuesOver V f ns
+  values_over f t below rest ns e =
       let told = next_ok (value_at T bytes f [] t) (λ n. values_after T bytes f (n ∷ []) rest) ns e in
-      let later = values_kept f (told.0 ∷ []) rest ns told.2 (value_kept f [] t told.0 told.1 (no_values f)) in
+      let later = values_kept f (told.0 ∷ []) rest ns told.2 (value_kept f [] t told.0 told.1 (no_values V f)) in
       record {
         some = λ none. (let zero : length ns ≡ 0 = ap length none in omega (arith, zero, later.1));
-        fit = All-from_recursion (λ n. n < 2 ^ width_of f) ns later.0.fit;
+        fit = All-from_recursion (V f) ns later.0.fit;
         differ = later.0.differ;
       }
 
@@ -100,22 +99,22 @@ module _ (T : Topology) (network : IsNamedTopology T) (bytes : List ℕ) where
   kept false e = absurd cc
 
   -- a group whose field is new is lawful
-  group_read : (earlier : List Group) (t : Token) (below : Forest) (g : Group) → group_at T bytes earlier t below ≡ Ok g → IsLawfulGroup g × (is_grouped g.field earlier ≡ false)
+  group_read : (earlier : List Group) (t : Token) (below : Forest) (g : Group) → group_at T bytes earlier t below ≡ Ok g → IsGroupOver V g × (is_grouped g.field earlier ≡ false)
   group_read earlier t nothing g e =
       let told = next_ok (grouped_at bytes earlier false t) (λ f. Ok (unstated f)) g e in
       let read = field_read earlier false t told.0 told.1 in
       let same : unstated told.0 ≡ g = cc in
-      subst (λ g. IsLawfulGroup g × (is_grouped g.field earlier ≡ false)) same ((read.narrow, kept (is_listed told.0) read.listed), read.new)
+      subst (λ g. IsGroupOver V g × (is_grouped g.field earlier ≡ false)) same ((read.narrow, kept (is_listed told.0) read.listed), read.new)
   group_read earlier t (grown u below rest) g e =
       let told = next_ok (grouped_at bytes earlier true t) (λ f. with_values T bytes f (grown u below rest)) g e in
       let read = field_read earlier true t told.0 told.1 in
       let valued = next_ok (values_after T bytes told.0 [] (grown u below rest)) (λ ns. Ok (stated told.0 ns)) g told.2 in
       let same : stated told.0 valued.0 ≡ g = cc in
-      subst (λ g. IsLawfulGroup g × (is_grouped g.field earlier ≡ false)) same ((read.narrow, values_lawful told.0 u below rest valued.0 valued.1), read.new)
+      subst (λ g. IsGroupOver V g × (is_grouped g.field earlier ≡ false)) same ((read.narrow, values_over told.0 u below rest valued.0 valued.1), read.new)
 
   -- groups of brackets that were read so far
   record AreReadGroups (gs : List Group) : Type 0 where
-    pub each : AllByRecursion IsLawfulGroup gs
+    pub each : AllByRecursion (IsGroupOver V) gs
     pub differ : IsDistinct is_field (map (λ g. g.field) gs)
 
   groups_kept : (earlier : List Group) (below : Forest) (gs : List Group) → groups_after T bytes earlier below ≡ Ok gs → AreReadGroups earlier → AreReadGroups gs
@@ -126,7 +125,7 @@ module _ (T : Topology) (network : IsNamedTopology T) (bytes : List ℕ) where
       let read = group_read earlier t below g told.1 in
       let new : list_any (is_field g.field) (map (λ g. g.field) earlier) ≡ false = grouped g.field earlier ∙ read.1 in
       groups_kept (earlier ++ g ∷ []) rest gs told.2 (record {
-        each = all_push IsLawfulGroup earlier g are.each read.0;
+        each = all_push (IsGroupOver V) earlier g are.each read.0;
         differ = subst (IsDistinct is_field) (sym (map-append (λ (g : Group). g.field) earlier (g ∷ []))) (IsDistinct-push field_equiv (map (λ g. g.field) earlier) g.field are.differ new);
       })
 
@@ -135,11 +134,11 @@ module _ (T : Topology) (network : IsNamedTopology T) (bytes : List ℕ) where
   no_groups = record { each = tt; differ = tt }
 
   -- the groups of an atom without brackets
-  pub none_lawful : AreLawfulGroups []
-  none_lawful = record { each = All-from_recursion IsLawfulGroup [] tt; differ = no_groups.differ }
+  pub none_over : AreGroupsOver V []
+  none_over = record { each = All-from_recursion (IsGroupOver V) [] tt; differ = no_groups.differ }
 
   -- the groups of brackets
-  pub groups_lawful : (below : Forest) (gs : List Group) → groups_after T bytes [] below ≡ Ok gs → AreLawfulGroups gs
-  groups_lawful below gs e =
+  pub groups_over : (below : Forest) (gs : List Group) → groups_after T bytes [] below ≡ Ok gs → AreGroupsOver V gs
+  groups_over below gs e =
       let are = groups_kept [] below gs e no_groups in
-      record { each = All-from_recursion IsLawfulGroup gs are.each; differ = are.differ }
+      record { each = All-from_recursion (IsGroupOver V) gs are.each; differ = are.differ }

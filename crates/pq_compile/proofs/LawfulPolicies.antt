@@ -8,54 +8,54 @@ use Rattle.pq_grammar.specs.declared.class.Class.TheVariants.{IdentityWord, Drop
 use Rattle.pq_grammar.specs.Tables.{is_class}
 use Rattle.pq_tree.specs.Trees.{Forest, nothing, grown, Tree}
 use Rattle.pq_tree.specs.Texts.{text_in, class_in_text}
-use Rattle.pq_fields.specs.Pred.{PredTree, IsLawfulPred}
+use Rattle.pq_fields.specs.declared.field.Field.{Field}
+use Rattle.pq_fields.specs.Pred.{PredTree, IsPredOver}
 use Rattle.pq_model.specs.Topology.{Topology}
 use Rattle.pq_topo.specs.declared.fault.NameKind.TheVariants.{BadValue, NotWritable}
-use Rattle.pq_topo.specs.Named.{IsNamedTopology}
 use Rattle.pq_topo.specs.Naming.{Reading, faulty, unless, named, next, gathered}
 use Rattle.pq_topo.proofs.Readings.{next_ok, unless_ok}
 use Rattle.pq_pred.specs.Values.{field_at, value_of, within}
 use Rattle.pq_pred.specs.Predicates.{pred_of}
-use Rattle.pq_policy.specs.Policy.{PolicyTop, Pass, Discard, Spread, Only, Write, Forward, Choose, Either, InTurn, Policies, none, PolicyTree, leaf, policies, is_writable, IsLawfulTop, AreLawfulPolicies, IsLawfulPolicy}
+use Rattle.pq_policy.specs.Policy.{PolicyTop, Pass, Discard, Spread, Only, Write, Forward, Choose, Either, InTurn, Policies, none, PolicyTree, leaf, policies, is_writable, IsTopOver, ArePoliciesOver, IsPolicyOver}
 use Rattle.pq_policy.specs.Resolved.{filter_of, writable_at, write_at, write_of, forward_of, choice_of, joined, policy_step, policy_readings, policy_of}
-use Rattle.pq_compile.proofs.Fits.{value_fits, within_bounds}
-use Rattle.pq_compile.proofs.LawfulPreds.{named_ok, all_gathered, pred_lawful}
+use Rattle.pq_compile.proofs.Fits.{ReadsOver, within_bounds}
+use Rattle.pq_compile.proofs.LawfulPreds.{named_ok, all_gathered, pred_over}
 
--- a list of lawful policies
-all_lawful : (ps : List PolicyTree) → AllByRecursion IsLawfulPolicy ps → AreLawfulPolicies (policies ps)
-all_lawful [] all = tt
-all_lawful (p ∷ ps) all = (all.0.0, all.0.1, all_lawful ps all.1)
+-- a list of such policies
+all_over : (V : Field → ℕ → Type 0) (ps : List PolicyTree) → AllByRecursion (IsPolicyOver V) ps → ArePoliciesOver V (policies ps)
+all_over V [] all = tt
+all_over V (p ∷ ps) all = (all.0.0, all.0.1, all_over V ps all.1)
 
 some_below : (p : PolicyTree) (ps : List PolicyTree) → policies (p ∷ ps) ≢ none
 some_below p ps e = absurd cc
 
-joined_lawful : (head : Token) (top : PolicyTop) (ps : List PolicyTree) (p : PolicyTree) → ((below : Policies) → below ≢ none → IsLawfulTop top below) → AllByRecursion IsLawfulPolicy ps → joined head top ps ≡ Ok p → IsLawfulPolicy p
-joined_lawful head top [] p here all e = absurd cc
-joined_lawful head top (q ∷ qs) p here all e = let same : record { top = top; below = policies (q ∷ qs) } ≡ p = cc in subst IsLawfulPolicy same (here (policies (q ∷ qs)) (some_below q qs), all_lawful (q ∷ qs) all, tt)
+joined_over : (V : Field → ℕ → Type 0) (head : Token) (top : PolicyTop) (ps : List PolicyTree) (p : PolicyTree) → ((below : Policies) → below ≢ none → IsTopOver V top below) → AllByRecursion (IsPolicyOver V) ps → joined head top ps ≡ Ok p → IsPolicyOver V p
+joined_over V head top [] p here all e = absurd cc
+joined_over V head top (q ∷ qs) p here all e = let same : record { top = top; below = policies (q ∷ qs) } ≡ p = cc in subst (IsPolicyOver V) same (here (policies (q ∷ qs)) (some_below q qs), all_over V (q ∷ qs) all, tt)
 
 -- a choice between lawful policies
-chosen : (q : PredTree) (a b p : PolicyTree) → IsLawfulPred q → IsLawfulPolicy a → IsLawfulPolicy b → record { top = Choose q; below = policies (a ∷ b ∷ []) } ≡ p → IsLawfulPolicy p
-chosen q a b p test one two same = subst IsLawfulPolicy same (test, all_lawful (a ∷ b ∷ []) (one, (two, tt)), tt)
+chosen : (V : Field → ℕ → Type 0) (q : PredTree) (a b p : PolicyTree) → IsPredOver V q → IsPolicyOver V a → IsPolicyOver V b → record { top = Choose q; below = policies (a ∷ b ∷ []) } ≡ p → IsPolicyOver V p
+chosen V q a b p test one two same = subst (IsPolicyOver V) same (test, all_over V (a ∷ b ∷ []) (one, (two, tt)), tt)
 
 -- what is not refused for a rule
 kept : (b : Bool) → not b ≡ false → b ≡ true
 kept true e = refl
 kept false e = absurd cc
 
-module _ (T : Topology) (network : IsNamedTopology T) (bytes : List ℕ) where
-  abbrev IsLawfulReading : Reading PolicyTree → Type 0
-  IsLawfulReading r = (p : PolicyTree) → r ≡ Ok p → IsLawfulPolicy p
+module _ (T : Topology) (V : Field → ℕ → Type 0) (over : ReadsOver T V) (bytes : List ℕ) where
+  abbrev IsReadOver : Reading PolicyTree → Type 0
+  IsReadOver r = (p : PolicyTree) → r ≡ Ok p → IsPolicyOver V p
 
-  filter_lawful : (head : Token) (below : Forest) → IsLawfulReading (filter_of T bytes head below)
-  filter_lawful head nothing p e = absurd cc
-  filter_lawful head (grown t below rest) p e =
+  filter_over : (head : Token) (below : Forest) → IsReadOver (filter_of T bytes head below)
+  filter_over head nothing p e = absurd cc
+  filter_over head (grown t below rest) p e =
       let tree : Tree = record { head = t; below = below } in
       let told = next_ok (pred_of T bytes tree) (λ q. Ok (leaf (Only q))) p e in
       let same : leaf (Only told.0) ≡ p = cc in
-      subst IsLawfulPolicy same (pred_lawful T network bytes tree told.0 told.1, tt, tt)
+      subst (IsPolicyOver V) same (pred_over T V over bytes tree told.0 told.1, tt, tt)
 
-  write_lawful : (field value : Token) → IsLawfulReading (write_at T bytes field value)
-  write_lawful field value p e =
+  write_over : (field value : Token) → IsReadOver (write_at T bytes field value)
+  write_over field value p e =
       let writable = next_ok (writable_at bytes field) (λ f. next (named value (value_of T f (text_in bytes value))) (λ n. Ok (leaf (Write f n)))) p e in
       let f = writable.0 in
       let found = next_ok (field_at bytes field) (λ f. unless field ((not (is_writable f), NotWritable) ∷ []) f) f writable.1 in
@@ -63,60 +63,60 @@ module _ (T : Topology) (network : IsNamedTopology T) (bytes : List ℕ) where
       let may : is_writable f ≡ true = subst (λ f. is_writable f ≡ true) rules.1 (kept (is_writable found.0) rules.0.0) in
       let valued = next_ok (named value (value_of T f (text_in bytes value))) (λ n. Ok (leaf (Write f n))) p writable.2 in
       let same : leaf (Write f valued.0) ≡ p = cc in
-      subst IsLawfulPolicy same ((may, value_fits T network f (text_in bytes value) valued.0 (named_ok value (value_of T f (text_in bytes value)) valued.0 valued.1)), tt, tt)
+      subst (IsPolicyOver V) same ((may, over.values f (text_in bytes value) valued.0 (named_ok value (value_of T f (text_in bytes value)) valued.0 valued.1)), tt, tt)
 
-  writes_lawful : (head : Token) (below : Forest) → IsLawfulReading (write_of T bytes head below)
-  writes_lawful head nothing p e = absurd cc
-  writes_lawful head (grown field nothing rest) p e = absurd cc
-  writes_lawful head (grown field (grown value x y) rest) p e = write_lawful field value p e
+  writes_over : (head : Token) (below : Forest) → IsReadOver (write_of T bytes head below)
+  writes_over head nothing p e = absurd cc
+  writes_over head (grown field nothing rest) p e = absurd cc
+  writes_over head (grown field (grown value x y) rest) p e = write_over field value p e
 
-  forward_lawful : (head : Token) (below : Forest) → IsLawfulReading (forward_of bytes head below)
-  forward_lawful head nothing p e = absurd cc
-  forward_lawful head (grown port x y) p e =
+  forward_over : (head : Token) (below : Forest) → IsReadOver (forward_of bytes head below)
+  forward_over head nothing p e = absurd cc
+  forward_over head (grown port x y) p e =
       let number = within 1 4294967040 (number_of (text_in bytes port)) in
       let told = next_ok (named port number) (λ n. Ok (leaf (Forward n))) p e in
       let same : leaf (Forward told.0) ≡ p = cc in
-      subst IsLawfulPolicy same (within_bounds 1 4294967040 (number_of (text_in bytes port)) told.0 (named_ok port number told.0 told.1), tt, tt)
+      subst (IsPolicyOver V) same (within_bounds 1 4294967040 (number_of (text_in bytes port)) told.0 (named_ok port number told.0 told.1), tt, tt)
 
-  choice_lawful : (head : Token) (below : Forest) (rs : List (Reading PolicyTree)) → AllByRecursion IsLawfulReading rs → IsLawfulReading (choice_of T bytes head below rs)
-  choice_lawful head nothing rs all p e = absurd cc
-  choice_lawful head (grown t below rest) [] all p e = absurd cc
-  choice_lawful head (grown t below rest) (x ∷ []) all p e = absurd cc
-  choice_lawful head (grown t below rest) (x ∷ a ∷ []) all p e = absurd cc
-  choice_lawful head (grown t below rest) (x ∷ a ∷ b ∷ c ∷ more) all p e = absurd cc
-  choice_lawful head (grown t below rest) (x ∷ a ∷ b ∷ []) all p e =
+  choice_over : (head : Token) (below : Forest) (rs : List (Reading PolicyTree)) → AllByRecursion IsReadOver rs → IsReadOver (choice_of T bytes head below rs)
+  choice_over head nothing rs all p e = absurd cc
+  choice_over head (grown t below rest) [] all p e = absurd cc
+  choice_over head (grown t below rest) (x ∷ []) all p e = absurd cc
+  choice_over head (grown t below rest) (x ∷ a ∷ []) all p e = absurd cc
+  choice_over head (grown t below rest) (x ∷ a ∷ b ∷ c ∷ more) all p e = absurd cc
+  choice_over head (grown t below rest) (x ∷ a ∷ b ∷ []) all p e =
       let tree : Tree = record { head = t; below = below } in
       let tested = next_ok (pred_of T bytes tree) (λ q. next a (λ a. next b (λ b. Ok (record { top = Choose q; below = policies (a ∷ b ∷ []) })))) p e in
       let one = next_ok a (λ a. next b (λ b. Ok (record { top = Choose tested.0; below = policies (a ∷ b ∷ []) }))) p tested.2 in
       let two = next_ok b (λ b. Ok (record { top = Choose tested.0; below = policies (one.0 ∷ b ∷ []) })) p one.2 in
       let same : record { top = Choose tested.0; below = policies (one.0 ∷ two.0 ∷ []) } ≡ p = cc in
-      chosen tested.0 one.0 two.0 p (pred_lawful T network bytes tree tested.0 tested.1) (all.1.0 one.0 one.1) (all.1.1.0 two.0 two.1) same
+      chosen V tested.0 one.0 two.0 p (pred_over T V over bytes tree tested.0 tested.1) (all.1.0 one.0 one.1) (all.1.1.0 two.0 two.1) same
 
-  operands_lawful : (head : Token) (top : PolicyTop) (rs : List (Reading PolicyTree)) → ((below : Policies) → below ≢ none → IsLawfulTop top below) → AllByRecursion IsLawfulReading rs → IsLawfulReading (next (gathered rs) (joined head top))
-  operands_lawful head top rs here all p e =
+  operands_over : (head : Token) (top : PolicyTop) (rs : List (Reading PolicyTree)) → ((below : Policies) → below ≢ none → IsTopOver V top below) → AllByRecursion IsReadOver rs → IsReadOver (next (gathered rs) (joined head top))
+  operands_over head top rs here all p e =
       let told = next_ok (gathered rs) (joined head top) p e in
-      joined_lawful head top told.0 p here (all_gathered IsLawfulPolicy rs told.0 all told.1) told.2
+      joined_over V head top told.0 p here (all_gathered (IsPolicyOver V) rs told.0 all told.1) told.2
 
-  step_lawful : (head : Token) (below : Forest) (rs : List (Reading PolicyTree)) → AllByRecursion IsLawfulReading rs → IsLawfulReading (policy_step T bytes head below rs)
-  step_lawful head below rs all p e =
+  step_over : (head : Token) (below : Forest) (rs : List (Reading PolicyTree)) → AllByRecursion IsReadOver rs → IsReadOver (policy_step T bytes head below rs)
+  step_over head below rs all p e =
       let class = class_in_text bytes head in
       by (is_class class IdentityWord) (is_class class DropWord) (is_class class FloodWord) (is_class class FilterWord) (is_class class ModWord) (is_class class FwdWord) (is_class class IfWord) (is_class class Plus) (is_class class Then) e
     where
-      by : (a b c d f g h i j : Bool) → (if a then Ok (leaf Pass) else if b then Ok (leaf Discard) else if c then Ok (leaf Spread) else if d then filter_of T bytes head below else if f then write_of T bytes head below else if g then forward_of bytes head below else if h then choice_of T bytes head below rs else if i then next (gathered rs) (joined head Either) else if j then next (gathered rs) (joined head InTurn) else faulty head BadValue) ≡ Ok p → IsLawfulPolicy p
-      by true b c d f g h i j e = let same : leaf Pass ≡ p = cc in subst IsLawfulPolicy same (tt, tt, tt)
-      by false true c d f g h i j e = let same : leaf Discard ≡ p = cc in subst IsLawfulPolicy same (tt, tt, tt)
-      by false false true d f g h i j e = let same : leaf Spread ≡ p = cc in subst IsLawfulPolicy same (tt, tt, tt)
-      by false false false true f g h i j e = filter_lawful head below p e
-      by false false false false true g h i j e = writes_lawful head below p e
-      by false false false false false true h i j e = forward_lawful head below p e
-      by false false false false false false true i j e = choice_lawful head below rs all p e
-      by false false false false false false false true j e = operands_lawful head Either rs (λ below some. some) all p e
-      by false false false false false false false false true e = operands_lawful head InTurn rs (λ below some. some) all p e
+      by : (a b c d f g h i j : Bool) → (if a then Ok (leaf Pass) else if b then Ok (leaf Discard) else if c then Ok (leaf Spread) else if d then filter_of T bytes head below else if f then write_of T bytes head below else if g then forward_of bytes head below else if h then choice_of T bytes head below rs else if i then next (gathered rs) (joined head Either) else if j then next (gathered rs) (joined head InTurn) else faulty head BadValue) ≡ Ok p → IsPolicyOver V p
+      by true b c d f g h i j e = let same : leaf Pass ≡ p = cc in subst (IsPolicyOver V) same (tt, tt, tt)
+      by false true c d f g h i j e = let same : leaf Discard ≡ p = cc in subst (IsPolicyOver V) same (tt, tt, tt)
+      by false false true d f g h i j e = let same : leaf Spread ≡ p = cc in subst (IsPolicyOver V) same (tt, tt, tt)
+      by false false false true f g h i j e = filter_over head below p e
+      by false false false false true g h i j e = writes_over head below p e
+      by false false false false false true h i j e = forward_over head below p e
+      by false false false false false false true i j e = choice_over head below rs all p e
+      by false false false false false false false true j e = operands_over head Either rs (λ below some. some) all p e
+      by false false false false false false false false true e = operands_over head InTurn rs (λ below some. some) all p e
       by false false false false false false false false false e = absurd cc
 
-  readings_lawful : (f : Forest) → AllByRecursion IsLawfulReading (policy_readings T bytes f)
-  readings_lawful nothing = tt
-  readings_lawful (grown head below rest) = (step_lawful head below (policy_readings T bytes below) (readings_lawful below), readings_lawful rest)
+  readings_over : (f : Forest) → AllByRecursion IsReadOver (policy_readings T bytes f)
+  readings_over nothing = tt
+  readings_over (grown head below rest) = (step_over head below (policy_readings T bytes below) (readings_over below), readings_over rest)
 
-  pub policy_lawful : (t : Tree) (p : PolicyTree) → policy_of T bytes t ≡ Ok p → IsLawfulPolicy p
-  policy_lawful t p e = step_lawful t.head t.below (policy_readings T bytes t.below) (readings_lawful t.below) p e
+  pub policy_over : (t : Tree) (p : PolicyTree) → policy_of T bytes t ≡ Ok p → IsPolicyOver V p
+  policy_over t p e = step_over t.head t.below (policy_readings T bytes t.below) (readings_over t.below) p e

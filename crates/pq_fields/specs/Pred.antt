@@ -81,20 +81,34 @@ holds p x = is_true p.top (truths p.below x) x
 abbrev pub is_prefixed : Field → Bool
 is_prefixed f = nat_lt 5 (rank f) && nat_lt (rank f) 8
 
--- each number fits the width of its field, prefixes are of addresses and no longer than they, and no list of operands is empty
+-- each number may stand for its field, as V says; prefixes are of addresses and no longer than they, and no list of operands is empty
+abbrev pub IsTopOver : (Field → ℕ → Type 0) → PredTop → Preds → Type 0
+IsTopOver V Always below = Unit {0}
+IsTopOver V Never below = Unit {0}
+IsTopOver V (Equals f n) below = V f n
+IsTopOver V (Leads f n len) below = (is_prefixed f ≡ true) × (n < 2 ^ 32) × (len ≤ 32)
+IsTopOver V (LeadsWide f n len) below = (is_wide f ≡ true) × (n < 2 ^ 128) × (len ≤ 128)
+IsTopOver V Every below = below ≢ none
+IsTopOver V Some below = below ≢ none
+IsTopOver V Negated below = below ≢ none
+
+abbrev pub ArePredsOver : (Field → ℕ → Type 0) → Preds → Type 0
+ArePredsOver V none = Unit {0}
+ArePredsOver V (put top below rest) = IsTopOver V top below × ArePredsOver V below × ArePredsOver V rest
+
+abbrev pub IsPredOver : (Field → ℕ → Type 0) → PredTree → Type 0
+IsPredOver V p = ArePredsOver V (preds (p ∷ []))
+
+-- the number fits the width of the field
+abbrev pub FitsField : Field → ℕ → Type 0
+FitsField f n = n < 2 ^ width_of f
+
+-- all numbers fit their fields
 abbrev pub IsLawfulTop : PredTop → Preds → Type 0
-IsLawfulTop Always below = Unit {0}
-IsLawfulTop Never below = Unit {0}
-IsLawfulTop (Equals f n) below = n < 2 ^ width_of f
-IsLawfulTop (Leads f n len) below = (is_prefixed f ≡ true) × (n < 2 ^ 32) × (len ≤ 32)
-IsLawfulTop (LeadsWide f n len) below = (is_wide f ≡ true) × (n < 2 ^ 128) × (len ≤ 128)
-IsLawfulTop Every below = below ≢ none
-IsLawfulTop Some below = below ≢ none
-IsLawfulTop Negated below = below ≢ none
+IsLawfulTop = IsTopOver FitsField
 
 abbrev pub AreLawful : Preds → Type 0
-AreLawful none = Unit {0}
-AreLawful (put top below rest) = IsLawfulTop top below × AreLawful below × AreLawful rest
+AreLawful = ArePredsOver FitsField
 
 abbrev pub IsLawfulPred : PredTree → Type 0
-IsLawfulPred p = AreLawful (preds (p ∷ []))
+IsLawfulPred = IsPredOver FitsField

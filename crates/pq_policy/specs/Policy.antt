@@ -3,7 +3,7 @@ use Rattle.std.specs.Prelude.{ℕ, ◌^◌, ◌<◌, ◌≤◌, ◌≡◌, ◌�
 use Rattle.std.specs.List.{Contains}
 use Rattle.pq_fields.specs.declared.field.Field.{Field}
 use Rattle.pq_fields.specs.Packet.{Numbers, has_field, is_before, numbers, rank, width_of, with_number}
-use Rattle.pq_fields.specs.Pred.{PredTree, IsLawfulPred, holds, pred_tree}
+use Rattle.pq_fields.specs.Pred.{PredTree, FitsField, IsPredOver, holds, pred_tree}
 use Rattle.pq_model.specs.Topology.{Topology, ports_of}
 use Rattle.pq_policy.specs.declared.policy.Policy.{Policy}
 use Rattle.pq_policy.specs.declared.policy.Policy.TheOpen.{Policy-F}
@@ -109,21 +109,31 @@ pub record IsListOf (P : Numbers → Type 0) (ys : List Numbers) : Type 0 where
 abbrev pub is_writable : Field → Bool
 is_writable f = nat_lt 3 (rank f) && nat_lt (rank f) 12
 
--- predicates are lawful, numbers fit fields that may be written, ports are from 1 to 0xffffff00, and no list of operands is empty
+-- numbers may stand for their fields, as V says, and those that are written are of fields that may be; ports are from 1 to 0xffffff00, and no list of operands is empty
+abbrev pub IsTopOver : (Field → ℕ → Type 0) → PolicyTop → Policies → Type 0
+IsTopOver V Pass below = Unit {0}
+IsTopOver V Discard below = Unit {0}
+IsTopOver V Spread below = Unit {0}
+IsTopOver V (Only p) below = IsPredOver V p
+IsTopOver V (Write f n) below = (is_writable f ≡ true) × V f n
+IsTopOver V (Forward n) below = (1 ≤ n) × (n ≤ 4294967040)
+IsTopOver V (Choose p) below = IsPredOver V p
+IsTopOver V Either below = below ≢ none
+IsTopOver V InTurn below = below ≢ none
+
+abbrev pub ArePoliciesOver : (Field → ℕ → Type 0) → Policies → Type 0
+ArePoliciesOver V none = Unit {0}
+ArePoliciesOver V (put top below rest) = IsTopOver V top below × ArePoliciesOver V below × ArePoliciesOver V rest
+
+abbrev pub IsPolicyOver : (Field → ℕ → Type 0) → PolicyTree → Type 0
+IsPolicyOver V p = ArePoliciesOver V (policies (p ∷ []))
+
+-- all numbers fit their fields
 abbrev pub IsLawfulTop : PolicyTop → Policies → Type 0
-IsLawfulTop Pass below = Unit {0}
-IsLawfulTop Discard below = Unit {0}
-IsLawfulTop Spread below = Unit {0}
-IsLawfulTop (Only p) below = IsLawfulPred p
-IsLawfulTop (Write f n) below = (is_writable f ≡ true) × (n < 2 ^ width_of f)
-IsLawfulTop (Forward n) below = (1 ≤ n) × (n ≤ 4294967040)
-IsLawfulTop (Choose p) below = IsLawfulPred p
-IsLawfulTop Either below = below ≢ none
-IsLawfulTop InTurn below = below ≢ none
+IsLawfulTop = IsTopOver FitsField
 
 abbrev pub AreLawfulPolicies : Policies → Type 0
-AreLawfulPolicies none = Unit {0}
-AreLawfulPolicies (put top below rest) = IsLawfulTop top below × AreLawfulPolicies below × AreLawfulPolicies rest
+AreLawfulPolicies = ArePoliciesOver FitsField
 
 abbrev pub IsLawfulPolicy : PolicyTree → Type 0
-IsLawfulPolicy p = AreLawfulPolicies (policies (p ∷ []))
+IsLawfulPolicy = IsPolicyOver FitsField
