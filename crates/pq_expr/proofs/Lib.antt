@@ -1,3 +1,4 @@
 pub mod Cuts
 pub mod Trees
 pub mod Pieces
+pub mod Agreement

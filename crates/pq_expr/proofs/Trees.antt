@@ -1,5 +1,5 @@
 -- The plain data of expressions with operands.
-use Rattle.std.proofs.Common.{◌≡◌, List, [], ◌∷◌, Vec, Box, Global, ap, sym, ◌∙◌}
+use Rattle.std.proofs.Common.{◌≡◌, [], ◌∷◌, Vec, Box, Global, ap, sym, ◌∙◌}
 use Rattle.pq_expr.specs.declared.expr.Expr as expr
 use Rattle.pq_expr.specs.declared.expr.Expr.{Expr}
 use Rattle.pq_expr.specs.declared.expr.Expr.TheOpen.{Expr-F}

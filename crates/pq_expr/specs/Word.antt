@@ -1,5 +1,6 @@
 -- Words of half steps: what a packet shows as it enters a switch, and as it leaves it.
-use Rattle.std.specs.Prelude.{Bool, true, false, ◌&&◌, List, [], ◌∷◌}
+use Rattle.std.specs.Prelude.{◌≡◌, ℕ, ◌<◌, Bool, true, false, ◌&&◌, List, [], ◌∷◌}
+use Rattle.std.proofs.Math.ListN.{get_or}
 use Rattle.pq_expr.specs.declared.side.Side.{Side}
 use Rattle.pq_expr.specs.declared.side.Side.TheVariants.{In, Out}
 
@@ -28,3 +29,10 @@ other_side Out = In
 abbrev pub alternates : Side → Word → Bool
 alternates s [] = true
 alternates s (l ∷ w) = is_side s l.side && alternates (other_side s) w
+
+-- the words have the same sides, and their truths agree at every place below n
+abbrev pub AgreeBelow : ℕ → Word → Word → Type 0
+AgreeBelow n [] [] = Unit {0}
+AgreeBelow n [] (m ∷ w) = ⊥
+AgreeBelow n (l ∷ v) [] = ⊥
+AgreeBelow n (l ∷ v) (m ∷ w) = (l.side ≡ m.side) × ((p : ℕ) → p < n → get_or l.truth p false ≡ get_or m.truth p false) × AgreeBelow n v w

@@ -8,7 +8,7 @@ use Rattle.pq_fields.specs.Pred.{PredTree, preds, truths, holds}
 use Rattle.pq_expr.proofs.Cuts.{both}
 use Rattle.pq_query.specs.Groups.{Group}
 use Rattle.pq_query.specs.Language.{meets, Fulfils}
-use Rattle.pq_lower.specs.Lowered.{dropped, sent, tests, fulfilling}
+use Rattle.pq_lower.specs.Added.{dropped, sent, tests, fulfilling}
 
 -- all the predicates hold
 abbrev all_hold : List PredTree → Numbers → Bool

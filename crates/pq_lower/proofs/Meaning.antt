@@ -1,98 +1,73 @@
 -- A lowered query holds the words of the query.
-use Rattle.std.proofs.Common.{◌≡◌, ℕ, List, [], ◌∷◌, ◌++◌, length, take, drop, refl, sym, subst, ◌∙◌}
-use Rattle.pq_fields.specs.Pred.{PredTree, Always, leaf}
+use Rattle.std.proofs.Common.{◌≡◌, ◌↔◌, ℕ, ◌+◌, true, List, [], ◌∷◌, length, take, drop, refl, sym, subst, ◌∙◌}
+use Rattle.pq_fields.specs.Pred.{PredTree}
+use Rattle.pq_model.specs.Word.{Word, is_word}
 use Rattle.pq_query.specs.Query.{QueryTop, Enters, Leaves, Passes, Ends, InTurn, Either, Both, Other, Repeated, Queries, none, put, QueryTree}
 use Rattle.pq_query.specs.Language.{First, Holds, HoldTogether, share, lang}
-use Rattle.pq_lower.specs.Pieces.{Piece}
-use Rattle.pq_lower.specs.Lowered.{dropped, sent, fulfilling, first_piece, following, lowered_top, lowered_each, lowered}
+use Rattle.pq_expr.specs.Language.{holds}
+use Rattle.pq_lower.specs.HalfSteps.{half_steps}
+use Rattle.pq_lower.specs.Added.{dropped, sent, fulfilling, top_preds, preds_of, query_preds, top_count, pred_count}
+use Rattle.pq_lower.specs.Lowered.{first_expr, lowered_top, lowered_each, lowered}
 use Rattle.pq_lower.proofs.Seen.{IsAlways}
-use Rattle.pq_lower.proofs.Numbers.{Extends, extends_self, extends_more, extends_then, number_tells, first_always}
+use Rattle.pq_lower.proofs.Led.{word_led, led_word}
+use Rattle.pq_lower.proofs.Places.{HasAt, has_first, has_second, number_tells, next_tells, counted}
 use Rattle.pq_lower.proofs.Fulfilling.{meets_window, fulfils_holds, holds_fulfils, dropped_port, port_dropped, sent_port, port_sent}
 use Rattle.pq_lower.proofs.Windows.{share_window}
-use Rattle.pq_lower.proofs.Standing.{IsPiece, EachIs, entering_is, hop_is, any_is, every_is, first_is, other_is, repeated_is, joined_is}
+use Rattle.pq_lower.proofs.Tells.{Tells, EachTells, entry_tells, hop_tells, any_tells, all_tells, other_tells, first_tells, turn_tells, repeated_tells}
 
--- predicates are only added
-pub top_extends : (base : ℕ) (top : QueryTop) (label : List ℕ) (ps : List Piece) (added : List PredTree) → Extends added (lowered_top base top label ps added).added
-top_extends base (Enters p gs) label ps added = extends_more added (fulfilling p gs label [] ∷ [])
-top_extends base (Leaves p gs) label ps added = extends_more added (fulfilling p gs label (sent ∷ []) ∷ [])
-top_extends base (Passes p gs q hs) label ps added = extends_then added (added ++ fulfilling p gs label [] ∷ []) _ (extends_more added _) (extends_more _ (fulfilling q hs (drop (length gs) label) (sent ∷ []) ∷ []))
-top_extends base (Ends p) label ps added = extends_then added (added ++ p ∷ []) _ (extends_more added _) (extends_more _ (dropped ∷ []))
-top_extends base InTurn label ps added = extends_self added
-top_extends base Either label ps added = extends_self added
-top_extends base Both label ps added = extends_self added
-top_extends base Other label ps added = extends_self added
-top_extends base Repeated label ps added = extends_self added
-
-pub each_extends : (base : ℕ) (qs : Queries) (label : List ℕ) (added : List PredTree) → Extends added (lowered_each base qs label added).added
-each_extends base none label added = extends_self added
-each_extends base (put top below rest) label added =
-    let inner = lowered_each base below label added in
-    let own = lowered_top base top label inner.pieces inner.added in
-    extends_then added inner.added _ (each_extends base below label added)
-    (extends_then inner.added own.added _ (top_extends base top label inner.pieces inner.added) (each_extends base rest (drop (share top below) label) own.added))
-
--- a piece holds the words of a query whose operands the pieces hold
-top_is : (base : ℕ) (old full : List PredTree) (top : QueryTop) (below : Queries) (label : List ℕ) (ps : List Piece) (added : List PredTree) → base ≡ length old → IsAlways (old ++ full) base → Extends (lowered_top base top label ps added).added full → EachIs (old ++ full) ps below label → IsPiece (old ++ full) (lowered_top base top label ps added).piece (Holds top (HoldTogether below) label)
-top_is base old full (Enters p gs) below label ps added based always grown each =
-    let told = number_tells base old added full (fulfilling p gs label []) based grown in
-    entering_is (old ++ full) (following base added) _ (λ w. (
+-- an expression holds the led words of a query where the expressions of the operands do
+top_tells : (all : List PredTree) (t n : ℕ) (top : QueryTop) (below : Queries) (label : List ℕ) → IsAlways all t → HasAt all n (top_preds top label (preds_of below label)) → (HasAt all n (preds_of below label) → EachTells all (lowered_each t n below) below label) → Tells all (holds (lowered_top t n top (lowered_each t n below))) (Holds top (HoldTogether below) label)
+top_tells all t n (Enters p gs) below label always has each =
+    let told = number_tells all n (fulfilling p gs label []) [] has in
+    entry_tells all t n (Holds (Enters p gs) (HoldTogether below) label) always (λ w. (
       (λ held. (held.0, held.1, told held.0 ∙ fulfils_holds p gs label [] held.0 held.2 refl)),
       (λ seen. (seen.0, seen.1, (holds_fulfils p gs label [] seen.0 (sym (told seen.0) ∙ seen.2)).0)),
     ))
-top_is base old full (Leaves p gs) below label ps added based always grown each =
-    let told = number_tells base old added full (fulfilling p gs label (sent ∷ [])) based grown in
-    hop_is (old ++ full) base (following base added) _ (λ w. (
+top_tells all t n (Leaves p gs) below label always has each =
+    let told = number_tells all n (fulfilling p gs label (sent ∷ [])) [] has in
+    hop_tells all t t n (Holds (Leaves p gs) (HoldTogether below) label) always (λ w. (
       (λ held. (held.0, held.1, held.2, always held.0, told held.1 ∙ fulfils_holds p gs label (sent ∷ []) held.1 held.3 (port_sent held.1 held.4))),
       (λ seen. let met = holds_fulfils p gs label (sent ∷ []) seen.1 (sym (told seen.1) ∙ seen.4) in (seen.0, seen.1, seen.2, met.0, sent_port seen.1 met.1)),
     ))
-top_is base old full (Passes p gs q hs) below label ps added based always grown each =
-    let between = added ++ fulfilling p gs label [] ∷ [] in
+top_tells all t n (Passes p gs q hs) below label always has each =
     let later = drop (length gs) label in
-    let first = number_tells base old added full (fulfilling p gs label []) based (extends_then between (between ++ fulfilling q hs later (sent ∷ []) ∷ []) full (extends_more between (fulfilling q hs later (sent ∷ []) ∷ [])) grown) in
-    let second = number_tells base old between full (fulfilling q hs later (sent ∷ [])) based grown in
-    hop_is (old ++ full) (following base added) (following base between) _ (λ w. (
+    let first = number_tells all n (fulfilling p gs label []) (fulfilling q hs later (sent ∷ []) ∷ []) has in
+    let second = next_tells all n (fulfilling p gs label []) (fulfilling q hs later (sent ∷ [])) has in
+    hop_tells all t n (n + 1) (Holds (Passes p gs q hs) (HoldTogether below) label) always (λ w. (
       (λ held. (held.0, held.1, held.2, first held.0 ∙ fulfils_holds p gs label [] held.0 (held.3.0, sym (meets_window gs label held.0) ∙ held.3.1) refl, second held.1 ∙ fulfils_holds q hs later (sent ∷ []) held.1 held.4 (port_sent held.1 held.5))),
       (λ seen.
           let one = (holds_fulfils p gs label [] seen.0 (sym (first seen.0) ∙ seen.3)).0 in
           let two = holds_fulfils q hs later (sent ∷ []) seen.1 (sym (second seen.1) ∙ seen.4) in
           (seen.0, seen.1, seen.2, (one.0, meets_window gs label seen.0 ∙ one.1), two.0, sent_port seen.1 two.1)),
     ))
-top_is base old full (Ends p) below label ps added based always grown each =
-    let between = added ++ p ∷ [] in
-    let first = number_tells base old added full p based (extends_then between (between ++ dropped ∷ []) full (extends_more between (dropped ∷ [])) grown) in
-    let second = number_tells base old between full dropped based grown in
-    hop_is (old ++ full) (following base added) (following base between) _ (λ w. (
+top_tells all t n (Ends p) below label always has each =
+    let first = number_tells all n p (dropped ∷ []) has in
+    let second = next_tells all n p dropped has in
+    hop_tells all t n (n + 1) (Holds (Ends p) (HoldTogether below) label) always (λ w. (
       (λ held. (held.0, held.1, held.2, first held.0 ∙ held.3, second held.1 ∙ port_dropped held.1 held.4)),
       (λ seen. (seen.0, seen.1, seen.2, sym (first seen.0) ∙ seen.3, dropped_port seen.1 (sym (second seen.1) ∙ seen.4))),
     ))
-top_is base old full InTurn below label ps added based always grown each = joined_is (old ++ full) base ps below label always each
-top_is base old full Either below label ps added based always grown each = any_is (old ++ full) ps below label each
-top_is base old full Both below label ps added based always grown each = every_is (old ++ full) ps below label each
-top_is base old full Other below label ps added based always grown each = other_is (old ++ full) (first_piece ps) (HoldTogether below First label) (first_is (old ++ full) ps below label each)
-top_is base old full Repeated below label ps added based always grown each = repeated_is (old ++ full) base (first_piece ps) (HoldTogether below First label) always (first_is (old ++ full) ps below label each)
+top_tells all t n InTurn below label always has each = turn_tells all (lowered_each t n below) below label (each has)
+top_tells all t n Either below label always has each = any_tells all (lowered_each t n below) below label (each has)
+top_tells all t n Both below label always has each = all_tells all t (lowered_each t n below) below label always (each has)
+top_tells all t n Other below label always has each = other_tells all t (first_expr (lowered_each t n below)) (HoldTogether below First label) always (first_tells all (lowered_each t n below) below label (each has))
+top_tells all t n Repeated below label always has each = repeated_tells all (first_expr (lowered_each t n below)) (HoldTogether below First label) (first_tells all (lowered_each t n below) below label (each has))
 
--- pieces hold the words of queries
-each_is : (base : ℕ) (old full : List PredTree) (qs : Queries) (label : List ℕ) (added : List PredTree) → base ≡ length old → IsAlways (old ++ full) base → Extends (lowered_each base qs label added).added full → EachIs (old ++ full) (lowered_each base qs label added).pieces qs label
-each_is base old full none label added based always grown = tt
-each_is base old full (put top below rest) label added based always grown =
+-- expressions hold the led words of queries
+each_tells : (all : List PredTree) (t n : ℕ) (qs : Queries) (label : List ℕ) → IsAlways all t → HasAt all n (preds_of qs label) → EachTells all (lowered_each t n qs) qs label
+each_tells all t n none label always has = tt
+each_tells all t n (put top below rest) label always has =
     let window = take (share top below) label in
-    let seen = lowered_each base below window added in
-    let own = lowered base (record { top = top; below = below }) label added in
-    let same = share_window base top below label added in
-    let so_far : Extends own.added full = extends_then own.added _ full (each_extends base rest (drop (share top below) label) own.added) grown in
-    let here : Extends (lowered base (record { top = top; below = below }) window added).added full = subst (λ g. Extends g.added full) (sym same) so_far in (
-      subst (λ g. IsPiece (old ++ full) g.piece (Holds top (HoldTogether below) window)) same
-          (top_is base old full top below window seen.pieces seen.added based always here
-          (each_is base old full below window added based always (extends_then seen.added _ full (top_extends base top window seen.pieces seen.added) here))),
-      each_is base old full rest (drop (share top below) label) own.added based always grown,
+    let later = drop (share top below) label in
+    let own = top_preds top label (preds_of below label) in
+    let here : HasAt all n (top_preds top window (preds_of below window)) = subst (λ ps. HasAt all n ps) (sym (share_window top below label)) (has_first all n own (preds_of rest later) has) in
+    let next : HasAt all (n + top_count top (pred_count below)) (preds_of rest later) = subst (λ k. HasAt all (n + k) (preds_of rest later)) (counted (record { top = top; below = below }) label) (has_second all n own (preds_of rest later) has) in (
+      top_tells all t n top below window always here (λ operands. each_tells all t n below window always operands),
+      each_tells all t (n + top_count top (pred_count below)) rest later always next,
     )
 
--- a lowered query holds the words of the query, over all predicates
-pub lowered_is : (base : ℕ) (old : List PredTree) (q : QueryTree) (label : List ℕ) → base ≡ length old → IsPiece (old ++ (lowered base q label (leaf Always ∷ [])).added) (lowered base q label (leaf Always ∷ [])).piece (lang q label)
-lowered_is base old q label based =
-    let inner = lowered_each base q.below label (leaf Always ∷ []) in
-    let full = (lowered base q label (leaf Always ∷ [])).added in
-    let grown = top_extends base q.top label inner.pieces inner.added in
-    let always = first_always base old full based (extends_then (leaf Always ∷ []) inner.added full (each_extends base q.below label (leaf Always ∷ [])) grown) in
-    top_is base old full q.top q.below label inner.pieces inner.added based always (extends_self full)
-    (each_is base old full q.below label (leaf Always ∷ []) based always grown)
+-- a lowered query holds the words of the query
+pub lowered_tells : (all : List PredTree) (t n : ℕ) (q : QueryTree) (label : List ℕ) → IsAlways all t → HasAt all n (query_preds q label) → (w : Word) → is_word w ≡ true → lang q label w ↔ (holds (lowered t n q) (half_steps all w) ≡ true)
+lowered_tells all t n q label always has w word =
+    let told = top_tells all t n q.top q.below label always has (λ operands. each_tells all t n q.below label always operands) in
+    ((λ held. told.shows true w word (word_led (lang q label) w word held)), (λ h. led_word (lang q label) w word (told.keeps true w word h)))

@@ -53,7 +53,7 @@ seam_behind u v w (AtOnce even behind some whole) = behind
 seam_behind u v w (Over x odd behind some whole) = behind
 
 -- an Out comes only where no In does
-out_next : (b : Bool) (x : Numbers) (v : Word) → alternates b (Out x ∷ v) ≡ true → (b ≡ false) × (is_word v ≡ true)
+pub out_next : (b : Bool) (x : Numbers) (v : Word) → alternates b (Out x ∷ v) ≡ true → (b ≡ false) × (is_word v ≡ true)
 out_next true x v h = absurd (search (h, rules))
 out_next false x v h = (refl, h)
 

@@ -1,3 +1,5 @@
 pub mod HalfSteps
-pub mod Pieces
+pub mod Operators
+pub mod Added
 pub mod Lowered
+pub mod Built

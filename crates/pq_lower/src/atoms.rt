@@ -1,40 +1,29 @@
-//! The pieces of atoms.
-ghost use Rattle.std.specs.Prelude.{◌≡◌, ◌<◌, ◌+◌, ◌^◌, IfOk, OnOk, map, length};
+//! The expressions of atoms.
+ghost use Rattle.std.specs.Prelude.{◌≡◌, ◌<◌, ◌+◌, ◌^◌, [], ◌∷◌, ◌++◌, IfOk, OnOk, map, length};
 ghost use Rattle.pq_fields.specs.Pred.{pred_tree};
-ghost use Rattle.pq_lower.specs.Pieces.{hop, stored_piece};
-ghost use Rattle.pq_lower.specs.Lowered.{one_seen, one_sent, two_seen};
+ghost use Rattle.pq_expr.specs.Expr.{expr_tree};
+ghost use Rattle.pq_lower.specs.Operators.{entry, hop};
 
-use crate::operators::two;
-use crate::piece::{Parity, Piece};
+use crate::operators::{entry, hop};
 use crate::predicates::add;
 use pq_expr::Expr;
 use pq_fields::Pred;
 use std::alloc::{AllocError, Global};
 
-/// A half step In, and then an Out.
-fn hop(alloc: Global, first: u32, second: u32) -> Result<Piece, AllocError>
-    ensures { IfOk result (λ p. stored_piece p ≡ hop first second) }
-{
-    let parts = two(alloc, Expr::In(first), Expr::Out(second))?;
-    Ok(Piece {
-        expr: Expr::Cat(parts),
-        holds_empty: false,
-        parity: Parity::Even,
-    })
-}
-
 /// An atom of one packet that enters.
-pub(crate) fn one_seen(base: u32, pred: Pred, added: &mut Vec<Pred>) -> Result<Piece, AllocError>
+pub(crate) fn one_seen(
+    alloc: Global,
+    base: u32,
+    pred: Pred,
+    added: &mut Vec<Pred>,
+) -> Result<Expr, AllocError>
     requires { base + length added.old.items < 2 ^ 32 }
-    ensures piece { IfOk result (λ p. stored_piece p ≡ (one_seen base (pred_tree pred) (map pred_tree added.old.items)).piece) }
-    ensures added { OnOk result (map pred_tree added.new.items ≡ (one_seen base (pred_tree pred) (map pred_tree added.old.items)).added) }
+    ensures expr { IfOk result (λ e. expr_tree e ≡ entry base (base + length added.old.items)) }
+    ensures added { OnOk result (map pred_tree added.new.items ≡ map pred_tree added.old.items ++ pred_tree pred ∷ []) }
 {
     let number = add(base, pred, added)?;
-    Ok(Piece {
-        expr: Expr::In(number),
-        holds_empty: false,
-        parity: Parity::Odd,
-    })
+    let expr = entry(alloc, base, number)?;
+    Ok(expr)
 }
 
 /// An atom of one packet that leaves.
@@ -43,14 +32,14 @@ pub(crate) fn one_sent(
     base: u32,
     pred: Pred,
     added: &mut Vec<Pred>,
-) -> Result<Piece, AllocError>
+) -> Result<Expr, AllocError>
     requires { base + length added.old.items < 2 ^ 32 }
-    ensures piece { IfOk result (λ p. stored_piece p ≡ (one_sent base (pred_tree pred) (map pred_tree added.old.items)).piece) }
-    ensures added { OnOk result (map pred_tree added.new.items ≡ (one_sent base (pred_tree pred) (map pred_tree added.old.items)).added) }
+    ensures expr { IfOk result (λ e. expr_tree e ≡ hop base base (base + length added.old.items)) }
+    ensures added { OnOk result (map pred_tree added.new.items ≡ map pred_tree added.old.items ++ pred_tree pred ∷ []) }
 {
     let number = add(base, pred, added)?;
-    let piece = hop(alloc, base, number)?;
-    Ok(piece)
+    let expr = hop(alloc, base, base, number)?;
+    Ok(expr)
 }
 
 /// An atom of two packets.
@@ -60,13 +49,13 @@ pub(crate) fn two_seen(
     first: Pred,
     second: Pred,
     added: &mut Vec<Pred>,
-) -> Result<Piece, AllocError>
+) -> Result<Expr, AllocError>
     requires { base + length added.old.items + 1 < 2 ^ 32 }
-    ensures piece { IfOk result (λ p. stored_piece p ≡ (two_seen base (pred_tree first) (pred_tree second) (map pred_tree added.old.items)).piece) }
-    ensures added { OnOk result (map pred_tree added.new.items ≡ (two_seen base (pred_tree first) (pred_tree second) (map pred_tree added.old.items)).added) }
+    ensures expr { IfOk result (λ e. expr_tree e ≡ hop base (base + length added.old.items) (base + length added.old.items + 1)) }
+    ensures added { OnOk result (map pred_tree added.new.items ≡ map pred_tree added.old.items ++ pred_tree first ∷ pred_tree second ∷ []) }
 {
     let one = add(base, first, added)?;
     let other = add(base, second, added)?;
-    let piece = hop(alloc, one, other)?;
-    Ok(piece)
+    let expr = hop(alloc, base, one, other)?;
+    Ok(expr)
 }

@@ -1,13 +1,16 @@
 //! Queries as expressions.
-ghost use Rattle.std.specs.Prelude.{◌≡◌, ◌≤◌, ◌<◌, ◌+◌, ◌*◌, ◌^◌, ◌↔◌, true, ◌++◌, List, IfOk, OnOk, OnErr, map, length};
+ghost use Rattle.std.specs.Prelude.{◌≡◌, ◌≤◌, ◌<◌, ◌+◌, ◌*◌, ◌^◌, ◌↔◌, true, ◌++◌, List, All, IfOk, OnOk, OnErr, map, length};
 ghost use Rattle.pq_fields.specs.declared.pred.Pred.{Pred as PredValue};
-ghost use Rattle.pq_fields.specs.Pred.{pred_tree};
+ghost use Rattle.pq_fields.specs.Pred.{IsLawfulPred, pred_tree};
 ghost use Rattle.pq_model.specs.Word.{Word, is_word};
 ghost use Rattle.pq_expr.specs.Expr.{IsLawful, bound, expr_tree};
 ghost use Rattle.pq_expr.specs.Language.{holds};
 ghost use Rattle.pq_query.specs.Language.{lang};
+ghost use Rattle.pq_query.specs.Lawful.{IsLawfulQuery};
 ghost use Rattle.pq_query.specs.Query.{query_tree};
 ghost use Rattle.pq_lower.specs.HalfSteps.{half_steps};
+ghost use Rattle.pq_lower.specs.Added.{added_preds};
+ghost use Rattle.pq_lower.specs.Built.{IsFittingLabel};
 ghost use Rattle.pq_lower.specs.Lowered.{query_atoms};
 
 use crate::lowering::lower_query;
@@ -32,6 +35,8 @@ pub fn lower(
     requires atoms { query_atoms (query_tree query.now) < 2 ^ 29 }
     ensures language { IfOk result (λ e. (w : Word) → is_word w ≡ true → (lang (query_tree query.now) label.now w ↔ (holds (expr_tree e) (half_steps (map pred_tree preds.new.items) w) ≡ true))) }
     ensures grown { OnOk result ((more : List PredValue) × (preds.new.items ≡ preds.old.items ++ more) × (length more ≤ 1 + 2 * query_atoms (query_tree query.now))) }
+    ensures added { OnOk result (map pred_tree preds.new.items ≡ map pred_tree preds.old.items ++ added_preds (query_tree query.now) label.now) }
+    ensures lawful_preds { OnOk result (IsLawfulQuery (query_tree query.now) → IsFittingLabel (query_tree query.now) label.now → All IsLawfulPred (map pred_tree preds.old.items) → All IsLawfulPred (map pred_tree preds.new.items)) }
     ensures bound { IfOk result (λ e. bound (expr_tree e) ≤ length preds.new.items) }
     ensures lawful { IfOk result (λ e. IsLawful (expr_tree e)) }
     ensures err { OnErr result (preds.new.items ≡ preds.old.items) }
@@ -40,7 +45,7 @@ pub fn lower(
     let mut added = Vec::new(alloc);
     added.push(every_packet())?;
     let mut place = 0;
-    let piece = lower_query(alloc, base, query, label.values(), &mut place, &mut added)?;
+    let expr = lower_query(alloc, base, query, label.values(), &mut place, &mut added)?;
     preds.append(&mut added)?;
-    Ok(piece.expr)
+    Ok(expr)
 }

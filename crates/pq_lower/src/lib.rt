@@ -2,16 +2,15 @@
 #![tactic(auto)]
 
 mod atoms;
-mod chain;
 mod expression;
+mod laws;
 mod lowering;
-mod operands;
 mod operators;
-mod piece;
 mod predicates;
 mod twins;
 
 pub use expression::lower;
+pub use laws::more_predicates_tell_the_same;
 
 #[cfg(test)]
 mod tests;

@@ -1,13 +1,13 @@
-//! Expressions of few operators.
+//! Expressions of operators.
 ghost use Rattle.std.specs.Prelude.{◌≡◌, [], ◌∷◌, IfOk, map};
 ghost use Rattle.pq_expr.specs.Expr.{expr_tree};
-ghost use Rattle.pq_lower.specs.Pieces.{closed, everything, inward, led, led_or_empty, optional_out};
+ghost use Rattle.pq_lower.specs.Operators.{all_of, any_of, entry, hop, optional_out, other_than, repeated, turn_of};
 
 use pq_expr::Expr;
 use std::alloc::{AllocError, Global};
 
 /// An expression on the heap.
-pub(crate) fn boxed(alloc: Global, expr: Expr) -> Result<Box<Expr>, AllocError>
+fn boxed(alloc: Global, expr: Expr) -> Result<Box<Expr>, AllocError>
     ensures { IfOk result (λ b. expr_tree b.value ≡ expr_tree expr) }
 {
     match Box::new(alloc, expr) {
@@ -16,31 +16,14 @@ pub(crate) fn boxed(alloc: Global, expr: Expr) -> Result<Box<Expr>, AllocError>
     }
 }
 
-/// A list of one expression.
-pub(crate) fn one(alloc: Global, expr: Expr) -> Result<Vec<Expr>, AllocError>
-    ensures { IfOk result (λ es. map expr_tree es.items ≡ expr_tree expr ∷ []) }
-{
-    let mut all = Vec::new(alloc);
-    all.push(expr)?;
-    Ok(all)
-}
-
 /// A list of two expressions.
-pub(crate) fn two(alloc: Global, first: Expr, second: Expr) -> Result<Vec<Expr>, AllocError>
+fn two(alloc: Global, first: Expr, second: Expr) -> Result<Vec<Expr>, AllocError>
     ensures { IfOk result (λ es. map expr_tree es.items ≡ expr_tree first ∷ expr_tree second ∷ []) }
 {
     let mut all = Vec::new(alloc);
     all.push(first)?;
     all.push(second)?;
     Ok(all)
-}
-
-/// Every word.
-pub(crate) fn everything(alloc: Global) -> Result<Expr, AllocError>
-    ensures { IfOk result (λ e. expr_tree e ≡ everything) }
-{
-    let nothing = boxed(alloc, Expr::Nothing)?;
-    Ok(Expr::Not(nothing))
 }
 
 /// Nothing, or an Out.
@@ -51,52 +34,68 @@ fn optional_out(alloc: Global, always: u32) -> Result<Expr, AllocError>
     Ok(Expr::Or(either))
 }
 
-/// The words that begin with In.
-fn inward(alloc: Global, always: u32) -> Result<Expr, AllocError>
-    ensures { IfOk result (λ e. expr_tree e ≡ inward always) }
+/// A half step In, with or without an Out before it.
+pub(crate) fn entry(alloc: Global, always: u32, number: u32) -> Result<Expr, AllocError>
+    ensures { IfOk result (λ e. expr_tree e ≡ entry always number) }
 {
-    let rest = everything(alloc)?;
-    let parts = two(alloc, Expr::In(always), rest)?;
-    Ok(Expr::Cat(parts))
-}
-
-/// A word of the expression that begins with In, with an Out before it or without one.
-pub(crate) fn led(alloc: Global, always: u32, expr: Expr) -> Result<Expr, AllocError>
-    ensures { IfOk result (λ e. expr_tree e ≡ led always (expr_tree expr)) }
-{
-    let inward = inward(alloc, always)?;
-    let both = two(alloc, expr, inward)?;
     let optional = optional_out(alloc, always)?;
-    let parts = two(alloc, optional, Expr::And(both))?;
+    let parts = two(alloc, optional, Expr::In(number))?;
     Ok(Expr::Cat(parts))
 }
 
-/// The words that `led` holds, and the empty word where the expression holds it.
-pub(crate) fn led_or_empty(
-    alloc: Global,
-    always: u32,
-    expr: Expr,
-    holds_empty: bool,
-) -> Result<Expr, AllocError>
-    ensures { IfOk result (λ e. expr_tree e ≡ led_or_empty always (expr_tree expr) holds_empty) }
+/// A half step In and then an Out, with or without an Out before them.
+pub(crate) fn hop(alloc: Global, always: u32, first: u32, second: u32) -> Result<Expr, AllocError>
+    ensures { IfOk result (λ e. expr_tree e ≡ hop always first second) }
 {
-    let led = led(alloc, always, expr)?;
-    if !holds_empty {
-        return Ok(led);
-    }
-    let either = two(alloc, Expr::Empty, led)?;
-    Ok(Expr::Or(either))
+    let optional = optional_out(alloc, always)?;
+    let mut parts = two(alloc, optional, Expr::In(first))?;
+    parts.push(Expr::Out(second))?;
+    Ok(Expr::Cat(parts))
 }
 
-/// Expressions in turn.
-pub(crate) fn closed(mut parts: Vec<Expr>) -> Expr
-    ensures { expr_tree result ≡ closed (map expr_tree parts.items) }
+/// Expressions one after another.
+pub(crate) fn turn_of(exprs: Vec<Expr>) -> Expr
+    ensures { expr_tree result ≡ turn_of (map expr_tree exprs.items) }
 {
-    if parts.len() > 1 {
-        return Expr::Cat(parts);
+    if exprs.is_empty() {
+        return Expr::Empty;
     }
-    match parts.pop() {
-        Some(part) => part,
-        None => Expr::Empty,
+    Expr::Cat(exprs)
+}
+
+/// Any of the expressions.
+pub(crate) fn any_of(exprs: Vec<Expr>) -> Expr
+    ensures { expr_tree result ≡ any_of (map expr_tree exprs.items) }
+{
+    if exprs.is_empty() {
+        return Expr::Nothing;
     }
+    Expr::Or(exprs)
+}
+
+/// All the expressions.
+pub(crate) fn all_of(alloc: Global, always: u32, exprs: Vec<Expr>) -> Result<Expr, AllocError>
+    ensures { IfOk result (λ e. expr_tree e ≡ all_of always (map expr_tree exprs.items)) }
+{
+    if exprs.is_empty() {
+        return other_than(alloc, always, Expr::Nothing);
+    }
+    Ok(Expr::And(exprs))
+}
+
+/// What the expression doesn't hold; an Out that no word follows isn't held either.
+pub(crate) fn other_than(alloc: Global, always: u32, expr: Expr) -> Result<Expr, AllocError>
+    ensures { IfOk result (λ e. expr_tree e ≡ other_than always (expr_tree expr)) }
+{
+    let either = two(alloc, expr, Expr::Out(always))?;
+    let boxed = boxed(alloc, Expr::Or(either))?;
+    Ok(Expr::Not(boxed))
+}
+
+/// Any number of words of the expression.
+pub(crate) fn repeated(alloc: Global, expr: Expr) -> Result<Expr, AllocError>
+    ensures { IfOk result (λ e. expr_tree e ≡ repeated (expr_tree expr)) }
+{
+    let boxed = boxed(alloc, expr)?;
+    Ok(Expr::Star(boxed))
 }

@@ -1,7 +1,7 @@
 //! The predicates of atoms.
 ghost use Rattle.std.specs.Prelude.{◌≡◌, ◌≤◌, ◌<◌, ◌+◌, ◌^◌, [], ◌∷◌, ◌++◌, IfOk, OnOk, map, drop, length};
 ghost use Rattle.pq_fields.specs.Pred.{Always, leaf, pred_tree};
-ghost use Rattle.pq_lower.specs.Lowered.{dropped, following, fulfilling, sent, test_at, tests};
+ghost use Rattle.pq_lower.specs.Added.{dropped, fulfilling, sent, test_at, tests};
 
 use crate::twins::copy_of;
 use pq_fields::{Field, Pred};
@@ -132,7 +132,7 @@ pub(crate) fn passing(
 /// Adds a predicate to those from `base` on, and gives its number.
 pub(crate) fn add(base: u32, pred: Pred, added: &mut Vec<Pred>) -> Result<u32, AllocError>
     requires { base + length added.old.items < 2 ^ 32 }
-    ensures number { IfOk result (λ n. n ≡ following base (map pred_tree added.old.items)) }
+    ensures number { IfOk result (λ n. n ≡ base + length added.old.items) }
     ensures added { OnOk result (map pred_tree added.new.items ≡ map pred_tree added.old.items ++ pred_tree pred ∷ []) }
     ensures count { OnOk result (length added.new.items ≡ length added.old.items + 1) }
 {

@@ -1,6 +1,6 @@
 use Rattle.std.proofs.Common.{◌≡◌, ◌≤◌, ◌++◌, map, drop, length}
 use Rattle.pq_fields.specs.Pred.{pred_tree}
-use Rattle.pq_lower.specs.Lowered.{tests}
+use Rattle.pq_lower.specs.Added.{tests}
 use Rattle.pq_lower.proofs.predicates.push_tests.Given as goal
 
 -- the groups that are left give the other tests
