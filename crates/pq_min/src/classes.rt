@@ -1,6 +1,7 @@
 ghost use Rattle.std.specs.Prelude.{◌≡◌, ◌<◌, [], length};
 ghost use Rattle.std.proofs.Math.ListN.{get_or};
-ghost use Rattle.pq_auto.specs.Machine.{accepted_at, is_even_at, AllBelow};
+ghost use Rattle.pq_auto.specs.Machine.{accepted_at, is_even_at, AllBelow, IsMachine, IsLeastMachine};
+ghost use Rattle.pq_auto.specs.Numbering.{IsNumbered};
 
 use std::marker::Model;
 
@@ -63,6 +64,16 @@ impl Classes {
         ensures within { AllBelow (length self.now.rows) result.now }
     {
         &self.rows[class as usize]
+    }
+
+    /// Each class has a parity and a next class for each letter, classes are numbered by their least words, and no two are the
+    /// same.
+    pub fn is_lawful(&self)
+        ensures machine { IsMachine self.now }
+        ensures numbered { IsNumbered self.now }
+        ensures least { IsLeastMachine self.now }
+    {
+        let _ = &self.letters;
     }
 
     /// The instances that hold the words that reach the class, ascending.
