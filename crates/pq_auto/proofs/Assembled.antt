@@ -1,12 +1,12 @@
--- The automaton of automata that stand side by side.
-use Rattle.std.proofs.Common.{◌≡◌, ℕ, zero, suc, ◌<◌, ◌≤◌, true, List, [], ◌∷◌, length, map, Some, ap, ◌∙◌, arith}
+-- The automaton that a search finds, and that of automata side by side.
+use Rattle.std.proofs.Common.{◌≡◌, ℕ, zero, suc, ◌<◌, ◌≤◌, Bool, true, List, [], ◌∷◌, length, map, Some, ap, ◌∙◌, arith}
 use Rattle.std.specs.List.{slice_get}
 use Rattle.std.proofs.Math.ListN.{get_or}
 use Rattle.std.proofs.lemmas.List.{length-map}
 use Rattle.std.proofs.lemmas.Option.{slice_get_within}
 use Rattle.pq_auto.specs.Machine.{Machine, IsMachine, AllBelow, reached, is_even_at, accepted_at, has_even_length}
 use Rattle.pq_auto.specs.Search.{run}
-use Rattle.pq_auto.specs.Tables.{TableValue, steps, begin, is_even_key, accepting}
+use Rattle.pq_auto.specs.Tables.{steps, begin, is_even_key, accepting}
 use Rattle.pq_auto.specs.Searched.{IsSearched}
 use Rattle.pq_auto.proofs.Searched.{key_at, key_reached, some_state, rows_long, rows_within}
 use Rattle.pq_auto.proofs.Products.{parity_of}
@@ -22,31 +22,36 @@ no_more : (n m : ℕ) → ((s : ℕ) → s < n → s < m) → n ≤ m
 no_more zero m h = omega arith
 no_more (suc n) m h = let last : n < m = h n (omega arith) in omega (arith, last)
 
-module _ (tables : List TableValue) (a : Machine) (keys : List (List ℕ)) (searched : IsSearched (steps tables) (begin tables) a.letters keys a.rows) (all : length keys ≤ length a.rows) where
+module _ {K : Type 0} (goes : K → ℕ → K) (begin : K) (a : Machine) (keys : List K) (searched : IsSearched goes begin a.letters keys a.rows) (all : length keys ≤ length a.rows) where
   -- there are as many states as keys
   pub same_count : length keys ≡ length a.rows
   same_count =
       let few = no_more (length a.rows) (length keys) (λ s h.
-      let k = key_at (steps tables) (begin tables) a keys searched all s h in
+      let k = key_at goes begin a keys searched all s h in
       slice_get_within keys s k.0 k.1) in
       omega (arith, few, all)
 
-  module _ (evens : a.even ≡ map is_even_key keys) (accepts : a.accepted ≡ map (accepting tables) keys) where
+  module _ (even : K → Bool) (accepted : K → List ℕ) (evens : a.even ≡ map even keys) (accepts : a.accepted ≡ map accepted keys) where
     pub is_machine : IsMachine a
     is_machine = record {
-      some = some_state (steps tables) (begin tables) a keys searched all;
-      even = ap length evens ∙ length-map keys is_even_key ∙ same_count;
-      accepted = ap length accepts ∙ length-map keys (accepting tables) ∙ same_count;
-      long = rows_long (steps tables) (begin tables) a keys searched all;
-      within = rows_within (steps tables) (begin tables) a keys searched all;
+      some = some_state goes begin a keys searched all;
+      even = ap length evens ∙ length-map keys even ∙ same_count;
+      accepted = ap length accepts ∙ length-map keys accepted ∙ same_count;
+      long = rows_long goes begin a keys searched all;
+      within = rows_within goes begin a keys searched all;
     }
 
-    pub says_parity : (w : List ℕ) → AllBelow a.letters w → is_even_at a (reached a w) ≡ has_even_length w
-    says_parity w below =
-        let at = key_reached (steps tables) (begin tables) a keys searched all w below in
-        ap (λ es. get_or es (reached a w) true) evens ∙ changed_at is_even_key keys (reached a w) (run (steps tables) (begin tables) w) true at ∙ parity_of tables w
+    -- the parity of the state that a word leads to
+    pub even_reached : (w : List ℕ) → AllBelow a.letters w → is_even_at a (reached a w) ≡ even (run goes begin w)
+    even_reached w below = ap (λ es. get_or es (reached a w) true) evens ∙ changed_at even keys (reached a w) (run goes begin w) true (key_reached goes begin a keys searched all w below)
 
-    pub says_accepting : (w : List ℕ) → AllBelow a.letters w → accepted_at a (reached a w) ≡ accepting tables (run (steps tables) (begin tables) w)
-    says_accepting w below =
-        let at = key_reached (steps tables) (begin tables) a keys searched all w below in
-        ap (λ ps. get_or ps (reached a w) []) accepts ∙ changed_at (accepting tables) keys (reached a w) (run (steps tables) (begin tables) w) [] at
+    -- what it accepts
+    pub accepted_reached : (w : List ℕ) → AllBelow a.letters w → accepted_at a (reached a w) ≡ accepted (run goes begin w)
+    accepted_reached w below = ap (λ ps. get_or ps (reached a w) []) accepts ∙ changed_at accepted keys (reached a w) (run goes begin w) [] (key_reached goes begin a keys searched all w below)
+
+module _ (tables : List Machine) (a : Machine) (keys : List (List ℕ)) (searched : IsSearched (steps tables) (begin tables) a.letters keys a.rows) (all : length keys ≤ length a.rows) (evens : a.even ≡ map is_even_key keys) (accepts : a.accepted ≡ map (accepting tables) keys) where
+  pub says_parity : (w : List ℕ) → AllBelow a.letters w → is_even_at a (reached a w) ≡ has_even_length w
+  says_parity w below = even_reached (steps tables) (begin tables) a keys searched all is_even_key (accepting tables) evens accepts w below ∙ parity_of tables w
+
+  pub says_accepting : (w : List ℕ) → AllBelow a.letters w → accepted_at a (reached a w) ≡ accepting tables (run (steps tables) (begin tables) w)
+  says_accepting w below = accepted_reached (steps tables) (begin tables) a keys searched all is_even_key (accepting tables) evens accepts w below

@@ -1,5 +1,5 @@
 -- Words of each parity lead an expression to few states.
-use Rattle.std.proofs.Common.{◌≡◌, ℕ, zero, suc, ◌+◌, ◌≤◌, Bool, true, false, not, ◌&&◌, if◌then◌else◌, nat_eq, inl, inr, List, [], ◌∷◌, length, Some, refl, sym, ap, ap₂, subst, ◌∙◌, arith}
+use Rattle.std.proofs.Common.{◌≡◌, ℕ, zero, suc, ◌+◌, ◌*◌, ◌≤◌, Bool, true, false, not, ◌&&◌, if◌then◌else◌, nat_eq, inl, inr, List, [], ◌∷◌, length, Some, refl, sym, ap, ap₂, subst, ◌∙◌, arith}
 use Rattle.std.specs.List.{slice_get, AllByRecursion, IsDistinct}
 use Rattle.std.specs.Cmp.Lexicographic.{pointwise, same_text}
 use Rattle.std.specs.contracts.prelude.BoolPartialEq.TheImpl.{ghosts as bools}
@@ -14,7 +14,6 @@ use Rattle.pq_auto.specs.Machine.{Machine, follow, has_even_length}
 use Rattle.pq_auto.specs.Rests.{Rest, after, rest_of, rests, whole, AreAlike, AreRestsOf}
 use Rattle.pq_auto.specs.Search.{run}
 use Rattle.pq_auto.specs.Searched.{IsSearched}
-use Rattle.pq_auto.specs.Tables.{TableValue}
 use Rattle.pq_auto.specs.Telling.{HasFew}
 use Rattle.pq_auto.proofs.Alike.{exact_bool, same_key}
 use Rattle.pq_auto.proofs.Counted.{one_of_all}
@@ -99,7 +98,7 @@ placed b (k ∷ ks) i (suc n) r at is =
     by false one = one
 
 -- the parity behind a word
-even_behind : (alphabet : List (List Bool)) (w : List ℕ) (r : Rest) → (run (after alphabet) r w).even ≡ (if r.even then has_even_length w else not (has_even_length w))
+pub even_behind : (alphabet : List (List Bool)) (w : List ℕ) (r : Rest) → (run (after alphabet) r w).even ≡ (if r.even then has_even_length w else not (has_even_length w))
 even_behind alphabet [] r = by r.even
   where
     by : (b : Bool) → b ≡ (if b then true else false)
@@ -112,12 +111,15 @@ even_behind alphabet (l ∷ w) r = even_behind alphabet w (after alphabet r l) �
     by false true = refl
     by false false = refl
 
--- words of each parity lead to at most so many states as the expression has rests
-pub few_states : (alphabet : List (List Bool)) (e : ExprTree) (keys : List (StateValue × Bool)) (t : TableValue) → IsSearched (after alphabet) (whole e) (length alphabet) (rests keys) t.rows → length (rests keys) ≤ length t.rows
+-- there are at most so many states of one parity as the expression has rests
+few_at : (e : ExprTree) (keys : List (StateValue × Bool)) → AreAlike keys → AreRestsOf e keys → IsDistinct same_key keys → IsLawful e → (b : Bool) → length (rests_at b keys) ≤ most e
+few_at e keys alike are distinct lawful b = count_distinct e lawful (rests_at b keys) (distinct_at b keys alike distinct) (all_at (IsRest e) b keys (λ j m at same. subst (λ x. IsRest x m.0.rest) (are j m at).0 (are j m at).1))
+
+-- words of each parity lead to at most so many states
+pub few_states : (alphabet : List (List Bool)) (e : ExprTree) (keys : List (StateValue × Bool)) (t : Machine) → IsSearched (after alphabet) (whole e) (length alphabet) (rests keys) t.rows → length (rests keys) ≤ length t.rows
     → AreAlike keys → AreRestsOf e keys → IsDistinct same_key keys → IsLawful e → HasFew (length alphabet) t (most e)
 few_states alphabet e keys t searched all alike are distinct lawful b =
-    let own = all_at (IsRest e) b keys (λ j m at same. subst (λ x. IsRest x m.0.rest) (are j m at).0 (are j m at).1) in
-    let few : length (rests_at b keys) ≤ most e = count_distinct e lawful (rests_at b keys) (distinct_at b keys alike distinct) own in
+    let few = few_at e keys alike are distinct lawful b in
     let a : Machine = record { letters = length alphabet; rows = t.rows; even = []; accepted = [] } in (
       places b 0 keys,
       omega (arith, few, same_count b 0 keys),
@@ -127,3 +129,20 @@ few_states alphabet e keys t searched all alike are distinct lawful b =
   where
     none_more : (n : ℕ) → 0 + n ≡ n
     none_more n = omega arith
+
+-- a state is of one parity or the other
+all_places : (ks : List (StateValue × Bool)) → length ks ≡ length (rests_at true ks) + length (rests_at false ks)
+all_places [] = refl
+all_places (k ∷ ks) = by k.1 (all_places ks)
+  where
+    by : (c : Bool) → length ks ≡ length (rests_at true ks) + length (rests_at false ks)
+        → suc (length ks) ≡ length (if bools.eq true c then k.0.rest ∷ rests_at true ks else rests_at true ks) + length (if bools.eq false c then k.0.rest ∷ rests_at false ks else rests_at false ks)
+    by true rest = omega (arith, rest)
+    by false rest = omega (arith, rest)
+
+-- so a lawful expression has at most twice as many states as it has rests
+pub few_both : (e : ExprTree) (keys : List (StateValue × Bool)) → AreAlike keys → AreRestsOf e keys → IsDistinct same_key keys → IsLawful e → length keys ≤ 2 * most e
+few_both e keys alike are distinct lawful =
+    let evens : length (rests_at true keys) ≤ most e = few_at e keys alike are distinct lawful true in
+    let odds : length (rests_at false keys) ≤ most e = few_at e keys alike are distinct lawful false in
+    omega (arith, all_places keys, evens, odds)

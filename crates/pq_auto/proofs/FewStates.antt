@@ -11,7 +11,7 @@ use Rattle.pq_deriv.proofs.Choices.{one_changed, one_before, one_behind, one_cho
 use Rattle.pq_auto.specs.Machine.{Machine, AllBelow, follow, has_even_length}
 use Rattle.pq_auto.specs.Search.{run}
 use Rattle.pq_auto.specs.Searched.{IsSearched}
-use Rattle.pq_auto.specs.Tables.{TableValue, begin, lists, other_parity, starts, steps, steps_from}
+use Rattle.pq_auto.specs.Tables.{begin, lists, other_parity, starts, steps, steps_from}
 use Rattle.pq_auto.specs.Telling.{HaveFew}
 use Rattle.pq_auto.proofs.Assembled.{same_count}
 use Rattle.pq_auto.proofs.Counted.{count_within, all_changed, distinct_lists}
@@ -24,7 +24,7 @@ bit true = 0
 bit false = 1
 
 -- the parity's number after a word
-bit_after : (tables : List TableValue) (w k : List ℕ) (b : Bool) → get_or k 0 0 ≡ bit b → get_or (run (steps tables) k w) 0 0 ≡ bit (if b then has_even_length w else not (has_even_length w))
+bit_after : (tables : List Machine) (w k : List ℕ) (b : Bool) → get_or k 0 0 ≡ bit b → get_or (run (steps tables) k w) 0 0 ≡ bit (if b then has_even_length w else not (has_even_length w))
 bit_after tables [] k true is = is
 bit_after tables [] k false is = is
 bit_after tables (l ∷ w) k true is = bit_after tables w (steps tables k l) false (ap other_parity is)
@@ -35,28 +35,28 @@ bit_after tables (l ∷ w) k false is = bit_after tables w (steps tables k l) tr
     by false = refl
 
 -- there is a number for each automaton
-length_from : (i : ℕ) (ts : List TableValue) (k : List ℕ) (l : ℕ) → length (steps_from i ts k l) ≡ length ts
+length_from : (i : ℕ) (ts : List Machine) (k : List ℕ) (l : ℕ) → length (steps_from i ts k l) ≡ length ts
 length_from i [] k l = refl
 length_from i (t ∷ ts) k l = ap suc (length_from (suc i) ts k l)
 
-length_starts : (ts : List TableValue) → length (starts ts) ≡ length ts
+length_starts : (ts : List Machine) → length (starts ts) ≡ length ts
 length_starts [] = refl
 length_starts (t ∷ ts) = ap suc (length_starts ts)
 
-length_run : (tables : List TableValue) (w k : List ℕ) → length k ≡ suc (length tables) → length (run (steps tables) k w) ≡ suc (length tables)
+length_run : (tables : List Machine) (w k : List ℕ) → length k ≡ suc (length tables) → length (run (steps tables) k w) ≡ suc (length tables)
 length_run tables [] k long = long
 length_run tables (l ∷ w) k long = length_run tables w (steps tables k l) (ap suc (length_from 1 tables k l))
 
 -- the numbers are those where the word leads the automata
-abbrev AreLed : List TableValue → List ℕ → List ℕ → Type 0
-AreLed ts w xs = (length xs ≡ length ts) × ((j : ℕ) (t : TableValue) → slice_get ts j ≡ Some t → get_or xs j 0 ≡ follow t.rows 0 w)
+abbrev AreLed : List Machine → List ℕ → List ℕ → Type 0
+AreLed ts w xs = (length xs ≡ length ts) × ((j : ℕ) (t : Machine) → slice_get ts j ≡ Some t → get_or xs j 0 ≡ follow t.rows 0 w)
 
 -- each number in front of each list
 abbrev put_first : List ℕ → List (List ℕ) → List (List ℕ)
 put_first ns cs = flat_map (λ x. map (λ c. x ∷ c) cs) ns
 
 -- one automaton more
-led_more : (t : TableValue) (ts : List TableValue) (w ns : List ℕ) (cs : List (List ℕ)) (xs : List ℕ) → AreLed (t ∷ ts) w xs → IsOneOf ns (follow t.rows 0 w) → ((ys : List ℕ) → AreLed ts w ys → IsOneOf cs ys) → IsOneOf (put_first ns cs) xs
+led_more : (t : Machine) (ts : List Machine) (w ns : List ℕ) (cs : List (List ℕ)) (xs : List ℕ) → AreLed (t ∷ ts) w xs → IsOneOf ns (follow t.rows 0 w) → ((ys : List ℕ) → AreLed ts w ys → IsOneOf cs ys) → IsOneOf (put_first ns cs) xs
 led_more t ts w ns cs [] are here rest = absurd (omega (arith, are.0))
 led_more t ts w ns cs (x ∷ xs) are here rest =
     let first : x ≡ follow t.rows 0 w = are.1 0 t refl in
@@ -64,10 +64,10 @@ led_more t ts w ns cs (x ∷ xs) are here rest =
     one_chosen ns cs x xs (subst (IsOneOf ns) (sym first) here) (rest xs (long, λ j u at. are.1 (suc j) u at))
 
 -- words of one parity lead all automata to at most so many states
-abbrev IsFew : ℕ → List TableValue → ℕ → Bool → Type 0
+abbrev IsFew : ℕ → List Machine → ℕ → Bool → Type 0
 IsFew letters ts m b = (cs : List (List ℕ)) × (length cs ≤ m) × ((w : List ℕ) → AllBelow letters w → has_even_length w ≡ b → (xs : List ℕ) → AreLed ts w xs → IsOneOf cs xs)
 
-few_of_all : (letters : ℕ) (ts : List TableValue) (ms : List ℕ) → HaveFew letters ts ms → (b : Bool) → IsFew letters ts (product ms) b
+few_of_all : (letters : ℕ) (ts : List Machine) (ms : List ℕ) → HaveFew letters ts ms → (b : Bool) → IsFew letters ts (product ms) b
 few_of_all letters [] [] few b = ([] ∷ [], omega arith, λ w below is xs are. none xs are.0)
   where
     none : (xs : List ℕ) → length xs ≡ 0 → IsOneOf ([] ∷ []) xs
@@ -81,13 +81,13 @@ few_of_all letters (t ∷ ts) (m ∷ ms) few b =
     let each = mul-le (length here.0) (length rest.0) m (product ms) here.1 rest.1 in
     (put_first here.0 rest.0, omega (arith, each, count_chosen rest.0 here.0), λ w below is xs are. led_more t ts w here.0 rest.0 xs are (here.2 w below is) (rest.2 w below is))
 
-module _ (letters : ℕ) (tables : List TableValue) (m : ℕ) (evens : IsFew letters tables m true) (odds : IsFew letters tables m false) where
+module _ (letters : ℕ) (tables : List Machine) (m : ℕ) (evens : IsFew letters tables m true) (odds : IsFew letters tables m false) where
   -- all lists of a parity and of numbers where words of this parity lead
   abbrev all_keys : List (List ℕ)
   all_keys = map (λ c. 0 ∷ c) evens.0 ++ map (λ c. 1 ∷ c) odds.0
 
   -- the list of numbers where a word leads is one of them
-  one_key : (w : List ℕ) → AllBelow letters w → (k : List ℕ) → length k ≡ suc (length tables) → get_or k 0 0 ≡ bit (has_even_length w) → ((j : ℕ) (t : TableValue) → slice_get tables j ≡ Some t → get_or k (suc j) 0 ≡ follow t.rows 0 w) → IsOneOf all_keys k
+  one_key : (w : List ℕ) → AllBelow letters w → (k : List ℕ) → length k ≡ suc (length tables) → get_or k 0 0 ≡ bit (has_even_length w) → ((j : ℕ) (t : Machine) → slice_get tables j ≡ Some t → get_or k (suc j) 0 ≡ follow t.rows 0 w) → IsOneOf all_keys k
   one_key w below [] long parity are = absurd (omega (arith, long))
   one_key w below (p ∷ xs) long parity are = by (has_even_length w) refl parity
     where
@@ -111,7 +111,7 @@ module _ (letters : ℕ) (tables : List TableValue) (m : ℕ) (evens : IsFew let
       omega (arith, count_keys, count_within all_keys keys distinct (subst (AllByRecursion (IsOneOf all_keys)) searched.have.lead each))
 
 -- so the automaton of all of them has at most so many states
-pub few_rows : (tables : List TableValue) (a : Machine) (keys : List (Vec ℕ Global)) → IsSearched (steps tables) (begin tables) a.letters (lists keys) a.rows → length (lists keys) ≤ length a.rows → IsDistinct same_list keys → (ms : List ℕ) → HaveFew a.letters tables ms → length a.rows ≤ 2 * product ms
+pub few_rows : (tables : List Machine) (a : Machine) (keys : List (Vec ℕ Global)) → IsSearched (steps tables) (begin tables) a.letters (lists keys) a.rows → length (lists keys) ≤ length a.rows → IsDistinct same_list keys → (ms : List ℕ) → HaveFew a.letters tables ms → length a.rows ≤ 2 * product ms
 few_rows tables a keys searched all distinct ms few =
     let most = few_keys a.letters tables (product ms) (few_of_all a.letters tables ms few true) (few_of_all a.letters tables ms few false) (lists keys) a.rows searched (distinct_lists keys distinct) in
-    omega (arith, most, same_count tables a (lists keys) searched all)
+    omega (arith, most, same_count (steps tables) (begin tables) a (lists keys) searched all)

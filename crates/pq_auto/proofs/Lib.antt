@@ -14,3 +14,12 @@ pub mod Tellings
 pub mod Counted
 pub mod FewRests
 pub mod FewStates
+pub mod Steps
+pub mod Numbers
+pub mod Seen
+pub mod Settled
+pub mod Rounds
+pub mod Quotients
+pub mod LeastWords
+pub mod Whole
+pub mod Joined

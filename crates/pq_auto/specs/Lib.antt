@@ -7,3 +7,5 @@ pub mod Tables
 pub mod Searched
 pub mod Rests
 pub mod Telling
+pub mod Parts
+pub mod Refinement

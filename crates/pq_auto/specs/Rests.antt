@@ -22,6 +22,13 @@ whole e = record { holds = holds e; even = true }
 abbrev pub accepts_nothing_more : Rest → Bool
 accepts_nothing_more r = r.holds []
 
+-- the place of the only expression, where it holds the words that lead here
+abbrev pub alone : Bool → List ℕ
+alone holds = if holds then 0 ∷ [] else []
+
+abbrev pub held : Rest → List ℕ
+held r = alone (accepts_nothing_more r)
+
 -- the next half step is In behind words of even length
 abbrev pub side_of : Bool → Side
 side_of even = if even then In else Out

@@ -3,7 +3,10 @@
 
 mod automaton;
 mod exploration;
+mod partition;
 mod product;
+mod quotient;
+mod refinement;
 mod single;
 mod table;
 #[cfg(test)]
@@ -11,3 +14,5 @@ mod tests;
 
 pub use automaton::Automaton;
 pub use exploration::explore;
+pub use quotient::least;
+pub use table::Table;

@@ -44,7 +44,7 @@ fn step(alloc: Global, tables: &[Table], state: &[u64], letter: u64) -> Result<V
     next.push(parity)?;
     for table in tables {
         let number = number_at(state, next.len());
-        next.push(table.next(number, letter))?;
+        next.push(table.after(number, letter))?;
     }
     Ok(next)
 }
@@ -163,10 +163,11 @@ pub(crate) fn product(
     let keys = states.as_slice();
     let even = parities(alloc, keys)?;
     let accepted = all_accepting(alloc, tables, keys)?;
-    Ok(Automaton {
+    let table = Table {
         letters,
         rows,
         even,
         accepted,
-    })
+    };
+    Ok(Automaton { table })
 }

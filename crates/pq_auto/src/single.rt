@@ -1,13 +1,16 @@
 //! The automaton of one expression.
-ghost use Rattle.std.specs.Prelude.{◌≡◌, ◌<◌, ◌≤◌, Some, length, map, IfOk, OnOk, slice_get};
-ghost use Rattle.pq_expr.specs.Expr.{expr_tree, ExprTree};
+ghost use Rattle.std.specs.Prelude.{◌≡◌, ◌<◌, ◌≤◌, ◌+◌, ◌*◌, Some, length, map, IfOk, OnOk, slice_get};
+ghost use Rattle.pq_expr.specs.Expr.{expr_tree, ExprTree, IsLawful};
+ghost use Rattle.pq_deriv.specs.Most.{most};
 ghost use Rattle.pq_deriv.specs.Rests.{IsRest};
 ghost use Rattle.pq_auto.specs.Searched.{IsSearched};
+ghost use Rattle.pq_auto.specs.Machine.{IsLeastMachine};
 ghost use Rattle.pq_auto.specs.Telling.{IsTable};
-ghost use Rattle.pq_auto.specs.Rests.{accepts_nothing_more, after, behind, rest_of, rests, whole, side_of, AreAlike, AreLike, AreRestsOf, IsRestOf, Rest};
+ghost use Rattle.pq_auto.specs.Rests.{after, alone, held, behind, rest_of, rests, whole, side_of, AreAlike, AreLike, AreRestsOf, IsRestOf, Rest};
 ghost use Rattle.pq_auto.specs.Search.{targets, AreNumbers, IsNumber};
 ghost use Rattle.pq_auto.specs.Tables.{lists};
 
+use crate::quotient::least;
 use crate::table::Table;
 use indexmap::IndexSet;
 use pq_deriv::{State, accepts, start, step};
@@ -46,6 +49,7 @@ fn expand<L: Ledger>(
 ) -> Result<Vec<u64>, AllocError>
     requires place { place < length states.old.keys }
     requires alike { AreAlike states.old.keys }
+    ensures counted { OnOk result (steps.new ≡ steps.old + length alphabet.now) }
     ensures row { IfOk result (λ row. (r : Rest) → slice_get (rests states.old.keys) place ≡ Some r → AreNumbers (rests states.old.keys) (targets (after (map (λ v. v.items) alphabet.now)) r 0 (length alphabet.now)) row.items (rests states.new.keys)) }
     ensures alike { OnOk result (AreAlike states.new.keys) }
     ensures rests { OnOk result ((e : ExprTree) → AreRestsOf e states.old.keys → AreRestsOf e states.new.keys) }
@@ -68,20 +72,44 @@ fn step_at<L: Ledger>(
     ensures expr { IfOk result (λ s. s.0.expr ≡ state.now.0.expr) }
     ensures rest { IfOk result (λ s. rest_of s ≡ behind (rest_of state.now) signature.now) }
     ensures own { IfOk result (λ s. IsRest (expr_tree s.0.expr) s.0.rest) }
+    ensures counted { steps.new ≡ steps.old + 1 }
 {
     let next = step(alloc, &state.0, side_of(state.1), signature, steps)?;
     Ok((next, !state.1))
 }
 
-/// For each state whether it accepts the empty word.
-fn acceptances(alloc: Global, states: &[(State, bool)]) -> Result<Vec<bool>, AllocError>
-    ensures { IfOk result (λ v. v.items ≡ map accepts_nothing_more (rests states.now)) }
+/// For each state whether the next half step is In.
+fn parities(alloc: Global, states: &[(State, bool)]) -> Result<Vec<bool>, AllocError>
+    ensures { IfOk result (λ v. v.items ≡ map (λ r. r.even) (rests states.now)) }
 {
-    let mut flags = Vec::with_capacity(alloc, states.len())?;
+    let mut even = Vec::with_capacity(alloc, states.len())?;
     for state in states {
-        flags.push(accepts(&state.0))?;
+        even.push(state.1)?;
     }
-    Ok(flags)
+    Ok(even)
+}
+
+/// The place 0 where the words are held, else none.
+fn alone(alloc: Global, holds: bool) -> Result<Vec<u32>, AllocError>
+    ensures { IfOk result (λ v. v.items ≡ alone holds) }
+{
+    let mut places = Vec::new(alloc);
+    if !holds {
+        return Ok(places);
+    }
+    places.push(0)?;
+    Ok(places)
+}
+
+/// For each state the place 0 where it accepts the empty word, else none.
+fn acceptances(alloc: Global, states: &[(State, bool)]) -> Result<Vec<Vec<u32>>, AllocError>
+    ensures { IfOk result (λ v. map (λ places. places.items) v.items ≡ map held (rests states.now)) }
+{
+    let mut all = Vec::with_capacity(alloc, states.len())?;
+    for state in states {
+        all.push(alone(alloc, accepts(&state.0))?)?;
+    }
+    Ok(all)
 }
 
 /// The numbers of all states after one letter more, state by state, and the states, in the order in which words reach them.
@@ -95,6 +123,7 @@ fn search<L: Ledger>(
     ensures all { IfOk result (λ r. length r.1.keys ≤ length r.0.items) }
     ensures alike { IfOk result (λ r. AreAlike r.1.keys) }
     ensures rests { IfOk result (λ r. AreRestsOf (expr_tree expr.now) r.1.keys) }
+    ensures counted { IfOk result (λ r. steps.new ≡ steps.old + length r.0.items * length alphabet.now) }
 {
     let mut states = IndexSet::new(alloc);
     number(&mut states, (start(alloc, expr)?, true))?;
@@ -106,18 +135,45 @@ fn search<L: Ledger>(
     Ok((rows, states))
 }
 
-/// The automaton of an expression over the letters of an alphabet. Each step of a state is counted.
+/// The automaton of the rests of an expression over the letters of an alphabet. Each step of a state is counted.
+fn explored<L: Ledger>(
+    alloc: Global,
+    expr: &Expr,
+    alphabet: &[Vec<bool>],
+    steps: &mut Steps<L>,
+) -> Result<Table, AllocError>
+    ensures table { IfOk result (λ t. IsTable (map (λ v. v.items) alphabet.now) t (expr_tree expr.now)) }
+    ensures counted { OnOk result (IsLawful (expr_tree expr.now) → steps.new ≤ steps.old + length alphabet.now * (2 * most (expr_tree expr.now))) }
+{
+    let letters = alphabet.len() as u64;
+    let (rows, states) = search(alloc, expr, alphabet, steps)?;
+    let keys = states.as_slice();
+    let even = parities(alloc, keys)?;
+    let accepted = acceptances(alloc, keys)?;
+    Ok(Table {
+        letters,
+        rows,
+        even,
+        accepted,
+    })
+}
+
+/// The least automaton of an expression over the letters of an alphabet: of its states no two have the same parity and hold
+/// the same words from there on. Each step of a state is counted.
 ///
-/// Where no list of operands is empty, words of each parity lead to at most `most` states.
+/// Where no list of operands is empty, words of each parity lead to at most `most` states, and there are at most twice as
+/// many steps a letter.
 pub(crate) fn single<L: Ledger>(
     alloc: Global,
     expr: &Expr,
     alphabet: &[Vec<bool>],
     steps: &mut Steps<L>,
 ) -> Result<Table, AllocError>
-    ensures { IfOk result (λ t. IsTable (map (λ v. v.items) alphabet.now) t (expr_tree expr.now)) }
+    ensures table { IfOk result (λ t. IsTable (map (λ v. v.items) alphabet.now) t (expr_tree expr.now)) }
+    ensures least { IfOk result IsLeastMachine }
+    ensures counted { OnOk result (IsLawful (expr_tree expr.now) → steps.new ≤ steps.old + length alphabet.now * (2 * most (expr_tree expr.now))) }
 {
-    let (rows, states) = search(alloc, expr, alphabet, steps)?;
-    let accepts = acceptances(alloc, states.as_slice())?;
-    Ok(Table { rows, accepts })
+    let table = explored(alloc, expr, alphabet, steps)?;
+    let least = least(alloc, &table)?;
+    Ok(least)
 }

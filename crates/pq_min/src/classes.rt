@@ -1,7 +1,9 @@
 ghost use Rattle.std.specs.Prelude.{◌≡◌, ◌<◌, [], length};
 ghost use Rattle.std.proofs.Math.ListN.{get_or};
-ghost use Rattle.pq_auto.specs.Machine.{accepted_at, is_even_at, AllBelow};
+ghost use Rattle.pq_auto.specs.Machine.{accepted_at, is_even_at, IsMachine, IsLeastMachine};
+ghost use Rattle.pq_auto.specs.Numbering.{IsNumbered};
 
+use pq_auto::Table;
 use std::marker::Model;
 
 /// The least automaton that says of each word over the letters its parity and which instances hold it: its states are the
@@ -10,22 +12,18 @@ use std::marker::Model;
 /// Class 0 is that of the empty word; classes are numbered by their least words, by length and then by letters.
 #[derive(Debug, Drop)]
 pub struct Classes {
-    pub(crate) letters: u64,
-    pub(crate) rows: Vec<Vec<u64>>,
-    pub(crate) even: Vec<bool>,
-    pub(crate) accepted: Vec<Vec<u32>>,
+    pub(crate) table: Table,
 }
 
 impl Model for Classes {
     ghost use Rattle.pq_auto.specs.Machine.{Machine, IsMachine, IsLeastMachine};
     ghost use Rattle.pq_auto.specs.Numbering.{IsNumbered};
-    ghost use Rattle.pq_min.specs.Stored.{stored_machine};
 
     ghost Value = { Machine };
 
-    ghost view = { stored_machine };
+    ghost view = { λ a. a.table };
 
-    ghost invariant = { λ a. IsMachine (stored_machine a) × IsNumbered (stored_machine a) × IsLeastMachine (stored_machine a) };
+    ghost invariant = { λ a. IsMachine a.table × IsNumbered a.table × IsLeastMachine a.table };
 }
 
 impl Classes {
@@ -33,7 +31,7 @@ impl Classes {
     pub fn count(&self) -> u64
         ensures { result ≡ length self.now.rows }
     {
-        self.rows.len() as u64
+        self.table.count()
     }
 
     /// Whether the words that reach the class have even length.
@@ -41,28 +39,17 @@ impl Classes {
         requires { class < length self.now.rows }
         ensures { result ≡ is_even_at self.now class }
     {
-        self.even[class as usize]
+        self.table.is_even(class)
     }
 
     /// The class after one letter more.
-    #[tactic(auto, using(pq_auto::proofs::Below::one_below))]
     pub fn next(&self, class: u64, letter: u64) -> u64
         requires class { class < length self.now.rows }
         requires letter { letter < self.now.letters }
         ensures next { result ≡ get_or (get_or self.now.rows class []) letter 0 }
         ensures within { result < length self.now.rows }
     {
-        self.row(class)[letter as usize]
-    }
-
-    /// The next class for each letter.
-    pub(crate) fn row(&self, class: u64) -> &[u64]
-        requires { class < length self.now.rows }
-        ensures row { result.now ≡ get_or self.now.rows class [] }
-        ensures long { length result.now ≡ self.now.letters }
-        ensures within { AllBelow (length self.now.rows) result.now }
-    {
-        &self.rows[class as usize]
+        self.table.next(class, letter)
     }
 
     /// The instances that hold the words that reach the class, ascending.
@@ -70,6 +57,16 @@ impl Classes {
         requires { class < length self.now.rows }
         ensures { result.now ≡ accepted_at self.now class }
     {
-        &self.accepted[class as usize]
+        self.table.accepted(class)
+    }
+
+    /// Each class has a parity and a next class for each letter, classes are numbered by their least words, and no two are the
+    /// same.
+    pub fn is_lawful(&self)
+        ensures machine { IsMachine self.now }
+        ensures numbered { IsNumbered self.now }
+        ensures least { IsLeastMachine self.now }
+    {
+        let _ = &self.table;
     }
 }

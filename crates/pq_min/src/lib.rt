@@ -3,11 +3,6 @@
 
 mod classes;
 mod minimisation;
-mod partition;
-mod quotient;
-mod refinement;
-#[cfg(test)]
-mod tests;
 
 pub use classes::Classes;
 pub use minimisation::minimise;

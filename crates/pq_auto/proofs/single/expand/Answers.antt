@@ -1,4 +1,4 @@
-use Rattle.std.proofs.Common.{map, length, subst}
+use Rattle.std.proofs.Common.{map, length, subst, arith}
 use Rattle.pq_auto.specs.Rests.{rest_of, rests, after}
 use Rattle.pq_auto.specs.Search.{IsNumber, targets}
 use Rattle.pq_auto.proofs.Alike.{like_of, alike_of, next_own, letter_rest, read_at, rest_at, rest_stays, still_within}
@@ -8,6 +8,7 @@ use Rattle.pq_auto.proofs.single.expand.Goals as goal
 pub loop-letter-init : goal.loop-letter-init
 loop-letter-init g c = record {
   within = c.requires.place;
+  counted = omega arith;
   alike = c.requires.alike;
   own = λ e are. are;
   stays = λ r at. at;
@@ -35,6 +36,7 @@ loop-letter-preserved g c =
     let goes = after (map (λ v. v.items) c.args.alphabet.now) in
     let at_place = read_at keys c.as_slice.result.now c.args.place k inv.within c.as_slice.ensures.keys c.index-as_slice-place.is in
     record {
+      counted = omega (arith, c.step_at.ensures.counted, inv.counted);
       within = still_within keys new (rest_of next) n c.args.place number inv.within;
       alike = alike_of new next c.in_ok-number.ensures.alike;
       own = λ e are. c.in_ok-number.ensures.rests e (inv.own e are) (next_own e keys c.args.place k next (inv.own e are) at_place c.in_ok-next.ensures.expr c.in_ok-next.ensures.own);
@@ -48,6 +50,9 @@ loop-letter-preserved g c =
 pub returns-clause-row : goal.returns-clause-row
 returns-clause-row g c r at = numbers_all (after (map (λ v. v.items) c.args.alphabet.now)) r c.loop-letter.letter (length c.args.alphabet.now) (rests c.loop-letter.states.keys) c.loop-letter.row.items (rests c.args.states.now.keys)
     (targets (after (map (λ v. v.items) c.args.alphabet.now)) r 0 (length c.args.alphabet.now)) c.loop-letter-test.false (c.loop-letter.invariant.numbers r at)
+
+pub returns-clause-counted : goal.returns-clause-counted
+returns-clause-counted g c = omega (arith, c.loop-letter.invariant.counted, c.loop-letter-test.false)
 
 pub returns-clause-alike : goal.returns-clause-alike
 returns-clause-alike g c = c.loop-letter.invariant.alike

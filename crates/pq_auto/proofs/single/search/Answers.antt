@@ -6,6 +6,7 @@ use Rattle.pq_auto.specs.Rests.{after, rest_of, rests, whole}
 use Rattle.pq_auto.specs.Tables.{lists}
 use Rattle.pq_auto.proofs.Alike.{alike_of, no_rests}
 use Rattle.pq_auto.proofs.Found.{found_first, found_next, next_rest}
+use Rattle.pq_auto.proofs.Steps.{none_counted, more_counted}
 use Rattle.pq_auto.proofs.single.search.Goals as goal
 
 pub states-init : goal.states-init
@@ -16,6 +17,7 @@ states-init g c =
           (ap rests c.new-states.ensures.empty) (λ i. record { holds = λ w. c.in_ok-start.ensures.accepted w i; even = true }) c.in_ok-number.ensures.number (ap lists c.new-rows.ensures.items);
       alike = alike_of c.number.new.states.keys state c.in_ok-number.ensures.alike;
       own = c.in_ok-number.ensures.rests (expr_tree c.args.expr.now) (no_rests (expr_tree c.args.expr.now) c.new-states.result.keys c.new-states.ensures.empty) (c.in_ok-start.ensures.expr, c.in_ok-start.ensures.rest);
+      counted = none_counted c.args.steps.now c.new-rows.result.items (length c.args.alphabet.now) c.new-rows.ensures.items;
     }
 
 pub states-preserved : goal.states-preserved
@@ -29,4 +31,5 @@ states-preserved g c =
           (c.in_ok-row.ensures.row next.0 (ap (slice_get (rests keys)) place ∙ next.1)) c.in_ok-push.ensures.items;
       alike = c.in_ok-row.ensures.alike;
       own = c.in_ok-row.ensures.rests (expr_tree c.args.expr.now) c.states.invariant.own;
+      counted = more_counted c.args.steps.now c.states.steps c.expand.new.steps c.states.rows.items c.push.new.self.items c.in_ok-row.row (length c.args.alphabet.now) c.states.invariant.counted c.in_ok-row.ensures.counted c.in_ok-push.ensures.items;
     }

@@ -1,4 +1,4 @@
-use Rattle.std.proofs.Common.{◌^◌, ◌-◌, length, map}
+use Rattle.std.proofs.Common.{◌≡◌, ◌+◌, ◌*◌, ◌^◌, ◌-◌, length, map}
 use Rattle.pq_expr.specs.Expr.{expr_tree}
 use Rattle.pq_auto.specs.Rests.{after, rests, whole, AreAlike, AreRestsOf}
 use Rattle.pq_auto.specs.Searched.{IsSearched}
@@ -10,6 +10,7 @@ invariant-states g l = record {
   searched : IsSearched (after (map (λ v. v.items) l.alphabet)) (whole (expr_tree l.expr)) (length l.alphabet) (rests l.states.keys) (lists l.rows.items);
   alike : AreAlike l.states.keys;
   own : AreRestsOf (expr_tree l.expr) l.states.keys;
+  counted : l.steps ≡ l.fn.steps + length l.rows.items * length l.alphabet;
 }
 
 abbrev pub decreases-states : goal.decreases-states

@@ -1,9 +1,0 @@
-use Rattle.std.proofs.Common.{◌-◌, length}
-use Rattle.pq_min.specs.Refinement.{IsRound}
-use Rattle.pq_min.proofs.refinement.settled.Given as goal
-
-abbrev pub invariant-loop-parts : goal.invariant-loop-parts
-invariant-loop-parts l = IsRound l.automaton l.parts
-
-abbrev pub decreases-loop-parts : goal.decreases-loop-parts
-decreases-loop-parts l = length l.automaton.rows - length l.parts.firsts

@@ -1,3 +1,0 @@
-pub mod Parts
-pub mod Refinement
-pub mod Stored
