@@ -8,6 +8,10 @@ use Rattle.pq_store.specs.Tree.{Tree, value, past}
 use Rattle.pq_store.specs.Tree.Tree.{Fork}
 use Rattle.pq_store.specs.Diagram.{IsBefore, SkipsBelow, Fits, HasEqualSides, IsDiagram}
 
+-- the tree at a place is such
+abbrev pub HasAt : {L : Type 0} → (Tree L → Type 0) → List (Tree L) → ℕ → Type 0
+HasAt {L} P ts k = (t : Tree L) × (slice_get ts k ≡ Some t) × P t
+
 module _ {L : Type 0} where
   -- the value on a packet of the tree at a place
   abbrev pub value_at : List (Tree L) → ℕ → Numbers → Option L
