@@ -2,7 +2,7 @@
 use Rattle.std.proofs.Common.{ℕ, suc, ◌+◌, ◌<◌, ◌≤◌, ◌≡◌, ◌∙◌, List, ◌∷◌, length, map, drop, get_or, drop-cons, sym, ap, subst, arith}
 use Rattle.pq_query.specs.declared.query.Query.{Query}
 use Rattle.pq_query.specs.Query.{QueryTree, queries, query_tree}
-use Rattle.pq_lower.specs.Lowered.{atoms, query_atoms}
+use Rattle.pq_query.specs.Atoms.{atoms, query_atoms}
 
 -- the atoms of queries are those of the first and of the rest
 regroup : (all count : ℕ) (q : QueryTree) (qs : List QueryTree) → all ≤ count + atoms (queries (q ∷ qs)) → all ≤ count + (query_atoms q + atoms (queries qs))

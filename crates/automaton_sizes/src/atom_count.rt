@@ -1,7 +1,7 @@
 //! The number of atoms of a query.
 ghost use Rattle.std.specs.Prelude.{◌≤◌, ◌^◌, map};
 ghost use Rattle.pq_query.specs.Query.{queries, query_tree};
-ghost use Rattle.pq_lower.specs.Lowered.{atoms, query_atoms};
+ghost use Rattle.pq_query.specs.Atoms.{atoms, query_atoms};
 
 use pq_query::Query;
 

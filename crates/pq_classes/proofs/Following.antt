@@ -61,6 +61,7 @@ same_ascending (x ∷ xs) (y ∷ ys) up vp to from =
     firsts (zero, at) h = cc
     firsts (suc k, at) (zero, is) = cc
     firsts (suc k, at) (suc j, is) = let less = later y ys k x vp at in let more = later x xs j y up is in absurd (omega (arith, less, more))
+
     beyond : (x : ℕ) (xs : List ℕ) (y : ℕ) (ys : List ℕ) (i : ℕ) → Ascends (x ∷ xs) → x ≡ y → Has xs i → Has (y ∷ ys) i → Has ys i
     beyond x xs y ys i up first (j, is) (suc k, at) = (k, at)
     beyond x xs y ys i up first (j, is) (zero, at) = let less = later x xs j i up is in let same : y ≡ i = cc in absurd (omega (arith, less, first, same))

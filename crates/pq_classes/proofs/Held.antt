@@ -49,6 +49,7 @@ holding_from_has k (d ∷ es) w i n at = by (holds d w) refl n at
   where
     later : (n : ℕ) → slice_get (holding_from (suc k) es w) n ≡ Some i → (j : ℕ) × (e : ExprTree) × (i ≡ k + j) × (slice_get (d ∷ es) j ≡ Some e) × (holds e w ≡ true)
     later n at = let found = holding_from_has (suc k) es w i n at in (suc found.0, found.1, omega (arith, found.2), found.3, found.4)
+
     by : (b : Bool) → holds d w ≡ b → (n : ℕ) → slice_get (if b then k ∷ holding_from (suc k) es w else holding_from (suc k) es w) n ≡ Some i → (j : ℕ) × (e : ExprTree) × (i ≡ k + j) × (slice_get (d ∷ es) j ≡ Some e) × (holds e w ≡ true)
     by true is zero at = let same : k ≡ i = cc in (0, d, omega (arith, same), refl, is)
     by true is (suc n) at = later n at
@@ -116,6 +117,7 @@ are_holding qs ps is es lowered within w word = record {
   where
     asked : Instance → QueryTree
     asked i = get_or qs i.query (record { top = Rattle.pq_query.specs.Query.InTurn; below = Rattle.pq_query.specs.Query.none })
+
     below : (i j : ℕ) (x : Instance) → slice_get is j ≡ Some x → x.query < length qs
     below i j x at = subst (λ y. y.query < length qs) (get_or_from_slice_get is j x x at) (within j x (slice_get_within is j x at))
 
@@ -129,10 +131,12 @@ same_steps a ps lettered tells w (word, fits) = by true w word fits
     side_of : Bool → Side
     side_of true = Inward
     side_of false = Outward
+
     truth : (x : Numbers) → Fit x → map (λ p. holds_pred p x) ps ≡ get_or a.signatures (letter_number a x) []
     truth x fit =
         let whole = lettered.whole x fit in
         sym (tells x whole.0 fit whole.2) ∙ ap (λ o. get_or a.signatures (unwrap_or o 0) []) (sym whole.2)
+
     by : (enters : Bool) (w : Word) → alternates enters w ≡ true → AllObservedFit w → half_steps ps w ≡ half_steps_from (side_of enters) a.signatures (letters_of a w)
     by enters [] word fits = refl
     by true (In x ∷ w) word fits = ap₂ (λ t v. record { side = Inward; truth = t } ∷ v) (truth x (All-head (λ o. Fit (observed_packet o)) (In x) w fits)) (by false w word (All-tail (λ o. Fit (observed_packet o)) (In x) w fits))

@@ -114,17 +114,17 @@ module _ (Ls : Languages) (a : LettersValue) (lettered : IsLettered a) (m : Mach
       let more_v : IsPath (v ++ e) = subst (λ b. IsPath (v ++ spelled a b ls)) (sym same.parity) (path_more a lettered v path_v ls (to_letters ls below)) in
       let to_u : class_of a m (u ++ e) ≡ follow m.rows (class_of a m u) ls = spelled_more u path_u ls below in
       let to_v : class_of a m (v ++ e) ≡ follow m.rows (class_of a m v) ls =
-          subst (λ b. class_of a m (v ++ spelled a b ls) ≡ follow m.rows (class_of a m v) ls) (sym same.parity) (spelled_more v path_v ls below) in
+      subst (λ b. class_of a m (v ++ spelled a b ls) ≡ follow m.rows (class_of a m v) ls) (sym same.parity) (spelled_more v path_v ls below) in
       let hold_u = holding (u ++ e) more_u in
       let hold_v = holding (v ++ e) more_v in (
         ap (is_even_at m) (sym to_u) ∙ class_even (u ++ e) more_u ∙ even_append u v e same.parity ∙ sym (class_even (v ++ e) more_v) ∙ ap (is_even_at m) to_v,
         ap (accepted_at m) (sym to_u)
-        ∙ same_contents (accepted_at m (class_of a m (u ++ e))) (accepted_at m (class_of a m (v ++ e))) hold_u.ascend hold_v.ascend
-          (λ i. (
-            λ h. (hold_v.exact i).1 ((same.held e more_u more_v i).0 ((hold_u.exact i).0 h)),
-            λ h. (hold_u.exact i).1 ((same.held e more_u more_v i).1 ((hold_v.exact i).0 h)),
-          ))
-        ∙ ap (accepted_at m) to_v,
+            ∙ same_contents (accepted_at m (class_of a m (u ++ e))) (accepted_at m (class_of a m (v ++ e))) hold_u.ascend hold_v.ascend
+            (λ i. (
+              λ h. (hold_v.exact i).1 ((same.held e more_u more_v i).0 ((hold_u.exact i).0 h)),
+              λ h. (hold_u.exact i).1 ((same.held e more_u more_v i).1 ((hold_v.exact i).0 h)),
+            ))
+            ∙ ap (accepted_at m) to_v,
       ))
 
   -- the least word of a class, with the least packet of each letter
@@ -152,9 +152,9 @@ module _ (Ls : Languages) (a : LettersValue) (lettered : IsLettered a) (m : Mach
   first_before c d less within =
       let within_c : c < length m.rows = omega (arith, less, within) in
       let lesser : letters_are_before (letters_of a (first_word c)) (letters_of a (first_word d)) ≡ true =
-          subst (λ ls. letters_are_before ls (letters_of a (first_word d)) ≡ true) (sym (first_letters c within_c))
-          (subst (λ ls. letters_are_before (get_or numbering.0 c []) ls ≡ true) (sym (first_letters d within))
-          (letters_before (get_or numbering.0 c []) (get_or numbering.0 d []) (numbering.1.ascend c d less within))) in
+      subst (λ ls. letters_are_before ls (letters_of a (first_word d)) ≡ true) (sym (first_letters c within_c))
+      (subst (λ ls. letters_are_before (get_or numbering.0 c []) ls ≡ true) (sym (first_letters d within))
+      (letters_before (get_or numbering.0 c []) (get_or numbering.0 d []) (numbering.1.ascend c d less within))) in
       subst (λ v. word_is_before v (first_word d) ≡ true) (first_own c within_c)
       (subst (λ w. word_is_before (least_word a (first_word c)) w ≡ true) (first_own d within)
       (lesser_word a lettered (first_word c) (first_word d) (first_path d within).1 lesser))

@@ -126,6 +126,7 @@ even_append u v w same = by u ∙ ap (λ b. if b then has_even_length w else not
     step true c = refl
     step false true = refl
     step false false = refl
+
     by : (u : Word) → has_even_length (u ++ w) ≡ (if has_even_length u then has_even_length w else not (has_even_length w))
     by [] = refl
     by (o ∷ u) = ap not (by u) ∙ step (has_even_length u) (has_even_length w)

@@ -1,5 +1,5 @@
 -- Documents that are read are lawful.
-use Rattle.std.specs.Prelude.{◌≡◌, ℕ, ◌+◌, ◌≤◌, Bool, true, false, if◌then◌else◌, List, [], ◌∷◌, ◌++◌, length, All, nat_le, bytes_eq, IsTrue, Some, None, Ok}
+use Rattle.std.specs.Prelude.{◌≡◌, ℕ, ◌+◌, ◌<◌, ◌≤◌, Bool, true, false, if◌then◌else◌, List, [], ◌∷◌, ◌++◌, length, All, nat_le, bytes_eq, IsTrue, Some, None, Ok}
 use Rattle.std.specs.List.{AllByRecursion, IsDistinct, list_any}
 use Rattle.std.specs.Cmp.Lexicographic.{nat_list_eq_equiv}
 use Rattle.std.proofs.Common.{arith, refl, sym, subst, length-append}
@@ -11,7 +11,9 @@ use Rattle.pq_term.specs.declared.token.Token.{Token}
 use Rattle.pq_term.specs.Names.{is_name}
 use Rattle.pq_grammar.specs.declared.class.Class.{Class}
 use Rattle.pq_grammar.specs.declared.class.Class.TheVariants.{PartWord, QueryWord}
+use Rattle.pq_grammar.specs.declared.sort.Sort.{Sort}
 use Rattle.pq_tree.specs.Trees.{Forest, nothing, grown, Tree}
+use Rattle.pq_tree.specs.Reading.{IsForestOf}
 use Rattle.pq_tree.specs.Texts.{text_in}
 use Rattle.pq_model.specs.Topology.{Topology}
 use Rattle.pq_topo.specs.declared.fault.NameKind.TheVariants.{Many, Doubled}
@@ -33,6 +35,8 @@ use Rattle.pq_pred.specs.Named.{MayStand}
 use Rattle.pq_query.specs.Lawful.{IsLawfulQuery, IsQueryOver}
 use Rattle.pq_compile.specs.Lawful.{AreLawfulNames, names_in, IsLawfulDocument}
 use Rattle.pq_compile.proofs.Fits.{reads_fitting, reads_standing}
+use Rattle.pq_query.specs.Atoms.{query_atoms}
+use Rattle.pq_compile.proofs.Counted.{queries_few}
 use Rattle.pq_compile.proofs.LawfulPolicies.{policy_over}
 use Rattle.pq_compile.proofs.LawfulQueries.{query_over}
 
@@ -152,3 +156,13 @@ document_lawful bytes f d e =
     let asked = next_ok (queries_of T bytes f) (λ queries. Ok (record { topology = T; parts = parted.0; queries = queries })) d parted.2 in
     let same : record { topology = T; parts = parted.0; queries = asked.0 } ≡ d = cc in
     described bytes f T (topology_lawful bytes f T made.1) parted.0 asked.0 d parted.1 asked.1 same
+
+-- and its queries have few atoms
+pub document_few : (sort : Sort) (bytes : List ℕ) (f : Forest) (d : DocumentTree) → IsForestOf sort bytes f → document_of bytes f ≡ Ok d → All (λ q. query_atoms q.1 < length bytes) d.queries
+document_few sort bytes f d is e =
+    let made = next_ok (topology_of bytes f) (λ T. next (parts_of T bytes f) (λ parts. next (queries_of T bytes f) (λ queries. Ok (record { topology = T; parts = parts; queries = queries })))) d e in
+    let T = made.0 in
+    let parted = next_ok (parts_of T bytes f) (λ parts. next (queries_of T bytes f) (λ queries. Ok (record { topology = T; parts = parts; queries = queries }))) d made.2 in
+    let asked = next_ok (queries_of T bytes f) (λ queries. Ok (record { topology = T; parts = parted.0; queries = queries })) d parted.2 in
+    let same : record { topology = T; parts = parted.0; queries = asked.0 } ≡ d = cc in
+    subst (λ d. All (λ q. query_atoms q.1 < length bytes) d.queries) same (queries_few T bytes sort f asked.0 is asked.1)

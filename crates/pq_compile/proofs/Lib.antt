@@ -1,3 +1,4 @@
+mod Counted
 mod Fits
 mod LawfulDocuments
 mod LawfulGroups

@@ -1,5 +1,5 @@
 //! What is read is lawful: it meets what calls that come after the reading ask for.
-ghost use Rattle.std.specs.Prelude.{◌≡◌, ℕ, List, Ok};
+ghost use Rattle.std.specs.Prelude.{◌≡◌, ◌<◌, ℕ, List, Ok, All, length};
 ghost use Rattle.pq_fields.specs.Pred.{PredTree, IsLawfulPred, IsPredOver};
 ghost use Rattle.pq_tree.specs.Trees.{Tree};
 ghost use Rattle.pq_model.specs.Topology.{Topology};
@@ -8,6 +8,7 @@ ghost use Rattle.pq_pred.specs.Named.{MayStand};
 ghost use Rattle.pq_pred.specs.Predicates.{pred_of};
 ghost use Rattle.pq_policy.specs.Policy.{PolicyTree, IsLawfulPolicy, IsPolicyOver};
 ghost use Rattle.pq_policy.specs.Resolved.{policy_of};
+ghost use Rattle.pq_query.specs.Atoms.{query_atoms};
 ghost use Rattle.pq_query.specs.Lawful.{IsLawfulQuery, IsQueryOver};
 ghost use Rattle.pq_query.specs.Query.{QueryTree};
 ghost use Rattle.pq_query.specs.Resolved.{query_of};
@@ -39,4 +40,9 @@ pub fn queries_that_are_read_are_lawful()
 /// with names that differ, and all policies and queries are lawful and name only switches of the network.
 pub fn documents_that_are_read_are_lawful()
     ensures { (bytes : List ℕ) (d : DocumentTree) → Spells bytes d → IsLawfulDocument d }
+{}
+
+/// A query has fewer atoms than its text has bytes.
+pub fn queries_that_are_read_have_few_atoms()
+    ensures { (bytes : List ℕ) (d : DocumentTree) → Spells bytes d → All (λ q. query_atoms q.1 < length bytes) d.queries }
 {}

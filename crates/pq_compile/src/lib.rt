@@ -17,6 +17,7 @@ pub use fault::DocumentFault;
 pub use lawful::{
     documents_that_are_read_are_lawful, policies_that_are_read_are_lawful,
     predicates_that_are_read_are_lawful, queries_that_are_read_are_lawful,
+    queries_that_are_read_have_few_atoms,
 };
 pub use laws::has_one_document;
 pub use reading::read_document;

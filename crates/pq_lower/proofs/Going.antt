@@ -10,7 +10,8 @@ use Rattle.pq_query.specs.Query.{QueryTree, queries, query_tree}
 use Rattle.pq_query.specs.Labels.{top_groups, groups_of}
 use Rattle.pq_query.specs.Language.{share}
 use Rattle.pq_lower.specs.Added.{preds_of, query_preds, query_count}
-use Rattle.pq_lower.specs.Lowered.{lowered, lowered_each, atoms, query_atoms}
+use Rattle.pq_query.specs.Atoms.{atoms, query_atoms}
+use Rattle.pq_lower.specs.Lowered.{lowered, lowered_each}
 use Rattle.pq_lower.proofs.Places.{counted, few_preds}
 
 -- what is left of a list

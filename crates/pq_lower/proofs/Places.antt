@@ -6,7 +6,7 @@ use Rattle.pq_query.specs.Groups.{Group}
 use Rattle.pq_query.specs.Query.{QueryTop, Enters, Leaves, Passes, Ends, InTurn, Either, Both, Other, Repeated, Queries, none, put, QueryTree}
 use Rattle.pq_query.specs.Language.{share}
 use Rattle.pq_lower.specs.Added.{top_preds, preds_of, query_preds, top_count, pred_count, query_count}
-use Rattle.pq_lower.specs.Lowered.{top_atoms, atoms, query_atoms}
+use Rattle.pq_query.specs.Atoms.{top_atoms, atoms, query_atoms}
 use Rattle.pq_lower.proofs.Seen.{truth}
 
 -- the first list has the others from this place on

@@ -10,7 +10,8 @@ use Rattle.pq_query.specs.Query.{QueryTree}
 use Rattle.pq_query.specs.Language.{lang}
 use Rattle.pq_lower.specs.HalfSteps.{half_steps}
 use Rattle.pq_lower.specs.Added.{query_preds, added_preds, query_count}
-use Rattle.pq_lower.specs.Lowered.{lowered, query_atoms}
+use Rattle.pq_query.specs.Atoms.{query_atoms}
+use Rattle.pq_lower.specs.Lowered.{lowered}
 use Rattle.pq_lower.proofs.Places.{HasAt, has_first, has_second, number_tells, counted, few_preds}
 use Rattle.pq_lower.proofs.Meaning.{lowered_tells}
 use Rattle.pq_lower.proofs.Bounds.{IsGood, lowered_good}

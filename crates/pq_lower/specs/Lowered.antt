@@ -32,22 +32,3 @@ lowered_each t n (put top below rest) = lowered_top t n top (lowered_each t n be
 -- a query
 abbrev pub lowered : ℕ → ℕ → QueryTree → ExprTree
 lowered t n q = lowered_top t n q.top (lowered_each t n q.below)
-
--- the number of atoms of queries
-abbrev pub top_atoms : QueryTop → ℕ
-top_atoms (Enters p gs) = 1
-top_atoms (Leaves p gs) = 1
-top_atoms (Passes p gs q hs) = 1
-top_atoms (Ends p) = 1
-top_atoms InTurn = 0
-top_atoms Either = 0
-top_atoms Both = 0
-top_atoms Other = 0
-top_atoms Repeated = 0
-
-abbrev pub atoms : Queries → ℕ
-atoms none = 0
-atoms (put top below rest) = top_atoms top + (atoms below + atoms rest)
-
-abbrev pub query_atoms : QueryTree → ℕ
-query_atoms q = top_atoms q.top + atoms q.below

@@ -11,7 +11,7 @@ ghost use Rattle.pq_query.specs.Query.{query_tree};
 ghost use Rattle.pq_lower.specs.HalfSteps.{half_steps};
 ghost use Rattle.pq_lower.specs.Added.{added_preds};
 ghost use Rattle.pq_lower.specs.Built.{IsFittingLabel};
-ghost use Rattle.pq_lower.specs.Lowered.{query_atoms};
+ghost use Rattle.pq_query.specs.Atoms.{query_atoms};
 
 use crate::lowering::lower_query;
 use crate::predicates::every_packet;

@@ -6,7 +6,8 @@ ghost use Rattle.pq_query.specs.Language.{share};
 ghost use Rattle.pq_query.specs.Labels.{groups_of};
 ghost use Rattle.pq_query.specs.Query.{queries, query_tree};
 ghost use Rattle.pq_lower.specs.Added.{preds_of, query_preds};
-ghost use Rattle.pq_lower.specs.Lowered.{atoms, lowered, lowered_each, query_atoms};
+ghost use Rattle.pq_query.specs.Atoms.{atoms, query_atoms};
+ghost use Rattle.pq_lower.specs.Lowered.{lowered, lowered_each};
 
 use crate::atoms::{one_seen, one_sent, two_seen};
 use crate::operators::{all_of, any_of, other_than, repeated, turn_of};

@@ -1,7 +1,7 @@
 //! The expression of a small query, worked out by hand.
 ghost use Rattle.std.specs.Prelude.{◌≡◌, IfOk};
 ghost use Rattle.pq_query.specs.Query.{query_tree};
-ghost use Rattle.pq_lower.specs.Lowered.{query_atoms};
+ghost use Rattle.pq_query.specs.Atoms.{query_atoms};
 
 use crate::*;
 use pq_fields::{Label, Pred};

@@ -7,3 +7,4 @@ pub mod Instances
 pub mod Counts
 pub mod Lawful
 pub mod Languages
+pub mod Atoms

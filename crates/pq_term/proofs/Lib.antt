@@ -5,3 +5,4 @@ pub mod Within
 pub mod Cuts
 pub mod GroupValues
 pub mod Stored
+pub mod Few

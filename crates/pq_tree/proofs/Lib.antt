@@ -3,3 +3,4 @@ pub mod Closing
 pub mod OneReading
 pub mod OneEdit
 pub mod Worked
+pub mod Sizes

@@ -1,6 +1,6 @@
 use Rattle.std.proofs.Common.{map, arith}
 use Rattle.pq_query.specs.Query.{queries, query_tree}
-use Rattle.pq_lower.specs.Lowered.{atoms}
+use Rattle.pq_query.specs.Atoms.{atoms}
 use Rattle.automaton_sizes.proofs.Atoms.{one_counted}
 use Rattle.automaton_sizes.proofs.atom_count.+counted.Goals as goal
 

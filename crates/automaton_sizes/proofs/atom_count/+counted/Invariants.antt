@@ -1,6 +1,6 @@
 use Rattle.std.proofs.Common.{◌≤◌, ◌+◌, ◌^◌, drop, map}
 use Rattle.pq_query.specs.Query.{queries, query_tree}
-use Rattle.pq_lower.specs.Lowered.{atoms}
+use Rattle.pq_query.specs.Atoms.{atoms}
 use Rattle.automaton_sizes.proofs.atom_count.+counted.Given as goal
 
 -- few atoms are counted, and with those of the queries that are left they are all
