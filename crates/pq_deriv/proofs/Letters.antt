@@ -7,11 +7,12 @@ use Rattle.pq_expr.specs.declared.expr.Expr.{Expr}
 use Rattle.pq_expr.specs.Expr.{InTurn, Either, Both, ExprTree, Exprs, expr_tree, expr_trees}
 use Rattle.pq_expr.specs.Language.{Language, joined, in_turn, repeated, holds, languages}
 use Rattle.pq_expr.proofs.Cuts.{repeated_cons}
-use Rattle.pq_deriv.specs.Parts.{parts, members, set_of, first_part, behind_part}
+use Rattle.pq_deriv.specs.Parts.{members, set_of, first_part, behind_part, first_set, behind_set, first_gap, behind_gap, spread, set_before}
 use Rattle.pq_deriv.specs.Left.{Left, left, lefts, set_left, turn_left, top_left, repeated_left}
 use Rattle.pq_deriv.specs.Stepped.{some_ends, stepped_left, IsSetStepped, AreStepped, AreSetsStepped}
 use Rattle.pq_deriv.proofs.Reading.{parts_front, members_read}
-use Rattle.pq_deriv.proofs.Turns.{or_false, and_false, and_true, one_language, set_cons, set_ends, turn_front, turn_stepped}
+use Rattle.pq_deriv.proofs.Spread.{first_read, behind_read, spread_gap}
+use Rattle.pq_deriv.proofs.Turns.{or_false, and_false, and_true, one_language, set_cons, set_ends, turn_stepped}
 
 -- a member more
 pub member_more : (left : Left) (l : HalfStep) (part rest : List ℕ) (old new later : List (List ℕ)) → ((v : Word) → left rest v ≡ left part (l ∷ v)) →
@@ -39,14 +40,21 @@ set_begun l e old stepped new start begun r steps starts begins puts spelled P w
     rw (spelled, members_read new, puts P w, same, steps P w) (or_comm (joined (λ v. holds e (l ∷ v)) P w) (stepped_left l (left e) P old w))
 
 -- an operand in turn more
-pub turn_more : (l : HalfStep) (e : Expr) (es : List Expr) (begins : Bool) (old set more : List ℕ) → IsSetStepped l (expr_tree e) begins (members (first_part old)) (members set) →
-    AreSetsStepped l (expr_trees es) ((begins && holds (expr_tree e) []) || some_ends (left (expr_tree e)) (members (first_part old))) (behind_part old) more →
-    AreSetsStepped l (expr_trees (e ∷ es)) begins old ((length set ∷ set) ++ more)
+pub turn_more : (l : HalfStep) (e : Expr) (es : List Expr) (begins : Bool) (old set more : List ℕ) → IsSetStepped l (expr_tree e) begins (members (first_set old)) (members set) →
+    AreSetsStepped l (expr_trees es) ((begins && holds (expr_tree e) []) || some_ends (left (expr_tree e)) (members (first_set old))) (behind_set old) more →
+    AreSetsStepped l (expr_trees (e ∷ es)) begins old (set_before set more)
 turn_more l e es begins old set more steps rest w =
     let Ps = languages (expr_trees es) in
     let ls = lefts (expr_trees es) in
-    rw (take-append_seam set more, drop-append_seam set more, steps (in_turn Ps) w, rest w, turn_front (holds (expr_tree e)) Ps (left (expr_tree e)) ls (length Ps) old (l ∷ w))
-    (turn_stepped begins (holds (expr_tree e)) Ps (left (expr_tree e)) (members (first_part old)) l w (turn_left Ps ls (parts (length Ps) (behind_part old)) (l ∷ w)))
+    rw (first_read set more, behind_read set more, steps (in_turn Ps) w, rest w)
+    (turn_stepped begins (holds (expr_tree e)) Ps (left (expr_tree e)) (members (first_set old)) l w (turn_left Ps ls (spread (length Ps) (behind_set old)) (l ∷ w)))
+
+-- the number of empty sets apart from what stands behind it
+pub sets_from : (l : HalfStep) (es : Exprs) (begins : Bool) (old new : List ℕ) → AreSetsStepped l es begins old new → AreSetsStepped l es begins (first_gap old ∷ behind_gap old) new
+sets_from l es begins old new steps w = rw (spread_gap (length (languages es)) old) (steps w)
+
+pub sets_whole : (l : HalfStep) (es : Exprs) (begins : Bool) (old new : List ℕ) → AreSetsStepped l es begins (first_gap old ∷ behind_gap old) new → AreSetsStepped l es begins old new
+sets_whole l es begins old new steps w = rw (← spread_gap (length (languages es)) old) (steps w)
 
 -- no operand is left
 pub turn_over : (l : HalfStep) (begins : Bool) (old new : List ℕ) → AreSetsStepped l (expr_trees []) begins old new

@@ -1,4 +1,5 @@
 pub mod Reading
+pub mod Spread
 pub mod Turns
 pub mod Members
 pub mod Beginnings

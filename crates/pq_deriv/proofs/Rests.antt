@@ -12,7 +12,7 @@ use Rattle.std.proofs.lemmas.Nat.{mul-le, pow-add}
 use Rattle.std.proofs.Math.Nat.{pow-le-pow_right, pow-succ'}
 use Rattle.pq_expr.specs.Expr.{ExprTop, NoWord, EmptyWord, Enters, Leaves, InTurn, Either, Both, Other, Repeated, Exprs, none, put, ExprTree, HasOperands, AreLawful, IsLawful}
 use Rattle.pq_expr.proofs.Cuts.{either}
-use Rattle.pq_deriv.specs.Parts.{spelled, set_of}
+use Rattle.pq_deriv.specs.Parts.{spelled, set_of, packed}
 use Rattle.pq_deriv.specs.Choices.{IsOneOf, choices, sublists}
 use Rattle.pq_deriv.specs.Most.{product, first_number, top_most, mosts, most}
 use Rattle.pq_deriv.specs.Rests.{ascending, AreMembers, sets, first_rests, top_rests, rests, all_rests, IsRest}
@@ -93,7 +93,7 @@ count_top (Leaves p) below ns some few = omega arith
 count_top InTurn none ns some few = absurd (some refl)
 count_top InTurn (put top below rest) ns some few =
     let Us = rests (put top below rest) in
-    omega (arith, count_turns Us ns few, length-map (choices (map sets Us)) spelled)
+    omega (arith, count_turns Us ns few, length-map (choices (map sets Us)) packed)
 count_top Either below ns some few = omega (arith, count_choices (rests below) ns few, length-map (choices (rests below)) spelled)
 count_top Both below ns some few = omega (arith, count_choices (rests below) ns few, length-map (choices (rests below)) spelled)
 count_top Other below ns some few = count_first (rests below) ns few

@@ -1,13 +1,12 @@
 -- Numbers that are rests: in parts, and with sets.
-use Rattle.std.proofs.Common.{◌≡◌, ◌==◌, true, false, rules, ℕ, suc, ◌<◌, ◌-◌, inl, inr, List, [], ◌∷◌, ◌++◌, length, map, replicate, take, drop, get_or, arith, refl, ap, subst}
-use Rattle.std.proofs.Math.Seq.{take-length}
+use Rattle.std.proofs.Common.{◌≡◌, ◌==◌, true, false, rules, ℕ, ◌<◌, inl, inr, List, [], ◌∷◌, ◌++◌, length, map, get_or, arith, refl, subst}
 use Rattle.std.proofs.lemmas.List.{append-nil}
 use Rattle.std.specs.List.Sorted.{IsStrictlySortedBy}
 use Rattle.pq_expr.specs.declared.expr.Expr.{Expr}
 use Rattle.pq_expr.specs.Expr.{InTurn, Repeated, expr_tree, expr_trees}
-use Rattle.pq_deriv.specs.Parts.{spelled}
+use Rattle.pq_deriv.specs.Parts.{spelled, packed, set_before}
 use Rattle.pq_deriv.specs.Choices.{IsOneOf, choices}
-use Rattle.pq_deriv.specs.Rests.{AreMembers, sets, first_rests, in_parts, top_rests, rests, all_rests, IsRest}
+use Rattle.pq_deriv.specs.Rests.{AreMembers, sets, first_rests, in_parts, in_sets, top_rests, rests, all_rests, IsRest}
 use Rattle.pq_deriv.proofs.Choices.{one_changed, one_before, one_behind, one_chosen}
 use Rattle.pq_deriv.proofs.Rests.{one_set}
 
@@ -35,33 +34,35 @@ one_member : (U : List (List ℕ)) (r : List ℕ) → IsOneOf U r → AreMembers
 unfolding IsStrictlySortedBy
 one_member U r one = ((tt, tt), (one, tt))
 
-none_have : (Us : List (List (List ℕ))) → IsOneOf (in_parts (map sets Us)) (replicate (length Us) 0)
-none_have [] = no_part
-none_have (U ∷ Us) = part_more (sets U) (map sets Us) [] (replicate (length Us) 0) (one_set U [] (no_members U)) (none_have Us)
+-- no set, and a set more
+pub no_set : IsOneOf (in_sets []) []
+no_set = inl refl
+
+pub set_more : (U : List (List ℕ)) (Us : List (List (List ℕ))) (r more : List ℕ) → IsOneOf U r → IsOneOf (in_sets Us) more → IsOneOf (in_sets (U ∷ Us)) (set_before r more)
+set_more U Us r more one others =
+    let c = from_changed packed (choices Us) more others in
+    subst (λ (z : List ℕ). IsOneOf (in_sets (U ∷ Us)) (set_before r z)) c.2 (one_changed packed (choices (U ∷ Us)) (r ∷ c.0) (one_chosen U (choices Us) r c.0 one c.1))
+
+none_have : (Us : List (List (List ℕ))) → IsOneOf (in_sets (map sets Us)) []
+none_have [] = no_set
+none_have (U ∷ Us) = set_more (sets U) (map sets Us) [] [] (one_set U [] (no_members U)) (none_have Us)
 
 -- operands of which the first is begun
-count_operands : (es : List Expr) → length (rests (expr_trees es)) ≡ length es
-count_operands [] = refl
-count_operands (e ∷ es) = ap suc (count_operands es)
-
-pub turn_shaped : (es : List Expr) (e : Expr) (r : List ℕ) → 0 < length es → e ≡ get_or es 0 e → IsRest (expr_tree e) r →
-    IsOneOf (top_rests InTurn (rests (expr_trees es))) ((length (1 ∷ length r ∷ r) ∷ 1 ∷ length r ∷ r) ++ replicate (length (take (length es - 1) (drop 1 es))) 0)
+pub turn_shaped : (es : List Expr) (e : Expr) (r : List ℕ) → 0 < length es → e ≡ get_or es 0 e → IsRest (expr_tree e) r → IsOneOf (top_rests InTurn (rests (expr_trees es))) (0 ∷ length (1 ∷ length r ∷ r) ∷ 1 ∷ length r ∷ r)
 turn_shaped [] e r some is one = absurd (omega (arith, some))
 turn_shaped (x ∷ es) e r some is one =
-    let count : length (x ∷ es) - 1 ≡ length es = omega arith in
     let first : IsRest (expr_tree x) r = subst (λ (y : Expr). IsRest (expr_tree y) r) is one in
     let set : IsOneOf (sets (all_rests (expr_tree x))) (1 ∷ length r ∷ r) =
     subst (λ (z : List ℕ). IsOneOf (sets (all_rests (expr_tree x))) (1 ∷ length r ∷ z)) (append-nil r) (one_set (all_rests (expr_tree x)) (r ∷ []) (one_member (all_rests (expr_tree x)) r first)) in
-    rw (count, take-length es)
-    (part_more (sets (all_rests (expr_tree x))) (map sets (rests (expr_trees es))) (1 ∷ length r ∷ r) (replicate (length es) 0) set
-    (subst (λ (n : ℕ). IsOneOf (in_parts (map sets (rests (expr_trees es)))) (replicate n 0)) (count_operands es) (none_have (rests (expr_trees es)))))
+    subst (λ (z : List ℕ). IsOneOf (top_rests InTurn (rests (expr_trees (x ∷ es)))) (0 ∷ length (1 ∷ length r ∷ r) ∷ z)) (append-nil (1 ∷ length r ∷ r))
+    (set_more (sets (all_rests (expr_tree x))) (map sets (rests (expr_trees es))) (1 ∷ length r ∷ r) [] set (none_have (rests (expr_trees es))))
 
 -- operands in turn: none, or some
 pub turn_none : (es : List Expr) → (length es == 0) ≡ true → IsOneOf (top_rests InTurn (rests (expr_trees es))) (0 ∷ [])
 turn_none [] none = inl refl
 turn_none (e ∷ es) none = absurd (search (none, rules))
 
-pub turn_some : (es : List Expr) → (length es == 0) ≡ false → top_rests InTurn (rests (expr_trees es)) ≡ in_parts (map sets (rests (expr_trees es)))
+pub turn_some : (es : List Expr) → (length es == 0) ≡ false → top_rests InTurn (rests (expr_trees es)) ≡ in_sets (map sets (rests (expr_trees es)))
 turn_some [] some = absurd (search (some, rules))
 turn_some (e ∷ es) some = refl
 

@@ -5,8 +5,7 @@ use Rattle.std.specs.List.{list_all}
 use Rattle.pq_expr.specs.Word.{HalfStep, Word}
 use Rattle.pq_expr.specs.Language.{Language, joined, in_turn}
 use Rattle.pq_expr.proofs.Cuts.{joined_cons, joined_empty}
-use Rattle.pq_deriv.specs.Parts.{parts, members, first_part, behind_part}
-use Rattle.pq_deriv.proofs.Reading.{parts_front}
+use Rattle.pq_deriv.specs.Parts.{members, spread, first_set, behind_set}
 use Rattle.pq_deriv.specs.Left.{Left, set_left, turn_left}
 use Rattle.pq_deriv.specs.Stepped.{some_ends, stepped_left}
 
@@ -57,8 +56,8 @@ set_cons left P l w (r ∷ set) = rw (joined_cons (left r) P l w, set_cons left 
 
 -- the first operand's set, and the later ones
 pub turn_front : (P : Language) (Ps : List Language) (left : Left) (lefts : List Left) (n : ℕ) (r : List ℕ) (w : Word) →
-    turn_left (P ∷ Ps) (left ∷ lefts) (parts (suc n) r) w ≡ (set_left left (in_turn Ps) (members (first_part r)) w || turn_left Ps lefts (parts n (behind_part r)) w)
-turn_front P Ps left lefts n r w = rw (parts_front n r) refl
+    turn_left (P ∷ Ps) (left ∷ lefts) (spread (suc n) r) w ≡ (set_left left (in_turn Ps) (members (first_set r)) w || turn_left Ps lefts (spread n (behind_set r)) w)
+turn_front P Ps left lefts n r w = refl
 
 -- a set that operands follow, before the empty word
 ended : (b p t a u : Bool) → ((((b && p) || a) && t) || u) ≡ ((b && (p && t)) || ((a && t) || u))

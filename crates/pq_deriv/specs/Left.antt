@@ -7,7 +7,7 @@ use Rattle.pq_expr.specs.declared.side.Side.TheVariants.{In, Out}
 use Rattle.pq_expr.specs.Word.{Word}
 use Rattle.pq_expr.specs.Expr.{ExprTop, NoWord, EmptyWord, Enters, Leaves, InTurn, Either, Both, Other, Repeated, Exprs, none, put, ExprTree}
 use Rattle.pq_expr.specs.Language.{Language, is_empty, is_step, joined, in_turn, repeated, first, languages}
-use Rattle.pq_deriv.specs.Parts.{parts, members}
+use Rattle.pq_deriv.specs.Parts.{parts, members, spread}
 
 -- which words a rest still accepts
 abbrev pub Left : Type 0
@@ -55,7 +55,7 @@ top_left EmptyWord Ps lefts r w = is_fresh r && is_empty w
 top_left (Enters p) Ps lefts r w = atom_left In p (get_or r 0 0) w
 top_left (Leaves p) Ps lefts r w = atom_left Out p (get_or r 0 0) w
 top_left InTurn [] lefts r w = is_fresh r && is_empty w
-top_left InTurn (P ∷ Ps) lefts r w = turn_left (P ∷ Ps) lefts (parts (length (P ∷ Ps)) r) w
+top_left InTurn (P ∷ Ps) lefts r w = turn_left (P ∷ Ps) lefts (spread (length (P ∷ Ps)) r) w
 top_left Either Ps lefts r w = list_any (λ b. b) (each_left lefts (parts (length lefts) r) w)
 top_left Both Ps lefts r w = list_all (λ b. b) (each_left lefts (parts (length lefts) r) w)
 top_left Other Ps lefts r w = not (first_left lefts r w)

@@ -6,7 +6,7 @@ use Rattle.std.specs.BTreeSet.{insert_key}
 use Rattle.std.specs.Ordering.{nat_cmp}
 use Rattle.std.specs.Cmp.Lexicographic.{slice_cmp}
 use Rattle.pq_expr.specs.Expr.{ExprTop, NoWord, EmptyWord, Enters, Leaves, InTurn, Either, Both, Other, Repeated, Exprs, none, put, ExprTree}
-use Rattle.pq_deriv.specs.Parts.{spelled, set_of}
+use Rattle.pq_deriv.specs.Parts.{spelled, set_of, packed}
 use Rattle.pq_deriv.specs.Choices.{IsOneOf, choices, sublists}
 
 -- the lists in ascending order, each once
@@ -31,6 +31,10 @@ first_rests (U ∷ Us) = U
 abbrev pub in_parts : List (List (List ℕ)) → List (List ℕ)
 in_parts Us = map spelled (choices Us)
 
+-- the sets that are one of each list, written one after another
+abbrev pub in_sets : List (List (List ℕ)) → List (List ℕ)
+in_sets Us = map packed (choices Us)
+
 -- all rests with this top, from those of the operands
 abbrev pub top_rests : ExprTop → List (List (List ℕ)) → List (List ℕ)
 top_rests NoWord Us = [] ∷ []
@@ -38,7 +42,7 @@ top_rests EmptyWord Us = (0 ∷ []) ∷ (1 ∷ []) ∷ []
 top_rests (Enters p) Us = (0 ∷ []) ∷ (1 ∷ []) ∷ (2 ∷ []) ∷ []
 top_rests (Leaves p) Us = (0 ∷ []) ∷ (1 ∷ []) ∷ (2 ∷ []) ∷ []
 top_rests InTurn [] = (0 ∷ []) ∷ (1 ∷ []) ∷ []
-top_rests InTurn (U ∷ Us) = in_parts (map sets (U ∷ Us))
+top_rests InTurn (U ∷ Us) = in_sets (map sets (U ∷ Us))
 top_rests Either Us = in_parts Us
 top_rests Both Us = in_parts Us
 top_rests Other Us = first_rests Us

@@ -4,7 +4,7 @@ use Rattle.std.specs.List.{list_any}
 use Rattle.pq_expr.specs.Word.{HalfStep, Word}
 use Rattle.pq_expr.specs.Expr.{ExprTree, Exprs}
 use Rattle.pq_expr.specs.Language.{Language, joined, in_turn, languages, holds}
-use Rattle.pq_deriv.specs.Parts.{parts}
+use Rattle.pq_deriv.specs.Parts.{parts, spread}
 use Rattle.pq_deriv.specs.Left.{Left, left, lefts, set_left, turn_left, each_left}
 
 -- some rest of the set accepts the empty word
@@ -30,5 +30,5 @@ AreStepped l es old new = (w : Word) → each_left (lefts es) (parts (length (le
 -- the new sets accept what the old ones accept behind the half step, and what the operands hold behind it where they begin
 abbrev pub AreSetsStepped : HalfStep → Exprs → Bool → List ℕ → List ℕ → Type 0
 AreSetsStepped l es begins old new = (w : Word) →
-    turn_left (languages es) (lefts es) (parts (length (languages es)) new) w
-    ≡ ((begins && in_turn (languages es) (l ∷ w)) || turn_left (languages es) (lefts es) (parts (length (languages es)) old) (l ∷ w))
+    turn_left (languages es) (lefts es) (spread (length (languages es)) new) w
+    ≡ ((begins && in_turn (languages es) (l ∷ w)) || turn_left (languages es) (lefts es) (spread (length (languages es)) old) (l ∷ w))

@@ -35,15 +35,7 @@ fn turn_is_dead(exprs: &[Expr], rest: &[u64]) -> bool
     if exprs.is_empty() {
         return first_number(rest) != 1;
     }
-    let mut left = rest;
-    for _expr in exprs {
-        let (set, after) = split_part(left);
-        if !set.is_empty() {
-            return false;
-        }
-        left = after;
-    }
-    true
+    rest.is_empty()
 }
 
 /// Whether each of the rests is dead.

@@ -8,7 +8,7 @@ ghost use Rattle.pq_deriv.specs.Left.{left, lefts, top_left, each_left, repeated
 ghost use Rattle.pq_deriv.specs.Stepped.{some_ends};
 
 use crate::empties::holds_empty;
-use crate::parts::{first_number, split_part};
+use crate::parts::{first_number, split_gap, split_part, split_set};
 use pq_expr::Expr;
 
 /// Whether the rest of the expression accepts the empty word.
@@ -35,11 +35,12 @@ fn turn_ends(exprs: &[Expr], rest: &[u64]) -> bool
     if exprs.is_empty() {
         return first_number(rest) == 1;
     }
-    let mut left = rest;
+    let (mut gap, mut left) = split_gap(rest);
     let mut begins = false;
     for expr in exprs {
-        let (part, after) = split_part(left);
-        begins = passes(expr, part, begins);
+        let (set, next_gap, after) = split_set(gap, left);
+        begins = passes(expr, set, begins);
+        gap = next_gap;
         left = after;
     }
     begins

@@ -1,7 +1,7 @@
 //! Lists of numbers in parts, each behind its length.
-ghost use Rattle.std.specs.Prelude.{◌≡◌, ◌++◌, [], ◌∷◌, length, IfOk, OnOk};
+ghost use Rattle.std.specs.Prelude.{◌≡◌, ◌<◌, ◌≤◌, ◌+◌, ◌^◌, ◌++◌, ℕ, List, [], ◌∷◌, length, IfOk, OnOk};
 ghost use Rattle.std.proofs.Math.ListN.{get_or};
-ghost use Rattle.pq_deriv.specs.Parts.{first_part, behind_part};
+ghost use Rattle.pq_deriv.specs.Parts.{first_part, behind_part, first_gap, behind_gap, first_set, behind_set, set_before, wide};
 
 use std::alloc::{AllocError, Global};
 
@@ -15,6 +15,48 @@ pub(crate) fn split_part(rest: &[u64]) -> (&[u64], &[u64])
     };
     let place = (*len as usize).min(behind.len());
     behind.split_at(place)
+}
+
+/// How many empty sets stand first, and what stands behind that number.
+pub(crate) fn split_gap(rest: &[u64]) -> (u64, &[u64])
+    ensures gap { result.0 ≡ first_gap rest.now }
+    ensures behind { result.1.now ≡ behind_gap rest.now }
+{
+    let [gap, behind @ ..] = rest else {
+        return (0, rest);
+    };
+    (*gap, behind)
+}
+
+/// The first set, where so many empty ones stand first, and behind them this; then how many empty ones stand behind the first,
+/// and what stands behind that number.
+#[tactic(auto, using(crate::proofs::Spread::none_first, crate::proofs::Spread::behind_none))]
+pub(crate) fn split_set(gap: u64, left: &[u64]) -> (&[u64], u64, &[u64])
+    ensures set { result.0.now ≡ first_set (gap ∷ left.now) }
+    ensures gap { result.1 ≡ first_gap (behind_set (gap ∷ left.now)) }
+    ensures behind { result.2.now ≡ behind_gap (behind_set (gap ∷ left.now)) }
+{
+    if gap > 0 {
+        let (none, behind) = left.split_at(0);
+        return (none, gap - 1, behind);
+    }
+    let (set, behind) = split_part(left);
+    let (gap, behind) = split_gap(behind);
+    (set, gap, behind)
+}
+
+/// Appends the set behind so many empty ones, unless it is empty too. The answer is how many empty ones stand last then.
+pub(crate) fn push_set(out: &mut Vec<u64>, empties: u64, set: &[u64]) -> Result<u64, AllocError>
+    requires { empties + 1 < 2 ^ 64 }
+    ensures set { IfOk result (λ n. (more : List ℕ) → out.new.items ++ wide n more ≡ out.old.items ++ wide empties (set_before set.now more)) }
+    ensures few { IfOk result (λ n. n ≤ empties + 1) }
+{
+    if set.is_empty() {
+        return Ok(empties + 1);
+    }
+    out.push(empties)?;
+    push_part(out, set)?;
+    Ok(0)
 }
 
 /// Appends the part behind its length.

@@ -1,5 +1,5 @@
 //! The rests before any half step.
-ghost use Rattle.std.specs.Prelude.{◌≡◌, ◌++◌, ◌∷◌, length, replicate, IfOk};
+ghost use Rattle.std.specs.Prelude.{◌≡◌, ◌∷◌, length, IfOk};
 ghost use Rattle.pq_expr.specs.Word.{Word};
 ghost use Rattle.pq_expr.specs.Expr.{InTurn, expr_tree, expr_trees};
 ghost use Rattle.pq_deriv.specs.Choices.{IsOneOf};
@@ -37,24 +37,21 @@ fn start_turn(alloc: Global, exprs: &[Expr]) -> Result<Vec<u64>, AllocError>
     ensures left { IfOk result (λ r. (w : Word) → top_left InTurn (languages (expr_trees exprs.now)) (lefts (expr_trees exprs.now)) r.items w ≡ in_turn (languages (expr_trees exprs.now)) w) }
     ensures rest { IfOk result (λ r. IsOneOf (top_rests InTurn (rests (expr_trees exprs.now))) r.items) }
 {
-    let [first, later @ ..] = exprs else {
+    let [first, ..] = exprs else {
         return one_number(alloc, 1);
     };
     let start = start_rest(alloc, first)?;
-    begun(alloc, &start, later.len())
+    begun(alloc, &start)
 }
 
-/// One set with this member alone, and behind it so many empty sets.
-fn begun(alloc: Global, start: &[u64], later: usize) -> Result<Vec<u64>, AllocError>
-    ensures { IfOk result (λ r. r.items ≡ (length (1 ∷ length start.now ∷ start.now) ∷ 1 ∷ length start.now ∷ start.now) ++ replicate later 0) }
+/// The first set with this member alone, and all others empty.
+fn begun(alloc: Global, start: &[u64]) -> Result<Vec<u64>, AllocError>
+    ensures { IfOk result (λ r. r.items ≡ 0 ∷ length (1 ∷ length start.now ∷ start.now) ∷ 1 ∷ length start.now ∷ start.now) }
 {
     let mut set = one_number(alloc, 1)?;
     push_part(&mut set, start)?;
-    let mut out = Vec::new(alloc);
+    let mut out = one_number(alloc, 0)?;
     push_part(&mut out, &set)?;
-    for _empty in 0..later {
-        out.push(0)?;
-    }
     Ok(out)
 }
 

@@ -6,12 +6,12 @@ ghost use Rattle.pq_expr.specs.Language.{Language, holds, languages};
 ghost use Rattle.pq_deriv.specs.Parts.{members};
 ghost use Rattle.pq_deriv.specs.Left.{left, lefts, set_left, top_left, repeated_left};
 ghost use Rattle.pq_deriv.specs.Choices.{IsOneOf};
-ghost use Rattle.pq_deriv.specs.Rests.{AreMembers, sets, in_parts, top_rests, rests, all_rests, IsRest};
+ghost use Rattle.pq_deriv.specs.Rests.{AreMembers, sets, in_parts, in_sets, top_rests, rests, all_rests, IsRest};
 ghost use Rattle.pq_deriv.specs.Stepped.{stepped_left, IsSetStepped, AreStepped, AreSetsStepped};
 
 use crate::atoms::step_atom;
 use crate::ends::{passes, repetition_ends};
-use crate::parts::{one_number, push_part, split_part};
+use crate::parts::{one_number, push_part, push_set, split_gap, split_part, split_set};
 use crate::sets::{put, spell_set};
 use crate::starts::start_rest;
 use pq_expr::{Expr, Side};
@@ -83,8 +83,7 @@ fn step_turn(
     step_sets(alloc, exprs, rest, side, signature)
 }
 
-/// The sets of operands in turn after the half step, each behind its length. Where an operand can begin before the half
-/// step, it does.
+/// The sets of operands in turn after the half step. Where an operand can begin before the half step, it does.
 #[cycle(steps)]
 fn step_sets(
     alloc: Global,
@@ -94,16 +93,18 @@ fn step_sets(
     signature: &[bool],
 ) -> Result<Vec<u64>, AllocError>
     ensures left { IfOk result (λ r. AreSetsStepped (record { side = side; truth = signature.now }) (expr_trees exprs.now) false rest.now r.items) }
-    ensures rest { IfOk result (λ r. IsOneOf (in_parts (map sets (rests (expr_trees exprs.now)))) r.items) }
+    ensures rest { IfOk result (λ r. IsOneOf (in_sets (map sets (rests (expr_trees exprs.now)))) r.items) }
 {
     let mut out = Vec::new(alloc);
-    let mut left = rest;
+    let mut empties = 0;
+    let (mut gap, mut left) = split_gap(rest);
     let mut begins = false;
     for expr in exprs {
-        let (set, after) = split_part(left);
+        let (set, next_gap, after) = split_set(gap, left);
         let stepped = step_set(alloc, expr, set, begins, side, signature)?;
-        push_part(&mut out, &stepped)?;
+        empties = push_set(&mut out, empties, &stepped)?;
         begins = passes(expr, set, begins);
+        gap = next_gap;
         left = after;
     }
     Ok(out)

@@ -1,11 +1,12 @@
-use Rattle.std.proofs.Common.{◌+◌, [], length, drop, ◌∙◌, arith}
+use Rattle.std.proofs.Common.{◌+◌, [], ◌∷◌, length, drop, refl, ◌∙◌, arith}
 use Rattle.pq_expr.specs.Expr.{expr_tree, expr_trees}
 use Rattle.pq_expr.proofs.Trees.{tree_Cat, tree_Or, tree_And}
 use Rattle.pq_expr.specs.Language.{holds, languages}
-use Rattle.pq_deriv.specs.Parts.{parts, members, first_part, behind_part}
+use Rattle.pq_deriv.specs.Parts.{members, spread, first_set, behind_set}
 use Rattle.pq_deriv.specs.Left.{left, lefts, turn_left}
 use Rattle.pq_deriv.proofs.Reading.{item_first, parts_more}
-use Rattle.pq_deriv.proofs.Turns.{turn_front, turn_passed}
+use Rattle.pq_deriv.proofs.Spread.{spread_gap}
+use Rattle.pq_deriv.proofs.Turns.{turn_passed}
 use Rattle.pq_deriv.proofs.ends.+ends.Goals as goal
 
 pub ends-returns-in-Cat : goal.ends-returns-in-Cat
@@ -23,15 +24,18 @@ member_ends-loop-more-preserved t c =
     let ends = rw (c.split_part.ensures.part, c.if-ends.false) at c.ends.ensures in
     rw c.split_part.ensures.behind (rw (← ends) at before)
 
+pub turn_ends-loop-expr-init : goal.turn_ends-loop-expr-init
+turn_ends-loop-expr-init t c = rw (c.split_gap-gap.ensures.gap, c.split_gap-gap.ensures.behind, spread_gap (length (languages (expr_trees c.args.exprs.now))) c.args.rest.now) refl
+
 pub turn_ends-loop-expr-preserved : goal.turn_ends-loop-expr-preserved
 turn_ends-loop-expr-preserved t c =
     let es = c.args.exprs.now in
     let i = c.loop-expr.expr-index in
     let e = c.expr-item.result in
     let later = expr_trees (drop (i + 1) es) in
-    let r = c.loop-expr.left.now in
+    let r = c.loop-expr.gap ∷ c.loop-expr.left.now in
     let first = item_first es i e c.loop-expr-test.true c.expr-item.is in
-    let before = rw (first, turn_front (holds (expr_tree e)) (languages later) (left (expr_tree e)) (lefts later) (length (languages later)) r []) at c.loop-expr.invariant in
-    let passes = rw c.split_part.ensures.part at c.passes-begins.ensures in
-    rw (passes, c.split_part.ensures.behind)
-    (turn_passed c.loop-expr.begins (holds (expr_tree e)) (languages later) (left (expr_tree e)) (members (first_part r)) (turn_left (languages later) (lefts later) (parts (length (languages later)) (behind_part r)) []) ∙ before)
+    let before = rw first at c.loop-expr.invariant in
+    let passes = rw c.split_set-next_gap.ensures.set at c.passes-begins.ensures in
+    rw (passes, c.split_set-next_gap.ensures.gap, c.split_set-next_gap.ensures.behind, spread_gap (length (languages later)) (behind_set r))
+    (turn_passed c.loop-expr.begins (holds (expr_tree e)) (languages later) (left (expr_tree e)) (members (first_set r)) (turn_left (languages later) (lefts later) (spread (length (languages later)) (behind_set r)) []) ∙ before)

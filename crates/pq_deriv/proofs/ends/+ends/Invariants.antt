@@ -1,8 +1,8 @@
-use Rattle.std.proofs.Common.{◌≡◌, ◌&&◌, ◌||◌, [], length, drop}
+use Rattle.std.proofs.Common.{◌≡◌, ◌&&◌, ◌||◌, [], ◌∷◌, length, drop}
 use Rattle.std.specs.List.{list_any, list_all}
 use Rattle.pq_expr.specs.Expr.{expr_tree, expr_trees}
 use Rattle.pq_expr.specs.Language.{languages, in_turn}
-use Rattle.pq_deriv.specs.Parts.{parts, members}
+use Rattle.pq_deriv.specs.Parts.{parts, members, spread}
 use Rattle.pq_deriv.specs.Left.{left, lefts, turn_left, each_left}
 use Rattle.pq_deriv.specs.Stepped.{some_ends}
 use Rattle.pq_deriv.proofs.ends.+ends.Given as goal
@@ -26,5 +26,5 @@ decreases-member_ends-loop-more l = l.more
 abbrev pub invariant-turn_ends-loop-expr : goal.invariant-turn_ends-loop-expr
 invariant-turn_ends-loop-expr l =
     ((l.begins && in_turn (languages (expr_trees (drop l.expr-index l.exprs))) [])
-    || turn_left (languages (expr_trees (drop l.expr-index l.exprs))) (lefts (expr_trees (drop l.expr-index l.exprs))) (parts (length (languages (expr_trees (drop l.expr-index l.exprs)))) l.left) [])
-    ≡ turn_left (languages (expr_trees l.exprs)) (lefts (expr_trees l.exprs)) (parts (length (languages (expr_trees l.exprs))) l.rest) []
+    || turn_left (languages (expr_trees (drop l.expr-index l.exprs))) (lefts (expr_trees (drop l.expr-index l.exprs))) (spread (length (languages (expr_trees (drop l.expr-index l.exprs)))) (l.gap ∷ l.left)) [])
+    ≡ turn_left (languages (expr_trees l.exprs)) (lefts (expr_trees l.exprs)) (spread (length (languages (expr_trees l.exprs))) l.rest) []

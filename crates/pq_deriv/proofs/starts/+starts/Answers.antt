@@ -1,4 +1,4 @@
-use Rattle.std.proofs.Common.{◌≡◌, ◌+◌, [], ◌∷◌, ◌++◌, length, ◌-◌, take, drop, replicate, refl, IfOk, append_assoc, arith, sym, subst}
+use Rattle.std.proofs.Common.{◌≡◌, ◌+◌, [], ◌∷◌, ◌++◌, length, drop, refl, IfOk, append_assoc, arith, sym, subst}
 use Rattle.std.proofs.lemmas.List.{append-nil, drop_all}
 use Rattle.std.proofs.lemmas.Result.{IfOk-weaker}
 use Rattle.pq_expr.specs.Expr.{InTurn, Repeated, exprs, expr_tree, expr_trees}
@@ -55,18 +55,16 @@ pub start_turn-returns-clause-left : goal.start_turn-returns-clause-left
 start_turn-returns-clause-left t c =
     let es = c.args.exprs.now in
     let r = c.in_ok-start.start.items in
-    let later = length (take (length es - 1) (drop 1 es)) in
-    let is : IfOk c.begun.result (λ b. b.items ≡ (length (1 ∷ length r ∷ r) ∷ 1 ∷ length r ∷ r) ++ replicate later 0) = rw c.deref.ensures.value at c.begun.ensures in
-    IfOk-weaker c.begun.result (λ b. b.items ≡ (length (1 ∷ length r ∷ r) ∷ 1 ∷ length r ∷ r) ++ replicate later 0) _
-    (λ b is w. rw is (turn_begun es c.first-item.result r later (omega (arith, c.in-len1-up.len_at_least)) c.first-item.is c.in_ok-start.ensures.left w)) is
+    let is : IfOk c.begun.result (λ b. b.items ≡ (0 ∷ length (1 ∷ length r ∷ r) ∷ 1 ∷ length r ∷ r)) = rw c.deref.ensures.value at c.begun.ensures in
+    IfOk-weaker c.begun.result (λ b. b.items ≡ (0 ∷ length (1 ∷ length r ∷ r) ∷ 1 ∷ length r ∷ r)) _
+    (λ b is w. rw is (turn_begun es c.first-item.result r (omega (arith, c.in-len1-up.len_at_least)) c.first-item.is c.in_ok-start.ensures.left w)) is
 
 pub start_turn-returns-clause-rest : goal.start_turn-returns-clause-rest
 start_turn-returns-clause-rest t c =
     let es = c.args.exprs.now in
     let r = c.in_ok-start.start.items in
-    let later = length (take (length es - 1) (drop 1 es)) in
-    let is : IfOk c.begun.result (λ b. b.items ≡ (length (1 ∷ length r ∷ r) ∷ 1 ∷ length r ∷ r) ++ replicate later 0) = rw c.deref.ensures.value at c.begun.ensures in
-    IfOk-weaker c.begun.result (λ b. b.items ≡ (length (1 ∷ length r ∷ r) ∷ 1 ∷ length r ∷ r) ++ replicate later 0) _
+    let is : IfOk c.begun.result (λ b. b.items ≡ (0 ∷ length (1 ∷ length r ∷ r) ∷ 1 ∷ length r ∷ r)) = rw c.deref.ensures.value at c.begun.ensures in
+    IfOk-weaker c.begun.result (λ b. b.items ≡ (0 ∷ length (1 ∷ length r ∷ r) ∷ 1 ∷ length r ∷ r)) _
     (λ b is. subst (IsOneOf (top_rests InTurn (rests (expr_trees es)))) (sym is) (turn_shaped es c.first-item.result r (omega (arith, c.in-len1-up.len_at_least)) c.first-item.is c.in_ok-start.ensures.rest)) is
 
 pub start_rest-returns-in-Star-clause-rest : goal.start_rest-returns-in-Star-clause-rest

@@ -1,12 +1,12 @@
-use Rattle.std.proofs.Common.{◌≡◌, ℕ, List, ◌||◌, ◌++◌, false, map, drop}
+use Rattle.std.proofs.Common.{◌≡◌, ◌≤◌, ℕ, List, ◌∷◌, ◌||◌, ◌++◌, false, map, drop}
 use Rattle.pq_expr.specs.Word.{Word}
 use Rattle.pq_expr.specs.Expr.{expr_tree, expr_trees}
 use Rattle.pq_expr.specs.Language.{Language}
-use Rattle.pq_deriv.specs.Parts.{parts, members}
+use Rattle.pq_deriv.specs.Parts.{parts, members, wide}
 use Rattle.pq_deriv.specs.Left.{left, set_left}
 use Rattle.pq_deriv.specs.Stepped.{stepped_left, AreStepped, AreSetsStepped}
 use Rattle.pq_deriv.specs.Choices.{IsOneOf}
-use Rattle.pq_deriv.specs.Rests.{AreMembers, sets, in_parts, rests, all_rests}
+use Rattle.pq_deriv.specs.Rests.{AreMembers, sets, in_parts, in_sets, rests, all_rests}
 use Rattle.pq_deriv.proofs.steps.+steps.Given as goal
 
 abbrev pub invariant-step_each-loop-expr : goal.invariant-step_each-loop-expr
@@ -17,9 +17,10 @@ invariant-step_each-loop-expr l =
 
 abbrev pub invariant-step_sets-loop-expr : goal.invariant-step_sets-loop-expr
 invariant-step_sets-loop-expr l =
-    ((more : List ℕ) → AreSetsStepped (record { side = l.side; truth = l.signature }) (expr_trees (drop l.expr-index l.exprs)) l.begins l.left more
-    → AreSetsStepped (record { side = l.side; truth = l.signature }) (expr_trees l.exprs) false l.rest (l.out.items ++ more))
-    × ((more : List ℕ) → IsOneOf (in_parts (map sets (rests (expr_trees (drop l.expr-index l.exprs))))) more → IsOneOf (in_parts (map sets (rests (expr_trees l.exprs)))) (l.out.items ++ more))
+    ((more : List ℕ) → AreSetsStepped (record { side = l.side; truth = l.signature }) (expr_trees (drop l.expr-index l.exprs)) l.begins (l.gap ∷ l.left) more
+    → AreSetsStepped (record { side = l.side; truth = l.signature }) (expr_trees l.exprs) false l.rest (l.out.items ++ wide l.empties more))
+    × ((more : List ℕ) → IsOneOf (in_sets (map sets (rests (expr_trees (drop l.expr-index l.exprs))))) more → IsOneOf (in_sets (map sets (rests (expr_trees l.exprs)))) (l.out.items ++ wide l.empties more))
+    × (l.empties ≤ l.expr-index)
 
 abbrev pub invariant-step_members-loop-more : goal.invariant-step_members-loop-more
 invariant-step_members-loop-more l =
