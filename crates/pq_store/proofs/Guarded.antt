@@ -106,16 +106,16 @@ module _ {L : Type 0} where
   ahead_yes (r ∷ rs) s y n d ahead = ((ahead.0.0, before_side r s y ahead.0.1 d.ascends.0, skips_yes r s y n ahead.0.2), ahead_yes rs s y n d ahead.1)
 
   -- and on its no side
-  ahead_no : (rs : List Test) (s : Test) (y n : Tree L) → IsDiagram (Fork s y n) → AreAhead rs (Fork s y n) → AreAhead rs n
+  pub ahead_no : (rs : List Test) (s : Test) (y n : Tree L) → IsDiagram (Fork s y n) → AreAhead rs (Fork s y n) → AreAhead rs n
   ahead_no [] s y n d ahead = tt
   ahead_no (r ∷ rs) s y n d ahead = ((ahead.0.0, before_side r s n ahead.0.1 d.ascends.1, skips_no r s y n ahead.0.2), ahead_no rs s y n d ahead.1)
 
   -- with the root's own test on the yes side
-  own_ahead : (rs : List Test) (s : Test) (y n : Tree L) → IsDiagram (Fork s y n) → AreAhead rs (Fork s y n) → AreAhead (s ∷ rs) y
+  pub own_ahead : (rs : List Test) (s : Test) (y n : Tree L) → IsDiagram (Fork s y n) → AreAhead rs (Fork s y n) → AreAhead (s ∷ rs) y
   own_ahead rs s y n d ahead = ((d.lawful.0, d.ascends.0, d.asks_once.0), ahead_yes rs s y n d ahead)
 
   -- points alike but for the root's test pass them both
-  pass_still : (rs : List Test) (s : Test) (y n : Tree L) (p q : Point) → AreAhead rs (Fork s y n) → AreAlike s p q → AllPass rs p → AllPass rs q
+  pub pass_still : (rs : List Test) (s : Test) (y n : Tree L) (p q : Point) → AreAhead rs (Fork s y n) → AreAlike s p q → AllPass rs p → AllPass rs q
   pass_still [] s y n p q ahead alike pass = tt
   pass_still (r ∷ rs) s y n p q ahead alike pass =
       (sym (alike r (apart_sym r s (apart r s y n ahead.0.1 ahead.0.2))) ∙ pass.0, pass_still rs s y n p q ahead.1 alike pass.1)

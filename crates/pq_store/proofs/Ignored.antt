@@ -1,11 +1,11 @@
 -- Diagrams whose value on packets doesn't depend on a field's number.
 use Rattle.std.proofs.Common.{◌≡◌, ◌<◌, ◌^◌, ℕ, ◌-◌, ◌/◌, ◌%◌, Bool, true, false, List, [], ◌∷◌, refl, sym, ◌∙◌, ap, subst, inl, inr, true≢false, pow_pos, arith}
-use Rattle.std.specs.Prelude.{◌==◌, ◌&&◌, ◌||◌}
+use Rattle.std.specs.Prelude.{◌==◌, ◌&&◌, ◌||◌, if◌then◌else◌}
 use Rattle.std.proofs.Math.Bool.{or-true}
 use Rattle.std.proofs.lemmas.Bool.Decides.{eqb_tells}
 use Rattle.pq_fields.specs.declared.field.Field.{Field}
 use Rattle.pq_fields.specs.declared.field.Field.TheVariants.{Switch, Port, EthType, IpProto, EthSrc, EthDst, Ipv4Src, Ipv4Dst, TcpSrc, TcpDst, UdpSrc, UdpDst, Ipv6Src, Ipv6Dst}
-use Rattle.pq_fields.specs.Packet.{Numbers, has_field, number_in, bit_in, is_ip, is_ipv4, is_ipv6, rank, width_of, with_number}
+use Rattle.pq_fields.specs.Packet.{Fit, Numbers, has_field, number_in, is_ip, is_ipv4, is_ipv6, rank, width_of, with_number}
 use Rattle.pq_fields.proofs.Fitting.{number_fits}
 use Rattle.pq_store.specs.declared.test.Test.{Test}
 use Rattle.pq_store.specs.declared.test.Test.TheVariants.{Equal, Bit}
@@ -13,12 +13,14 @@ use Rattle.pq_store.specs.Test.{IsLawful, field_of, passes}
 use Rattle.pq_store.specs.Tree.{Tree, value}
 use Rattle.pq_store.specs.Tree.Tree.{Tip, Fork}
 use Rattle.pq_store.specs.Diagram.{AllLawful, IsDiagram}
-use Rattle.pq_store.specs.Laws.{Ignores, IsUntested, MakePresent, PassesAll, StandsBelow}
+use Rattle.pq_store.specs.Laws.{Ignores, IsUntested, MakePresent, PassesAll, StandsBelow, and_prerequisite}
 use Rattle.pq_store.proofs.Point.{Point, leaf_at, InRange}
 use Rattle.pq_store.proofs.Order.{rank_injective}
 use Rattle.pq_store.proofs.Packets.{packet_of, whole_number_of_packet, packet_fits, passes_packet_of, value_packet_of}
 use Rattle.pq_store.proofs.PrefixNumbers.{number_with, number_with_other}
-use Rattle.pq_store.proofs.Guarded.{AllPass, AreAlikeOff, IsKey, StayLacking, Guarded, guarded, guarded_untested}
+use Rattle.pq_store.proofs.Points.{yes_point, yes_turns}
+use Rattle.pq_store.proofs.Sides.{yes_diagram, no_diagram}
+use Rattle.pq_store.proofs.Guarded.{AllPass, AreAlikeOff, AreAhead, IsKey, StayLacking, Guarded, own_ahead, ahead_no, pass_still, guarded, guarded_untested}
 
 -- a test asks for its field's number alone
 passes_number : (s : Test) (x y : Numbers) → number_in (field_of s) x ≡ number_in (field_of s) y → passes s x ≡ passes s y
@@ -141,40 +143,65 @@ lacking_stays f p q still lacks = lacking_follows f (packet_of p) (packet_of q) 
   protocols = λ v key later is. ap (λ n. n == v) (protocol_is p) ∙ still IpProto v later key (ap (λ n. n == v) (sym (protocol_is q)) ∙ is);
 }) lacks
 
--- the point of a packet
-abbrev point_of : Numbers → Point
-point_of x = record { number = λ f. number_in f x; bit = λ f i. bit_in f i x }
+-- the tests of fields in prerequisites
+abbrev prerequisites : List Test → List Test
+prerequisites [] = []
+prerequisites (s ∷ ss) = and_prerequisite s (prerequisites ss)
 
--- it passes what the packet passes
-pass_point : (passed : List Test) (x : Numbers) → PassesAll passed x → AllPass passed (point_of x)
-pass_point [] x pass = tt
-pass_point (Equal f v ∷ rs) x pass = (pass.0, pass_point rs x pass.1)
-pass_point (Bit f i ∷ rs) x pass = (pass.0, pass_point rs x pass.1)
+-- a point with the EtherType and the IP protocol of a packet
+abbrev with_prerequisites : Numbers → Point → Point
+with_prerequisites x z = record { number = λ g. if (rank g == rank EthType) || (rank g == rank IpProto) then number_in g x else z.number g; bit = z.bit }
+
+-- it is in range
+prerequisites_in_range : (x : Numbers) (z : Point) → Fit x → InRange z → InRange (with_prerequisites x z)
+prerequisites_in_range x z fit z_in g whole = by ((rank g == rank EthType) || (rank g == rank IpProto))
+  where
+    by : (b : Bool) → (if b then number_in g x else z.number g) < 2 ^ width_of g
+    by true = number_fits g x fit
+    by false = z_in g whole
+
+-- it passes the tests of these fields that the packet passes, and the others that the point passes
+pass_prerequisites : (passed : List Test) (x : Numbers) (z : Point) → PassesAll (prerequisites passed) x → AllPass passed z → AllPass passed (with_prerequisites x z)
+pass_prerequisites [] x z pass z_pass = tt
+pass_prerequisites (Equal g v ∷ rs) x z pass z_pass = by (λ more. pass_prerequisites rs x z more z_pass.1) ((rank g == rank EthType) || (rank g == rank IpProto)) pass
+  where
+    by : (PassesAll (prerequisites rs) x → AllPass rs (with_prerequisites x z)) → (b : Bool) → PassesAll (if b then Equal g v ∷ prerequisites rs else prerequisites rs) x
+        → (((if b then number_in g x else z.number g) == v) ≡ true) × AllPass rs (with_prerequisites x z)
+    by more true pass = (pass.0, more pass.1)
+    by more false pass = (z_pass.0, more pass)
+pass_prerequisites (Bit g i ∷ rs) x z pass z_pass = (z_pass.0, pass_prerequisites rs x z pass z_pass.1)
 
 -- it lacks the fields that the packet lacks
-point_lacks : (f : Field) (x : Numbers) → has_field f x ≡ false → Lacking f (point_of x)
-point_lacks f x lacks = lacking_follows f x (packet_of (point_of x)) (record {
-  types = λ v key later is. ap (λ n. n == v) (sym (type_is (point_of x))) ∙ is;
-  protocols = λ v key later is. ap (λ n. n == v) (sym (protocol_is (point_of x))) ∙ is;
+prerequisites_lack : (f : Field) (x : Numbers) (z : Point) → has_field f x ≡ false → Lacking f (with_prerequisites x z)
+prerequisites_lack f x z lacks = lacking_follows f x (packet_of (with_prerequisites x z)) (record {
+  types = λ v key later is. ap (λ n. n == v) (sym (type_is (with_prerequisites x z))) ∙ is;
+  protocols = λ v key later is. ap (λ n. n == v) (sym (protocol_is (with_prerequisites x z))) ∙ is;
 }) lacks
 
--- tests that no point passes that lacks the field make the field present
-made_present : (f : Field) (passed : List Test) → ((x : Point) → InRange x → AllPass passed x → Lacking f x → ⊥) → MakePresent passed f
-made_present f passed none x fit pass = by (has_field f x) refl
+-- tests that some point passes, and none that lacks the field, make the field present by those of fields in prerequisites
+made_present : (f : Field) (passed : List Test) (z : Point) → InRange z → AllPass passed z → ((x : Point) → InRange x → AllPass passed x → Lacking f x → ⊥) → MakePresent (prerequisites passed) f
+made_present f passed z z_in z_pass none x fit pass = by (has_field f x) refl
   where
     by : (b : Bool) → has_field f x ≡ b → has_field f x ≡ true
     by true is = is
-    by false is = absurd (none (point_of x) (λ g whole. number_fits g x fit) (pass_point passed x pass) (point_lacks f x is))
+    by false is = absurd (none (with_prerequisites x z) (prerequisites_in_range x z fit z_in) (pass_prerequisites passed x z pass z_pass) (prerequisites_lack f x z is))
 
 -- so each test of the field stands below its prerequisites
-stands_below : {L : Type 0} (f : Field) (passed : List Test) (t : Tree L) → Guarded f (Lacking f) (lacking_stays f) passed t → StandsBelow f passed t
-stands_below f passed (Tip l) guards = tt
-stands_below f passed (Fork s y n) guards =
-    ((λ own. made_present f passed (guards.0 (ap rank (sym own)))), stands_below f (s ∷ passed) y guards.1, stands_below f passed n guards.2)
+stands_below : {L : Type 0} (f : Field) (passed : List Test) (t : Tree L) (z : Point) → IsDiagram t → AreAhead passed t → InRange z → AllPass passed z
+    → Guarded f (Lacking f) (lacking_stays f) passed t → StandsBelow f (prerequisites passed) t
+stands_below f passed (Tip l) z d ahead z_in z_pass guards = tt
+stands_below f passed (Fork s y n) z d ahead z_in z_pass guards =
+    let turned = yes_turns s z d.lawful.0 z_in in (
+      (λ own. made_present f passed z z_in z_pass (guards.0 (ap rank (sym own)))),
+      stands_below f (s ∷ passed) y (yes_point s z) (yes_diagram s y n d) (own_ahead passed s y n d ahead) turned.in_range
+          (turned.answers, pass_still passed s y n z (yes_point s z) ahead turned.alike z_pass) guards.1,
+      stands_below f passed n z (no_diagram s y n d) (ahead_no passed s y n d ahead) z_in z_pass guards.2,
+    )
 
 -- where the value is the same whatever the number of a field that the packet lacks
 pub prerequisites_first : {L : Type 0} (f : Field) (t : Tree L) → IsDiagram t → Ignores f (λ x. has_field f x ≡ false) t → StandsBelow f [] t
+unfolding zero_point
 prerequisites_first f t d ignores =
-    stands_below f [] t
+    stands_below f [] t zero_point d tt (λ g whole. pow_pos (width_of g)) tt
     (guarded f (Lacking f) (lacking_stays f) [] t d tt
     (λ p q p_in q_in p_pass q_pass lacks alike. points_same f (λ x. has_field f x ≡ false) t d.lawful ignores p q p_in q_in lacks alike))

@@ -1,8 +1,10 @@
 -- Laws of diagrams: each function from packets has one, which tests only what the function depends on.
-use Rattle.std.specs.Prelude.{ℕ, ◌^◌, ◌<◌, ◌≡◌, true, false, List, [], ◌∷◌}
+use Rattle.std.specs.Prelude.{ℕ, ◌^◌, ◌<◌, ◌≡◌, ◌==◌, ◌||◌, if◌then◌else◌, Bool, true, false, List, [], ◌∷◌}
 use Rattle.pq_fields.specs.declared.field.Field.{Field}
-use Rattle.pq_fields.specs.Packet.{Numbers, Fit, has_field, width_of, with_number}
+use Rattle.pq_fields.specs.declared.field.Field.TheVariants.{EthType, IpProto}
+use Rattle.pq_fields.specs.Packet.{Numbers, Fit, has_field, rank, width_of, with_number}
 use Rattle.pq_store.specs.declared.test.Test.{Test}
+use Rattle.pq_store.specs.declared.test.Test.TheVariants.{Equal, Bit}
 use Rattle.pq_store.specs.Test.{field_of, passes}
 use Rattle.pq_store.specs.Tree.{Tree, value, IsTested}
 use Rattle.pq_store.specs.Tree.Tree.{Tip, Fork}
@@ -33,10 +35,20 @@ PassesAll (s ∷ ss) x = (passes s x ≡ true) × PassesAll ss x
 abbrev pub MakePresent : List Test → Field → Type 0
 MakePresent passed f = (x : Numbers) → Fit x → PassesAll passed x → has_field f x ≡ true
 
--- below tests that were answered yes, each test of the field is reached only by packets that these make have it
+-- the test is of the EtherType or the IP protocol, the fields in prerequisites
+abbrev pub is_prerequisite : Test → Bool
+is_prerequisite (Equal f v) = (rank f == rank EthType) || (rank f == rank IpProto)
+is_prerequisite (Bit f i) = false
+
+-- the tests, with this one if it is of these fields
+abbrev pub and_prerequisite : Test → List Test → List Test
+and_prerequisite s passed = if is_prerequisite s then s ∷ passed else passed
+
+-- each test of the field stands below its prerequisites: the tests of these fields on the path to it that are answered yes, after
+-- some above the tree, make each packet have the field
 abbrev pub StandsBelow : {L : Type 0} → Field → List Test → Tree L → Type 0
 StandsBelow f passed (Tip l) = Unit {0}
-StandsBelow f passed (Fork s y n) = (field_of s ≡ f → MakePresent passed f) × StandsBelow f (s ∷ passed) y × StandsBelow f passed n
+StandsBelow f passed (Fork s y n) = (field_of s ≡ f → MakePresent passed f) × StandsBelow f (and_prerequisite s passed) y × StandsBelow f passed n
 
 -- where the value is the same whatever the number of a field that the packet lacks, each test of the field stands below its prerequisites
 abbrev pub PrerequisitesStandFirst : Type 0 → Type 0
