@@ -1,22 +1,25 @@
 -- Trees of packets that are written by one of some writes first.
-use Rattle.std.proofs.Common.{ℕ, ◌+◌, ◌<◌, ◌≡◌, List, [], ◌∷◌, ◌++◌, take, length, get_or, Some, sym, subst}
+use Rattle.std.proofs.Common.{ℕ, ◌<◌, ◌≡◌, List, [], ◌∷◌, ◌++◌, length, Some}
 use Rattle.std.specs.Prelude.{◌⊎◌, slice_get}
-use Rattle.std.specs.List.{Any}
-use Rattle.std.proofs.lemmas.List.Elements.{All-take}
-use Rattle.pq_fields.specs.Writes.{Written, on}
-use Rattle.pq_store.specs.Tree.{Tree}
+use Rattle.std.specs.List.{All, Any}
+use Rattle.std.proofs.lemmas.List.Elements.{All-head}
+use Rattle.pq_fields.specs.declared.field.Field.{Field}
+use Rattle.pq_fields.specs.Packet.{Numbers}
+use Rattle.pq_fields.specs.Writes.{Written, AllFit, on}
+use Rattle.pq_store.specs.Tree.{Tree, value}
 use Rattle.pq_store.specs.Tree.Tree.{Tip}
 use Rattle.pq_store.specs.Store.{Keeps}
 use Rattle.pq_store.proofs.Elements.{at_place}
 use Rattle.pq_apply.specs.Product.{FitTogetherAt}
 use Rattle.pq_apply.proofs.Kept.{tree_before}
-use Rattle.pq_rewrite.specs.Calls.{IsIdleFreeAt, IsUnion, UnitesAt}
+use Rattle.pq_rewrite.specs.Merged.{IsMerge, MergesAt}
 use Rattle.pq_rewrite.specs.Rewriting.{CoversWrites, Gives}
-use Rattle.pq_rewrite.specs.Sequence.{FitAsFollowedAt, FitAsFollowedEachAt, FollowsEachAt, IsFollowed, IsFollowedAt, IsFollowedEach}
+use Rattle.pq_rewrite.specs.Sequence.{AreReady, FitAsFollowedAt, FitAsFollowedEach, FitAsFollowedEachAt, FollowsEachAt, IsFollowed, IsFollowedAt, IsFollowedEach}
 use Rattle.pq_rewrite.proofs.Following.{followed_there}
-use Rattle.pq_rewrite.proofs.Sets.{any_none, given_none}
+use Rattle.pq_rewrite.proofs.Halves.{all_halves, any_halves, any_one}
+use Rattle.pq_rewrite.proofs.Merging.{merge_given, merge_within}
+use Rattle.pq_rewrite.proofs.Sets.{any_none, given_none, given_same}
 use Rattle.pq_rewrite.proofs.Standing.{has_still, has_there, has_within}
-use Rattle.pq_rewrite.proofs.Turns.{all_before, all_there, any_more, giving_as, giving_idle_free, has_idle_free, one_more, union_giving, union_within}
 
 -- the leaf without writes gives what is given of packets written by none
 pub none_followed : (old new : List (Tree (List Written))) (k id : ℕ) → slice_get new id ≡ Some (Tip []) → FollowsEachAt [] old k new id
@@ -24,70 +27,92 @@ none_followed old new k id is u u_is = (
   Tip [],
   is,
   record {
-    giving = λ x fit. given_none x (λ y. Any (λ w. Gives u (on w x) y) []) (λ y. any_none (λ w. Gives u (on w x) y));
+    giving = λ x fit ready. given_none x (λ y. Any (λ w. Gives u (on w x) y) []) (λ y. any_none (λ w. Gives u (on w x) y));
     tests = λ ns first second f v none. absurd none;
   },
 )
 
--- with the tree of one more the union gives what is given of packets written by one more
-more_followed : (ws : List Written) (w : Written) (u t r whole : Tree (List Written)) → IsFollowedEach ws u t → IsFollowed w u r → IsUnion t r whole → IsFollowedEach (ws ++ w ∷ []) u whole
-more_followed ws w u t r whole each more union = record {
-  giving = giving_as (λ x y. Any (λ v. Gives u (on v x) y) ws ⊎ Gives u (on w x) y) (λ x y. Any (λ v. Gives u (on v x) y) (ws ++ w ∷ [])) whole
-      (λ x y fit. let m = any_more (λ v. Gives u (on v x) y) ws w in (m.1, m.0))
-      (union_giving (λ x y. Any (λ v. Gives u (on v x) y) ws) (λ x y. Gives u (on w x) y) t r whole each.giving more.giving union);
-  tests = λ ns first covers.
-      let parts = all_before (CoversWrites ns) ws w first in
-      union_within ns t r whole (each.tests ns parts.0 covers) (more.tests ns parts.1 covers) union;
-}
+-- each of one write may come before a tree where that may
+pub one_before : (w : Written) (ts : List (Tree (List Written))) (k : ℕ) → FitAsFollowedEachAt (w ∷ []) ts k → FitAsFollowedAt w ts k
+one_before w ts k fits u u_is =
+    let fit = fits u u_is in
+    record { numbers = fit.numbers; few = fit.few; first = All-head (CoversWrites fit.numbers) w [] fit.first; second = fit.second }
 
-module _ (ws : List Written) (i : ℕ) (w : Written) (within : i < length ws) (is : w ≡ get_or ws i w) (old mid : List (Tree (List Written))) (k : ℕ) (inside : k < length old)
-    (keeps : Keeps old mid) where
-  -- one of some writes may come before a tree where each may
-  pub one_before : FitAsFollowedEachAt ws old k → FitAsFollowedAt w mid k
-  one_before fits u u_is =
-      let fit = fits u (tree_before old mid k u keeps inside u_is) in
-      record { numbers = fit.numbers; few = fit.few; first = all_there (CoversWrites fit.numbers) ws i w within is fit.first; second = fit.second }
+-- and what follows it follows each
+pub one_followed : (w : Written) (old new : List (Tree (List Written))) (k id : ℕ) → Keeps old new → IsFollowedAt w new k id → FollowsEachAt (w ∷ []) old k new id
+one_followed w old new k id keeps made u u_is =
+    let followed = followed_there w new k id u made.followed made (keeps k u u_is) made.followed_is in (
+      made.followed,
+      made.followed_is,
+      record {
+        giving = λ x fit ready.
+            given_same x (Gives u (on w x)) (λ y. Any (λ v. Gives u (on v x) y) (w ∷ [])) (value made.followed x) (λ y. any_one (λ v. Gives u (on v x) y) w)
+            (followed.giving x fit (All-head (λ v. AreReady x v (value u (on v x))) w [] ready));
+        tests = λ ns first second. followed.tests ns (All-head (CoversWrites ns) w [] first) second;
+      },
+    )
 
-  module _ (j more : ℕ) (each : FollowsEachAt (take i ws) old k mid j) (followed : IsFollowedAt w mid k more) where
-    -- the tree of the first few stands within
-    pub each_within : j < length mid
-    each_within = let u = at_place old k inside in has_within (IsFollowedEach (take i ws) u.0) mid j (each u.0 u.1)
+module _ (front back : List Written) where
+  -- the tree that is merged of those of two halves gives what is given of packets written by either
+  halves_followed : (u t s r : Tree (List Written)) → IsFollowedEach front u t → IsFollowedEach back u s → IsMerge t s r → IsFollowedEach (front ++ back) u r
+  halves_followed u t s r left right merge = record {
+    giving = λ x fit ready.
+        let parts = all_halves (λ w. AreReady x w (value u (on w x))) front back ready in
+        given_same x (λ y. Any (λ w. Gives u (on w x) y) front ⊎ Any (λ w. Gives u (on w x) y) back) (λ y. Any (λ w. Gives u (on w x) y) (front ++ back)) (value r x)
+        (λ y. any_halves (λ w. Gives u (on w x) y) front back)
+        (merge_given t s r merge (λ y. Any (λ w. Gives u (on w x) y) front) (λ y. Any (λ w. Gives u (on w x) y) back) x (left.giving x fit parts.0) (right.giving x fit parts.1));
+    tests = λ ns first second.
+        let parts = all_halves (CoversWrites ns) front back first in
+        merge_within t s r merge ns (left.tests ns parts.0 second) (right.tests ns parts.1 second);
+  }
 
-    -- it is idle-free
-    pub each_idle_free : IsIdleFreeAt mid j
-    each_idle_free =
+  -- both halves may come before a tree where all may
+  halves_fit : (u : Tree (List Written)) → FitAsFollowedEach (front ++ back) u → FitAsFollowedEach front u × FitAsFollowedEach back u
+  halves_fit u fit =
+      let fits = all_halves AllFit front back fit.fit in
+      let numbers = all_halves (CoversWrites fit.numbers) front back fit.first in (
+        record { numbers = fit.numbers; few = fit.few; fit = fits.0; first = numbers.0; second = fit.second },
+        record { numbers = fit.numbers; few = fit.few; fit = fits.1; first = numbers.1; second = fit.second },
+      )
+
+  module _ (old mid : List (Tree (List Written))) (k : ℕ) (inside : k < length old) (keeps : Keeps old mid) where
+    -- so they may in a store that has grown
+    pub front_before : FitAsFollowedEachAt (front ++ back) old k → FitAsFollowedEachAt front mid k
+    front_before fits u u_is = (halves_fit u (fits u (tree_before old mid k u keeps inside u_is))).0
+
+    pub back_before : FitAsFollowedEachAt (front ++ back) old k → FitAsFollowedEachAt back mid k
+    back_before fits u u_is = (halves_fit u (fits u (tree_before old mid k u keeps inside u_is))).1
+
+  module _ (old mid : List (Tree (List Written))) (k i j : ℕ) (inside : k < length old) (left : FollowsEachAt front old k mid i) (right : FollowsEachAt back old k mid j) where
+    -- the trees of both halves stand within
+    pub halves_within : (i < length mid) × (j < length mid)
+    halves_within =
         let u = at_place old k inside in
-        has_idle_free (IsFollowedEach (take i ws) u.0) (λ x y. Any (λ v. Gives u.0 (on v x) y) (take i ws)) (λ t made. made.giving) mid j (each u.0 u.1)
+        (has_within (IsFollowedEach front u.0) mid i (left u.0 u.1), has_within (IsFollowedEach back u.0) mid j (right u.0 u.1))
 
-    -- and so is that of one more
-    pub more_idle_free : IsIdleFreeAt mid more
-    more_idle_free t t_is =
-        let made = followed_there w mid k more followed.tree t followed followed.tree_is t_is in
-        giving_idle_free (λ x y. Gives followed.tree (on w x) y) t made.giving
-
-    -- both may come together
-    pub each_fits : FitAsFollowedEachAt ws old k → FitTogetherAt mid j mid more
-    each_fits fits t r t_is r_is =
+    -- they may come together
+    pub halves_meet : FitAsFollowedEachAt (front ++ back) old k → FitTogetherAt mid i mid j
+    halves_meet fits t s t_is s_is =
         let u = at_place old k inside in
         let fit = fits u.0 u.1 in
         let ns = fit.numbers in
-        let left = has_there (IsFollowedEach (take i ws) u.0) mid j t (each u.0 u.1) t_is in
-        let right = followed_there w mid k more u.0 r followed (keeps k u.0 u.1) r_is in
-        record {
-          numbers = ns;
-          few = fit.few;
-          left = left.tests ns (All-take (CoversWrites ns) i ws fit.first) fit.second;
-          right = right.tests ns (all_there (CoversWrites ns) ws i w within is fit.first) fit.second;
-        }
+        let parts = all_halves (CoversWrites ns) front back fit.first in
+        let first = has_there (IsFollowedEach front u.0) mid i t (left u.0 u.1) t_is in
+        let second = has_there (IsFollowedEach back u.0) mid j s (right u.0 u.1) s_is in
+        record { numbers = ns; few = fit.few; left = first.tests ns parts.0 fit.second; right = second.tests ns parts.1 fit.second }
 
-    -- and their union is the tree of one more
-    pub each_united : (new : List (Tree (List Written))) (id : ℕ) → UnitesAt mid j more new id → FollowsEachAt (take (i + 1) ws) old k new id
-    each_united new id unites u u_is =
-        let has = each u u_is in
-        let right = followed_there w mid k more u followed.followed followed (keeps k u u_is) followed.followed_is in
-        let made = unites has.0 followed.followed has.1 followed.followed_is in
-        (made.0, made.1, subst (λ vs. IsFollowedEach vs u made.0) (sym (one_more ws i w within is)) (more_followed (take i ws) w u has.0 followed.followed made.0 has.2 right made.2))
+    -- and what is merged of them is the tree of all
+    pub each_merged : (new : List (Tree (List Written))) (id : ℕ) → MergesAt mid i j new id → FollowsEachAt (front ++ back) old k new id
+    each_merged new id merges u u_is =
+        let first = left u u_is in
+        let second = right u u_is in
+        let made = merges first.0 second.0 first.1 second.1 in
+        (made.0, made.1, halves_followed u first.0 second.0 made.0 first.2 second.2 made.2)
 
 -- what follows each stays
 pub each_still : (ws : List Written) (old mid new : List (Tree (List Written))) (k id : ℕ) → Keeps mid new → FollowsEachAt ws old k mid id → FollowsEachAt ws old k new id
 each_still ws old mid new k id keeps each u u_is = has_still (IsFollowedEach ws u) mid new id keeps (each u u_is)
+
+-- what follows each in a store that has grown follows each
+pub each_before : (ws : List Written) (old mid new : List (Tree (List Written))) (k id : ℕ) → Keeps old mid → FollowsEachAt ws mid k new id → FollowsEachAt ws old k new id
+each_before ws old mid new k id keeps each u u_is = each u (keeps k u u_is)

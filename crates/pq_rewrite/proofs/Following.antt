@@ -7,7 +7,7 @@ use Rattle.indexmap.specs.IndexMap.{IndexMap, Updates}
 use Rattle.pq_fields.specs.declared.field.Field.{Field}
 use Rattle.pq_fields.specs.Order.{writes_eq}
 use Rattle.pq_fields.specs.Packet.{Numbers}
-use Rattle.pq_fields.specs.Writes.{Written, AllFit, on}
+use Rattle.pq_fields.specs.Writes.{Written, AllFit, no_writes, on}
 use Rattle.pq_fields.proofs.Places.{same_writes}
 use Rattle.pq_store.specs.declared.test.Test.{Test}
 use Rattle.pq_store.specs.declared.test.Test.TheVariants.{Equal, Bit}
@@ -22,7 +22,8 @@ use Rattle.pq_rewrite.specs.declared.written.Step.TheVariants.{Side}
 use Rattle.pq_rewrite.specs.Calls.{HasAt}
 use Rattle.pq_rewrite.specs.Choices.{ChoosesByAt, FitByAt, IsChoiceBy, IsStepAt, IsTestWithin, passes_after, test_needs}
 use Rattle.pq_rewrite.specs.Rewriting.{CoversWrites, Gives, IsGiven, IsWrittenBy}
-use Rattle.pq_rewrite.specs.Sequence.{CoversLeaves, FitAsFollowed, FitAsFollowedAt, FitInTurn, IsFollowed, IsFollowedAt, IsInTurn, same_move}
+use Rattle.pq_rewrite.specs.Sequence.{AreReady, CoversLeaves, FitAsFollowed, FitAsFollowedAt, FitInTurn, IsFollowed, IsFollowedAt, IsInTurn, same_move}
+use Rattle.pq_rewrite.proofs.Diffs.{on_none}
 
 -- what holds of both sides holds of one
 pub either_side : {A : Type 0} (P : A → Type 0) (b : Bool) (y n : A) → P y → P n → P (if b then y else n)
@@ -46,18 +47,19 @@ root_within ns (Bit f i) y n within = tt
 pub root_needs : (ns : Field → List ℕ) (w : Written) (s : Test) (y n : Tree (List Written)) → CoversWrites ns w → CoversLeaves ns (Fork s y n) → test_needs w s ns
 root_needs ns w s y n first covers = (root_within ns s y n covers.tests, λ m is. (first (field_of s) m is).1)
 
--- what is given by one of two lists where one of two is to be given
-pub chosen_given : (x : Numbers) (F : List Written → Numbers → Type 0) (b : Bool) (ws vs us others : List Written) → IsGiven x (F ws) us → IsGiven x (F vs) others
-    → IsGiven x (F (if b then ws else vs)) (if b then us else others)
-chosen_given x F true ws vs us others left right = left
-chosen_given x F false ws vs us others left right = right
+-- what is given by one of two lists where one of two is to be given, and is ready
+pub chosen_given : (x : Numbers) (R : List Written → Type 0) (F : List Written → Numbers → Type 0) (b : Bool) (ws vs us others : List Written)
+    → (R ws → IsGiven x (F ws) us) → (R vs → IsGiven x (F vs) others) → R (if b then ws else vs) → IsGiven x (F (if b then ws else vs)) (if b then us else others)
+chosen_given x R F true ws vs us others left right = left
+chosen_given x R F false ws vs us others left right = right
 
 -- what follows writes on both sides of a fork follows them on the fork, by the root's test
 both_followed : (w : Written) (s : Test) (y n a b r : Tree (List Written)) → IsFollowed w y a → IsFollowed w n b → IsChoiceBy (passes_after w s) (test_needs w s) a b r
     → IsFollowed w (Fork s y n) r
 both_followed w s y n a b r left right choice = record {
-  giving = λ x fit. subst (IsGiven x (Gives (Fork s y n) (on w x))) (sym (choice.gives x fit))
-      (chosen_given x (IsWrittenBy (on w x)) (passes_after w s x) (value y (on w x)) (value n (on w x)) (value a x) (value b x) (left.giving x fit) (right.giving x fit));
+  giving = λ x fit ready. subst (IsGiven x (Gives (Fork s y n) (on w x))) (sym (choice.gives x fit))
+      (chosen_given x (AreReady x w) (IsWrittenBy (on w x)) (passes_after w s x) (value y (on w x)) (value n (on w x)) (value a x) (value b x)
+      (left.giving x fit) (right.giving x fit) ready);
   tests = λ ns first covers.
       choice.tests ns (root_needs ns w s y n first covers) (left.tests ns first (covers_yes ns s y n covers)) (right.tests ns first (covers_no ns s y n covers));
 }
@@ -66,11 +68,15 @@ both_followed w s y n a b r left right choice = record {
 side_followed : (w : Written) (s : Test) (y n r : Tree (List Written)) (answer : Bool) → ((x : Numbers) → passes_after w s x ≡ answer) → IsFollowed w (if answer then y else n) r
     → IsFollowed w (Fork s y n) r
 side_followed w s y n r true answers followed = record {
-  giving = λ x fit. subst (λ ws. IsGiven x (IsWrittenBy (on w x) ws) (value r x)) (sym (ap (λ b. if b then value y (on w x) else value n (on w x)) (answers x))) (followed.giving x fit);
+  giving = λ x fit ready.
+      let is = ap (λ b. if b then value y (on w x) else value n (on w x)) (answers x) in
+      subst (λ ws. IsGiven x (IsWrittenBy (on w x) ws) (value r x)) (sym is) (followed.giving x fit (subst (AreReady x w) is ready));
   tests = λ ns first covers. followed.tests ns first (covers_yes ns s y n covers);
 }
 side_followed w s y n r false answers followed = record {
-  giving = λ x fit. subst (λ ws. IsGiven x (IsWrittenBy (on w x) ws) (value r x)) (sym (ap (λ b. if b then value y (on w x) else value n (on w x)) (answers x))) (followed.giving x fit);
+  giving = λ x fit ready.
+      let is = ap (λ b. if b then value y (on w x) else value n (on w x)) (answers x) in
+      subst (λ ws. IsGiven x (IsWrittenBy (on w x) ws) (value r x)) (sym is) (followed.giving x fit (subst (AreReady x w) is ready));
   tests = λ ns first covers. followed.tests ns first (covers_no ns s y n covers);
 }
 
@@ -171,7 +177,6 @@ leaf_fits w ts k ws is fits =
       numbers = fit.numbers;
       few = fit.few;
       fit = All-weaker (λ v. AllFit v × CoversWrites fit.numbers v) AllFit (λ v both. both.0) ws all;
-      first = fit.first;
       second = All-weaker (λ v. AllFit v × CoversWrites fit.numbers v) (CoversWrites fit.numbers) (λ v both. both.1) ws all;
     }
 
@@ -186,10 +191,23 @@ leaf_followed w old new k id ws keeps is made =
       tree_is = keeps k (Tip ws) is;
       followed_is = made.1;
       follows = record {
-        giving = turn.giving;
-        tests = λ ns first covers. turn.tests ns first (All-weaker (λ v. AllFit v × CoversWrites ns v) (CoversWrites ns) (λ v both. both.1) ws (covers.leaves ws refl));
+        giving = λ x fit ready. turn.giving x fit ready.first ready.next.idle_free;
+        tests = λ ns first covers. turn.tests ns (All-weaker (λ v. AllFit v × CoversWrites ns v) (CoversWrites ns) (λ v both. both.1) ws (covers.leaves ws refl));
       };
     }
+
+-- no writes leave an idle-free tree as it is
+pub itself_followed : (w : Written) (ts : List (Tree (List Written))) (k : ℕ) (u : Tree (List Written)) → w ≡ no_writes → slice_get ts k ≡ Some u → IsFollowedAt w ts k k
+itself_followed w ts k u none is = record {
+  tree = u;
+  followed = u;
+  tree_is = is;
+  followed_is = is;
+  follows = record {
+    giving = λ x fit ready. subst (λ z. IsGiven z (Gives u (on w x)) (value u z)) (ap (λ v. on v x) none ∙ on_none x) ready.next;
+    tests = λ ns first covers. covers.tests;
+  };
+}
 
 -- what follows on the side that is reached follows on the whole
 pub reached_followed : (w : Written) (old new : List (Tree (List Written))) (k next id : ℕ) → Keeps old new → IsSideReached w old k next → IsFollowedAt w new next id → IsFollowedAt w new k id

@@ -1,6 +1,6 @@
 -- What a tree gives of the packets that another gives: which packets, which tests and which writes.
 use Rattle.std.proofs.Common.{ℕ, ◌≡◌, ◌∙◌, ◌<◌, ◌^◌, Bool, true, false, List, Option, None, Some, if◌then◌else◌, inl, inr, refl, sym, ap, subst}
-use Rattle.std.specs.Prelude.{◌⊎◌, ◌↔◌}
+use Rattle.std.specs.Prelude.{◌⊎◌, ◌↔◌, slice_index_or}
 use Rattle.std.specs.List.{Any}
 use Rattle.std.specs.Option.{unwrap_or}
 use Rattle.pq_fields.specs.declared.field.Field.{Field}
@@ -11,7 +11,7 @@ use Rattle.pq_store.specs.Diagram.{IsDiagram}
 use Rattle.pq_store.specs.Store.{AreDiagrams, Keeps}
 use Rattle.pq_rewrite.specs.Calls.{FitInSequenceAt, IsIdleFreeAt, IsSequence, SequencesAt}
 use Rattle.pq_rewrite.specs.Rewriting.{ChangesAll, Gives, IsGiven, IsIdleFree, IsToWrite, IsWrittenBy}
-use Rattle.pq_rewrite.specs.Sequence.{FitAsSequenceAt, IsInSequence, IsSequencedAt}
+use Rattle.pq_rewrite.specs.Sequence.{AllReady, FitAsSequenceAt, IsInSequence, IsSequencedAt}
 use Rattle.pq_rewrite.proofs.Numbers.{has_on, number_on}
 use Rattle.pq_rewrite.proofs.Reached.{covers_leaves}
 use Rattle.pq_rewrite.proofs.Sequences.{sequenced_there}
@@ -73,12 +73,18 @@ given_through u ws x y = (into, back)
     back : ((z : Numbers) × IsWrittenBy x ws z × Gives u z y) → Any (λ w. Gives u (on w x) y) ws
     back (z, (k, w, within, at, is), given) = (k, w, within, at, subst (λ p. Gives u p y) is given)
 
+-- the writes of an idle-free tree change the packet, and those of another change the packet written
+all_ready : (t u : Tree (List Written)) → IsIdleFree t → IsIdleFree u → (x : Numbers) → Fit x → AllReady x u (value t x)
+all_ready t u t_idle_free u_idle_free x fit k d below =
+    let w : Written = slice_index_or (value t x) k d in
+    record { first = (t_idle_free x fit).idle_free k d below; next = u_idle_free (on w x) (on_fits w x ((t_idle_free x fit).fit k d below) fit) }
+
 -- what is written in sequence is written by one of the two trees
-sequence_writes : (t u r : Tree (List Written)) → IsIdleFree t → IsInSequence t u r → (f : Field) (n : ℕ) → IsToWrite f n r → IsToWrite f n t ⊎ IsToWrite f n u
-sequence_writes t u r idle_free sequence f n (x, fit, (k, v, within, at, written)) = two ((given.gives (on v x)).0 (k, v, within, at, refl))
+sequence_writes : (t u r : Tree (List Written)) → IsIdleFree t → IsIdleFree u → IsInSequence t u r → (f : Field) (n : ℕ) → IsToWrite f n r → IsToWrite f n t ⊎ IsToWrite f n u
+sequence_writes t u r idle_free u_idle_free sequence f n (x, fit, (k, v, within, at, written)) = two ((given.gives (on v x)).0 (k, v, within, at, refl))
   where
     given : IsGiven x (λ y. Any (λ w. Gives u (on w x) y) (value t x)) (value r x)
-    given = sequence.giving x fit
+    given = sequence.giving x fit (all_ready t u idle_free u_idle_free x fit)
 
     changes : ChangesAll x v
     changes = subst (ChangesAll x) at (given.idle_free k v within)
@@ -92,9 +98,10 @@ sequence_writes t u r idle_free sequence f n (x, fit, (k, v, within, at, written
 -- the tree in sequence has what is said of it
 is_sequence : (t u r : Tree (List Written)) → IsDiagram t → IsDiagram u → IsIdleFree t → IsIdleFree u → IsInSequence t u r → IsSequence t u r
 is_sequence t u r t_diagram u_diagram t_idle_free u_idle_free sequence = record {
-  giving = giving_as (λ x y. Any (λ w. Gives u (on w x) y) (value t x)) (λ x y. (z : Numbers) × Gives t x z × Gives u z y) r (λ x y fit. given_through u (value t x) x y) sequence.giving;
+  giving = giving_as (λ x y. Any (λ w. Gives u (on w x) y) (value t x)) (λ x y. (z : Numbers) × Gives t x z × Gives u z y) r (λ x y fit. given_through u (value t x) x y)
+      (λ x fit. sequence.giving x fit (all_ready t u t_idle_free u_idle_free x fit));
   tests = λ ns first second. sequence.tests ns (covers_leaves t t_diagram t_idle_free ns first) (covers_leaves u u_diagram u_idle_free ns second);
-  writes = sequence_writes t u r t_idle_free sequence;
+  writes = sequence_writes t u r t_idle_free u_idle_free sequence;
 }
 
 module _ (ts : List (Tree (List Written))) (i j : ℕ) (diagrams : AreDiagrams ts) (first : IsIdleFreeAt ts i) (second : IsIdleFreeAt ts j) where

@@ -6,6 +6,7 @@ pub mod Fields
 pub mod FollowedEach
 pub mod Following
 pub mod Given
+pub mod Halves
 pub mod InSequence
 pub mod Merging
 pub mod Needed
@@ -21,4 +22,5 @@ pub mod Single
 pub mod Standing
 pub mod Told
 pub mod Turns
+pub mod Twice
 pub mod Unchanged

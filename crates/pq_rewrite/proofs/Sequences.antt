@@ -17,7 +17,7 @@ use Rattle.pq_apply.proofs.Kept.{tree_before}
 use Rattle.pq_apply.proofs.Remembered.{remembers_more, remembers_still}
 use Rattle.pq_rewrite.specs.Choices.{ChoosesByAt, FitByAt, IsChoiceBy, passes_after, test_needs}
 use Rattle.pq_rewrite.specs.Rewriting.{CoversWrites, Gives, IsGiven}
-use Rattle.pq_rewrite.specs.Sequence.{FitAsFollowedEachAt, FitAsSequence, FitAsSequenceAt, FollowsEachAt, IsInSequence, IsSequencedAt}
+use Rattle.pq_rewrite.specs.Sequence.{AllReady, FitAsFollowedEachAt, FitAsSequence, FitAsSequenceAt, FollowsEachAt, IsInSequence, IsSequencedAt}
 use Rattle.pq_rewrite.proofs.Diffs.{none_written, on_none}
 use Rattle.pq_rewrite.proofs.Following.{chosen_given, covers_no, covers_yes, root_needs}
 
@@ -29,10 +29,11 @@ none_covered ns f n is = let none = none_written f in absurd cc
 both_sequenced : (s : Test) (y n u a b r : Tree (List Written)) → IsInSequence y u a → IsInSequence n u b → IsChoiceBy (passes_after no_writes s) (test_needs no_writes s) a b r
     → IsInSequence (Fork s y n) u r
 both_sequenced s y n u a b r left right choice = record {
-  giving = λ x fit.
+  giving = λ x fit ready.
       let is : value r x ≡ (if passes s x then value a x else value b x) = choice.gives x fit ∙ ap (λ z. if passes s z then value a x else value b x) (on_none x) in
       subst (IsGiven x (λ z. Any (λ w. Gives u (on w x) z) (value (Fork s y n) x))) (sym is)
-      (chosen_given x (λ ws z. Any (λ w. Gives u (on w x) z) ws) (passes s x) (value y x) (value n x) (value a x) (value b x) (left.giving x fit) (right.giving x fit));
+      (chosen_given x (AllReady x u) (λ ws z. Any (λ w. Gives u (on w x) z) ws) (passes s x) (value y x) (value n x) (value a x) (value b x)
+      (left.giving x fit) (right.giving x fit) ready);
   tests = λ ns first second.
       choice.tests ns (root_needs ns no_writes s y n (none_covered ns) first) (left.tests ns (covers_yes ns s y n first) second) (right.tests ns (covers_no ns s y n first) second);
 }

@@ -55,7 +55,7 @@ abbrev pub writable_fields : List Field
 writable_fields = Port ∷ EthSrc ∷ EthDst ∷ Ipv4Src ∷ Ipv4Dst ∷ TcpSrc ∷ TcpDst ∷ UdpSrc ∷ UdpDst ∷ []
 
 -- each of them is one of these
-all_writable : (f : Field) → is_writable f ≡ true → is_among f writable_fields ≡ true
+pub all_writable : (f : Field) → is_writable f ≡ true → is_among f writable_fields ≡ true
 all_writable Switch writable = writable
 all_writable Port writable = refl
 all_writable EthType writable = writable

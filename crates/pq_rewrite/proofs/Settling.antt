@@ -19,7 +19,7 @@ use Rattle.pq_rewrite.proofs.Numbers.{stays}
 use Rattle.pq_rewrite.proofs.Sets.{given_one, given_same}
 
 -- the number to write into a field that the packet may have, where that changes it
-abbrev change_of : Bool → ℕ → Option ℕ → Option ℕ
+abbrev pub change_of : Bool → ℕ → Option ℕ → Option ℕ
 change_of has m None = None
 change_of has m (Some n) = if has && not (m == n) then Some n else None
 
@@ -38,11 +38,11 @@ changes w x = record {
 }
 
 -- the number for one field
-abbrev change_in : Field → Written → Numbers → Option ℕ
+abbrev pub change_in : Field → Written → Numbers → Option ℕ
 change_in f w x = change_of (has_field f x) (number_in f x) (written_in f w)
 
 -- the writes that change the packet have it there
-changes_in : (f : Field) (w : Written) (x : Numbers) → written_in f (changes w x) ≡ change_in f w x
+pub changes_in : (f : Field) (w : Written) (x : Numbers) → written_in f (changes w x) ≡ change_in f w x
 changes_in Switch w x = refl
 changes_in Port w x = refl
 changes_in EthType w x = refl
@@ -130,7 +130,7 @@ changes_given w x fits =
     (given_one x (changes w x) (changes_fit w x fits) (changes_all w x))
 
 -- a number to write in place of another, where there is one
-abbrev in_place : Option ℕ → Option ℕ → Option ℕ
+abbrev pub in_place : Option ℕ → Option ℕ → Option ℕ
 in_place o None = o
 in_place o (Some n) = Some n
 
@@ -162,7 +162,7 @@ abbrev pub is_among : Field → List Field → Bool
 is_among g fs = list_any (λ f. rank f == rank g) fs
 
 -- after the steps for some fields each of them has its change, and others stay
-steps_in : (fs : List Field) (g : Field) (w : Written) (x : Numbers) (done : Written) → is_writable g ≡ true
+pub steps_in : (fs : List Field) (g : Field) (w : Written) (x : Numbers) (done : Written) → is_writable g ≡ true
     → written_in g (with_changes fs w x done) ≡ (if is_among g fs then in_place (written_in g done) (change_in g w x) else written_in g done)
 steps_in [] g w x done writable = refl
 steps_in (f ∷ fs) g w x done writable =
@@ -178,7 +178,7 @@ steps_in (f ∷ fs) g w x done writable =
     by false false = refl
 
 -- in place of nothing a change is itself
-in_place_none : (o c : Option ℕ) → o ≡ None → in_place o c ≡ c
+pub in_place_none : (o c : Option ℕ) → o ≡ None → in_place o c ≡ c
 in_place_none o None none = none
 in_place_none o (Some n) none = refl
 

@@ -1,5 +1,6 @@
 //! Diagrams one after another: what the second gives of the packets that the first gives.
 ghost use Rattle.std.specs.Prelude.{◌≡◌, ◌<◌, ◌+◌, ◌==◌, [], length, Some, slice_get, IfOk, OnOk};
+ghost use Rattle.pq_fields.specs.Writes.{AllFit};
 ghost use Rattle.pq_store.specs.Tree.Tree.{Tip};
 ghost use Rattle.pq_store.specs.Store.{Keeps};
 ghost use Rattle.pq_apply.specs.Memo.{Remembers};
@@ -14,12 +15,13 @@ ghost use Rattle.pq_rewrite.specs.Sequence.{
   IsFollowedAt,
   IsInTurn,
   IsSequencedAt,
-  over,
+  once,
   same_move,
+  twice,
 };
 
 use crate::canonical::equal_rewritings_are_one;
-use crate::settled::settled;
+use crate::settled::{WRITABLE, settled_from};
 use crate::unions::united;
 use crate::write_set::WriteSet;
 use crate::written::{Step, next_step, where_passed};
@@ -102,7 +104,7 @@ fn sequenced(
     }
 }
 
-/// The diagram that gives what the node gives of the packet written by any of these.
+/// The diagram that gives what the node gives of the packet written by any of these, where each changes the packet.
 fn followed_by_each(
     store: &mut Store<WriteSet>,
     tests: &mut Store<bool>,
@@ -117,15 +119,26 @@ fn followed_by_each(
     ensures moved { OnOk result (Remembers same_move (λ key id. IsFollowedAt key.0 store.new key.1 id) moved.new) }
     ensures keeps { Keeps store.old store.new }
 {
-    let mut id = nothing(store)?;
-    for writes in first {
-        let more = followed(store, tests, writes, node, moved)?;
-        id = united(store, id, more)?;
+    match first {
+        [] => {
+            let id = nothing(store)?;
+            Ok(id)
+        }
+        [writes] => {
+            let id = followed(store, tests, writes, node, moved)?;
+            Ok(id)
+        }
+        _ => {
+            let (front, back) = first.split_at(first.len() / 2);
+            let x = followed_by_each(store, tests, front, node, moved)?;
+            let y = followed_by_each(store, tests, back, node, moved)?;
+            let id = united(store, x, y)?;
+            Ok(id)
+        }
     }
-    Ok(id)
 }
 
-/// The diagram that gives what the node gives of the packet written, made once for each writes and node.
+/// The diagram that gives what the node gives of the packet written, where that changes it; made once for each writes and node.
 fn followed(
     store: &mut Store<WriteSet>,
     tests: &mut Store<bool>,
@@ -140,6 +153,9 @@ fn followed(
     ensures moved { OnOk result (Remembers same_move (λ key id. IsFollowedAt key.0 store.new key.1 id) moved.new) }
     ensures keeps { Keeps store.old store.new }
 {
+    if *by == Writes::none() {
+        return Ok(node);
+    }
     if let Some(id) = recall(moved, &(*by, node)) {
         return Ok(id);
     }
@@ -165,7 +181,7 @@ fn followed(
     }
 }
 
-/// The diagram that gives the packet written by the first and then by any of the others.
+/// The diagram that gives the packet written by the first and then by any of the others, where each changes it.
 fn written_in_turn(
     store: &mut Store<WriteSet>,
     tests: &mut Store<bool>,
@@ -176,12 +192,24 @@ fn written_in_turn(
     ensures in_turn { IfOk result (λ id. HasAt (IsInTurn first.now second.now) store.new id) }
     ensures keeps { Keeps store.old store.new }
 {
-    let mut id = nothing(store)?;
-    for writes in second {
-        let more = settled(store, tests, &over(first, writes))?;
-        id = united(store, id, more)?;
+    match second {
+        [] => {
+            let id = nothing(store)?;
+            Ok(id)
+        }
+        [writes] => {
+            let (once, twice) = (once(first, writes), twice(first, writes));
+            let id = settled_from(store, tests, &twice, &WRITABLE, once)?;
+            Ok(id)
+        }
+        _ => {
+            let (front, back) = second.split_at(second.len() / 2);
+            let x = written_in_turn(store, tests, first, front)?;
+            let y = written_in_turn(store, tests, first, back)?;
+            let id = united(store, x, y)?;
+            Ok(id)
+        }
     }
-    Ok(id)
 }
 
 /// The leaf without writes: it gives no packet.
@@ -193,19 +221,37 @@ fn nothing(store: &mut Store<WriteSet>) -> Result<NodeId, AllocError>
     Ok(id)
 }
 
-/// What the first writes and then the second: the second's numbers, and the first's in other fields.
-fn over(first: &Writes, second: &Writes) -> Writes
-    ensures { result ≡ over first.now second.now }
+/// The numbers of one of the two alone, in fields that the other doesn't write.
+fn once(first: &Writes, second: &Writes) -> Writes
+    ensures once { result ≡ once first.now second.now }
+    ensures fit { AllFit first.now × AllFit second.now }
 {
     Writes {
-        port: second.port.or(first.port),
-        eth_src: second.eth_src.or(first.eth_src),
-        eth_dst: second.eth_dst.or(first.eth_dst),
-        ipv4_src: second.ipv4_src.or(first.ipv4_src),
-        ipv4_dst: second.ipv4_dst.or(first.ipv4_dst),
-        tcp_src: second.tcp_src.or(first.tcp_src),
-        tcp_dst: second.tcp_dst.or(first.tcp_dst),
-        udp_src: second.udp_src.or(first.udp_src),
-        udp_dst: second.udp_dst.or(first.udp_dst),
+        port: first.port.xor(second.port),
+        eth_src: first.eth_src.xor(second.eth_src),
+        eth_dst: first.eth_dst.xor(second.eth_dst),
+        ipv4_src: first.ipv4_src.xor(second.ipv4_src),
+        ipv4_dst: first.ipv4_dst.xor(second.ipv4_dst),
+        tcp_src: first.tcp_src.xor(second.tcp_src),
+        tcp_dst: first.tcp_dst.xor(second.tcp_dst),
+        udp_src: first.udp_src.xor(second.udp_src),
+        udp_dst: first.udp_dst.xor(second.udp_dst),
+    }
+}
+
+/// The numbers of the second in fields that both write: the packet may have had them before the first.
+fn twice(first: &Writes, second: &Writes) -> Writes
+    ensures { result ≡ twice first.now second.now }
+{
+    Writes {
+        port: first.port.and(second.port),
+        eth_src: first.eth_src.and(second.eth_src),
+        eth_dst: first.eth_dst.and(second.eth_dst),
+        ipv4_src: first.ipv4_src.and(second.ipv4_src),
+        ipv4_dst: first.ipv4_dst.and(second.ipv4_dst),
+        tcp_src: first.tcp_src.and(second.tcp_src),
+        tcp_dst: first.tcp_dst.and(second.tcp_dst),
+        udp_src: first.udp_src.and(second.udp_src),
+        udp_dst: first.udp_dst.and(second.udp_dst),
     }
 }

@@ -16,7 +16,7 @@ use pq_store::{NodeId, Store};
 use std::alloc::AllocError;
 
 /// The fields that can be written, in field order.
-const WRITABLE: [Field; 9] = [
+pub(crate) const WRITABLE: [Field; 9] = [
     Field::Port,
     Field::EthSrc,
     Field::EthDst,
@@ -44,7 +44,7 @@ pub fn write(store: &mut Store<WriteSet>, field: Field, value: u64) -> Result<No
 }
 
 /// The diagram that gives each packet written.
-pub(crate) fn settled(
+fn settled(
     store: &mut Store<WriteSet>,
     tests: &mut Store<bool>,
     writes: &Writes,
@@ -59,7 +59,7 @@ pub(crate) fn settled(
 }
 
 /// The diagram that gives each packet with these of the fields written, and with what is to be written besides.
-fn settled_from(
+pub(crate) fn settled_from(
     store: &mut Store<WriteSet>,
     tests: &mut Store<bool>,
     writes: &Writes,

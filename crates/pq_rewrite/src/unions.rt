@@ -2,7 +2,7 @@ ghost use Rattle.std.specs.Prelude.{◌≡◌, ◌<◌, ◌+◌, length, IfOk};
 ghost use Rattle.pq_store.specs.Store.{Keeps};
 ghost use Rattle.pq_apply.specs.Product.{FitTogetherAt};
 ghost use Rattle.pq_rewrite.specs.Calls.{IsIdleFreeAt, UnitesAt};
-ghost use Rattle.pq_rewrite.specs.Merged.{IsMerged};
+ghost use Rattle.pq_rewrite.specs.Merged.{IsMerged, MergesAt};
 ghost use Rattle.pq_rewrite.specs.Rewriting.{IsCanonicalRewriting};
 
 use crate::canonical::equal_rewritings_are_one;
@@ -38,7 +38,7 @@ pub fn union<L: Ledger>(
     Ok(id)
 }
 
-/// The union, without a step.
+/// The diagram that has on each packet the writes of both, idle-free or not.
 pub(crate) fn united(
     store: &mut Store<WriteSet>,
     x: NodeId,
@@ -46,10 +46,8 @@ pub(crate) fn united(
 ) -> Result<NodeId, AllocError>
     requires x { x < length store.old }
     requires y { y < length store.old }
-    requires x_idle_free { IsIdleFreeAt store.old x }
-    requires y_idle_free { IsIdleFreeAt store.old y }
     requires fit { FitTogetherAt store.old x store.old y }
-    ensures unites { IfOk result (λ id. UnitesAt store.old x y store.new id) }
+    ensures merges { IfOk result (λ id. MergesAt store.old x y store.new id) }
     ensures keeps { Keeps store.old store.new }
 {
     let alloc = store.allocator();

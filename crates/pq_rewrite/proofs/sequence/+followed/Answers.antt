@@ -1,13 +1,21 @@
 use Rattle.std.proofs.Common.{◌≡◌, ◌∙◌, ℕ, subst, sym, arith}
 use Rattle.std.proofs.lemmas.Option.{slice_get_within}
+use Rattle.pq_fields.proofs.Places.{same_writes}
 use Rattle.pq_store.specs.Store.{Keeps}
 use Rattle.pq_store.specs.Tree.Tree.{Fork}
+use Rattle.pq_store.proofs.Elements.{at_place}
 use Rattle.pq_apply.proofs.Kept.{keeps_on}
 use Rattle.pq_rewrite.specs.Calls.{HasAt}
 use Rattle.pq_rewrite.specs.Sequence.{FitInTurn, IsFollowedAt, IsInTurn}
-use Rattle.pq_rewrite.proofs.Following.{IsSideReached, both_fit, chosen_followed, followed_still, leaf_fits, leaf_followed, moved_more, no_side_fits, reached, reached_followed, side_fits, yes_side_fits}
+use Rattle.pq_rewrite.proofs.Following.{IsSideReached, both_fit, chosen_followed, followed_still, itself_followed, leaf_fits, leaf_followed, moved_more, no_side_fits, reached, reached_followed, side_fits, yes_side_fits}
 use Rattle.pq_rewrite.proofs.sequence.+followed.Goals as goal
 use Rattle.pq_rewrite.proofs.sequence.+followed.Goals.{In_ok-failed-in-Both, In_ok-id-in-Both, In_ok-id-in-Leaf, In_ok-id-in-Side, In-Side, After-deref}
+
+pub returns-then-eq-clause-followed : goal.returns-then-eq-clause-followed
+returns-then-eq-clause-followed t c =
+    let tree = at_place c.args.store.now c.args.node c.requires.node in
+    let none = (same_writes c.args.by.now c.none.result).0 (sym c.eq.ensures ∙ c.if-eq.true) ∙ c.none.ensures in
+    itself_followed c.args.by.now c.args.store.now c.args.node tree.0 none tree.1
 
 pub returns-in-Some-clause-followed : goal.returns-in-Some-clause-followed
 returns-in-Some-clause-followed t c = c.requires.moved (c.args.by.now, c.args.node) c.in-Some.id (sym c.recall.ensures ∙ c.in-Some.is)

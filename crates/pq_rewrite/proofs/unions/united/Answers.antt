@@ -4,7 +4,6 @@ use Rattle.pq_fields.specs.Packet.{Numbers}
 use Rattle.pq_fields.specs.Writes.{Written}
 use Rattle.pq_store.specs.Tree.{Tree, value}
 use Rattle.pq_rewrite.specs.Merged.{IsMerged}
-use Rattle.pq_rewrite.proofs.Merging.{leaves_united}
 use Rattle.pq_rewrite.proofs.unions.united.Goals as goal
 use Rattle.pq_rewrite.proofs.unions.united.Goals.{In_ok-id}
 
@@ -16,8 +15,7 @@ leaves_merged c t u t_is u_is x =
     let joined = c.in_ok-id.ensures.product.gives t u t_is u_is x in
     subst (λ b. IsMerged (value t x) b leaf) joined.3 (subst (λ a. IsMerged a joined.1.now leaf) joined.2 joined.4)
 
-pub returns-clause-unites : goal.returns-clause-unites
-returns-clause-unites c t u t_is u_is =
+pub returns-clause-merges : goal.returns-clause-merges
+returns-clause-merges c t u t_is u_is =
     let made = c.in_ok-id.ensures.product in
-    let united = leaves_united t u made.product (c.requires.x_idle_free t t_is) (c.requires.y_idle_free u u_is) (leaves_merged c t u t_is u_is) (made.tests t u t_is u_is) in
-    (made.product, made.is, united)
+    (made.product, made.is, record { merged = leaves_merged c t u t_is u_is; tests = made.tests t u t_is u_is })
