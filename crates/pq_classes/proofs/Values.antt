@@ -56,9 +56,9 @@ instances_all P T place [] all = All-nil (IsNumberedFrom P place [])
 instances_all P T place (q ∷ qs) all =
     All-append (IsNumberedFrom P place (q ∷ qs)) (under_labels place (labels T q)) (instances_from T (place + 1) qs)
     (All-map (IsNumberedFrom P place (q ∷ qs)) (λ label. record { query = place; label = label }) (labels T q)
-      (All-weaker (P q) (λ label. IsNumberedFrom P place (q ∷ qs) (record { query = place; label = label })) here (labels T q) (All-head (λ q. All (P q) (labels T q)) q qs all)))
+    (All-weaker (P q) (λ label. IsNumberedFrom P place (q ∷ qs) (record { query = place; label = label })) here (labels T q) (All-head (λ q. All (P q) (labels T q)) q qs all)))
     (All-weaker (IsNumberedFrom P (place + 1) qs) (IsNumberedFrom P place (q ∷ qs)) later (instances_from T (place + 1) qs)
-      (instances_all P T (place + 1) qs (All-tail (λ q. All (P q) (labels T q)) q qs all)))
+    (instances_all P T (place + 1) qs (All-tail (λ q. All (P q) (labels T q)) q qs all)))
   where
     here : (label : List ℕ) → P q label → IsNumberedFrom P place (q ∷ qs) (record { query = place; label = label })
     here label holds = (omega arith, λ j r is at. by j r is at)
@@ -66,6 +66,7 @@ instances_all P T place (q ∷ qs) all =
         by : (j : ℕ) (r : QueryTree) → place ≡ place + j → slice_get (q ∷ qs) j ≡ Some r → P r label
         by zero r is at = subst (λ o. P (unwrap_or o q) label) at holds
         by (suc j) r is at = absurd (omega (arith, is))
+
     later : (i : Instance) → IsNumberedFrom P (place + 1) qs i → IsNumberedFrom P place (q ∷ qs) i
     later i (least, told) = (omega (arith, least), λ j r is at. by j r is at)
       where

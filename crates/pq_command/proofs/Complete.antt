@@ -1,21 +1,19 @@
 -- What is read whole of a known input, and when a command is done.
-use Rattle.std.proofs.Common.{◌≡◌, ℕ, Bool, true, false, refl, ◌≤◌, List, ◌++◌, length, ap, sym, ◌∙◌, subst, arith, length-append, append-nil, IfSome, Option, Some, None}
+use Rattle.std.proofs.Common.{◌≡◌, ℕ, refl, ◌≤◌, List, ◌++◌, length, ap, sym, ◌∙◌, subst, arith, length-append, append-nil, IfSome, Option, Some, None}
+use Rattle.std.specs.Prelude.{◌⊎◌, inl, inr}
 use Rattle.std.specs.Io.KnownBytes.{Consumes, IsAtEnd}
 use Rattle.pq_io.specs.Faults.{Rose}
-use Rattle.pq_small.specs.SmallForm.{SmallForm, IsSmallForm}
+use Rattle.pq_compile.proofs.OneDocument.{no_document_fault}
+use Rattle.pq_inspect.proofs.Unspoiled.{not_spoiled}
+use Rattle.pq_install.specs.declared.fault.InstallFault.TheVariants as install
+use Rattle.pq_replay.specs.declared.fault.ReplayFault.TheVariants as replay
+use Rattle.pq_replay.proofs.Replayable.{not_damaged, no_syntax_fault, not_too_many}
+use Rattle.pq_command.specs.declared.words.Command.{Command}
+use Rattle.pq_command.specs.declared.words.Command.TheVariants.{Compile, Replay, Inspect}
 use Rattle.pq_command.specs.declared.outcome.Outcome.{Outcome}
 use Rattle.pq_command.specs.declared.outcome.Outcome.TheVariants.{Done, Words, ReadFault, TooLong, Lex, Syntax, Name, NotYet, Damaged, ScheduleFull, WriteFault, Memory}
-use Rattle.pq_command.specs.Answers.{ReadsWhole, ReadsMore, IsCompileAnswer, IsDocument, IsRefused, IsReplayAnswer, IsInspectAnswer, HasReadFaults, HasWriteFaults, IsDoneOrMemory, document_limit, install_limit}
-use Rattle.std.proofs.lemmas.Bool.{true≢false}
-use Rattle.pq_compile.specs.declared.fault.DocumentFault.{DocumentFault}
-use Rattle.pq_compile.specs.declared.fault.DocumentFault.TheVariants as fault
-use Rattle.pq_compile.specs.Documents.{IsDocumentFault}
-use Rattle.pq_compile.proofs.OneDocument.{no_document_fault}
-use Rattle.pq_install.specs.Damage.{IsDamagedAt}
-use Rattle.pq_inspect.specs.Inspected.{IsWholeInstall, IsSpoiledAt}
-use Rattle.pq_inspect.proofs.Unspoiled.{not_spoiled}
-use Rattle.pq_replay.specs.Replay.{IsReplayable, HasSyntaxFault, HasTooManyEvents}
-use Rattle.pq_replay.proofs.Replayable.{not_damaged, no_syntax_fault, not_too_many}
+use Rattle.pq_command.specs.Answers.{Task, ReadsWhole, ReadsMore, IsAnswer, HasReadFaults, HasWriteFaults, IsDoneOrMemory}
+use Rattle.pq_command.specs.Tasks.{document_outcome, task_of}
 
 -- known bytes that were read to their end are what was read
 whole_text : (bytes text : List ℕ) (now : Option (List ℕ)) → Consumes (Some bytes) now text → IsAtEnd now → bytes ≡ text
@@ -35,80 +33,51 @@ of_whole bytes now before after limit P (text, taken, end, short, holds) = subst
 -- no more is read than there is
 not_more : (bytes : List ℕ) (now before after : Option (List ℕ)) (limit : ℕ)
     → ReadsMore (record { left = Some bytes; rest = now; before = before; after = after }) limit → length bytes ≤ limit → ⊥
-not_more bytes now before after limit (text, taken, long) short = let most = no_longer bytes text now taken in absurd (omega arith)
+not_more bytes now before after limit (text, taken, long, short) fits = let most = no_longer bytes text now taken in absurd (omega arith)
 
--- the fault is want of memory
-abbrev is_memory : DocumentFault → Bool
-is_memory (fault.Lex at) = false
-is_memory (fault.Syntax at) = false
-is_memory (fault.Name at kind) = false
-is_memory fault.Memory = true
+-- what a command accepts is refused for want of memory alone
+pub Completes : Task → Type 0
+Completes task = (o : Outcome) (bytes : List ℕ) → task.Accepts bytes → task.Refuses o bytes → IsDoneOrMemory o
 
--- a document has no other fault
-no_fault : (bytes : List ℕ) (f : DocumentFault) → IsDocument bytes → IsDocumentFault bytes f → is_memory f ≡ false → ⊥
-no_fault bytes f document is other = absurd (true≢false (sym (ap is_memory (no_document_fault bytes document.0 f document.1 is)) ∙ other))
-
-pub compiled : (o : Outcome) (left now before after : Option (List ℕ)) (reads read writes written : ℕ)
-    → IsCompileAnswer o (record { left = left; rest = now; before = before; after = after }) → HasReadFaults o reads read → HasWriteFaults o writes written
+-- and then the command is done, where no read and no write failed
+pub is_done : (task : Task) → Completes task → (o : Outcome) (left now before after : Option (List ℕ)) (reads read writes written : ℕ)
+    → IsAnswer task o (record { left = left; rest = now; before = before; after = after }) → HasReadFaults o reads read → HasWriteFaults o writes written
     → (Rose reads read → ⊥) → (Rose writes written → ⊥)
-    → IfSome left (λ bytes. length bytes ≤ document_limit → IsDocument bytes → (s : SmallForm) → IsSmallForm bytes s → IsDoneOrMemory o)
-compiled o None now before after reads read writes written answer read_faults write_faults no_read no_write = tt
-compiled Done (Some bytes) now before after reads read writes written answer read_faults write_faults no_read no_write = λ short document s form. tt
-compiled Memory (Some bytes) now before after reads read writes written answer read_faults write_faults no_read no_write = λ short document s form. tt
-compiled ReadFault (Some bytes) now before after reads read writes written answer read_faults write_faults no_read no_write = λ short document s form. no_read read_faults
-compiled WriteFault (Some bytes) now before after reads read writes written answer read_faults write_faults no_read no_write = λ short document s form. no_write write_faults
-compiled (Lex at) (Some bytes) now before after reads read writes written answer read_faults write_faults no_read no_write =
-    λ short document s form. no_fault bytes (fault.Lex at) document (of_whole bytes now before after document_limit (IsRefused (Lex at)) answer) refl
-compiled (Syntax at) (Some bytes) now before after reads read writes written answer read_faults write_faults no_read no_write =
-    λ short document s form. no_fault bytes (fault.Syntax at) document (of_whole bytes now before after document_limit (IsRefused (Syntax at)) answer) refl
-compiled (Name at kind) (Some bytes) now before after reads read writes written answer read_faults write_faults no_read no_write =
-    λ short document s form. no_fault bytes (fault.Name at kind) document (of_whole bytes now before after document_limit (IsRefused (Name at kind)) answer) refl
-compiled NotYet (Some bytes) now before after reads read writes written answer read_faults write_faults no_read no_write =
-    λ short document s form. (of_whole bytes now before after document_limit (IsRefused NotYet) answer).1 s form
-compiled TooLong (Some bytes) now before after reads read writes written answer read_faults write_faults no_read no_write =
-    λ short document s form. not_more bytes now before after document_limit answer short
-compiled Words (Some bytes) now before after reads read writes written answer read_faults write_faults no_read no_write = absurd answer
-compiled (Damaged at) (Some bytes) now before after reads read writes written answer read_faults write_faults no_read no_write = absurd answer
-compiled ScheduleFull (Some bytes) now before after reads read writes written answer read_faults write_faults no_read no_write = absurd answer
+    → IfSome left (λ bytes. length bytes ≤ task.limit → task.Accepts bytes → IsDoneOrMemory o)
+is_done task completes o None now before after reads read writes written answer read_faults write_faults no_read no_write = tt
+is_done task completes Done (Some bytes) now before after reads read writes written answer read_faults write_faults no_read no_write = λ short accepted. tt
+is_done task completes Memory (Some bytes) now before after reads read writes written answer read_faults write_faults no_read no_write = λ short accepted. tt
+is_done task completes Words (Some bytes) now before after reads read writes written answer read_faults write_faults no_read no_write = absurd answer
+is_done task completes ReadFault (Some bytes) now before after reads read writes written answer read_faults write_faults no_read no_write =
+    λ short accepted. no_read read_faults
+is_done task completes WriteFault (Some bytes) now before after reads read writes written answer read_faults write_faults no_read no_write =
+    λ short accepted. no_write write_faults
+is_done task completes TooLong (Some bytes) now before after reads read writes written answer read_faults write_faults no_read no_write =
+    λ short accepted. not_more bytes now before after task.limit answer short
+is_done task completes (Lex at) (Some bytes) now before after reads read writes written answer read_faults write_faults no_read no_write =
+    λ short accepted. completes (Lex at) bytes accepted (of_whole bytes now before after task.limit (task.Refuses (Lex at)) answer)
+is_done task completes (Syntax at) (Some bytes) now before after reads read writes written answer read_faults write_faults no_read no_write =
+    λ short accepted. completes (Syntax at) bytes accepted (of_whole bytes now before after task.limit (task.Refuses (Syntax at)) answer)
+is_done task completes (Name at kind) (Some bytes) now before after reads read writes written answer read_faults write_faults no_read no_write =
+    λ short accepted. completes (Name at kind) bytes accepted (of_whole bytes now before after task.limit (task.Refuses (Name at kind)) answer)
+is_done task completes NotYet (Some bytes) now before after reads read writes written answer read_faults write_faults no_read no_write =
+    λ short accepted. completes NotYet bytes accepted (of_whole bytes now before after task.limit (task.Refuses NotYet) answer)
+is_done task completes (Damaged at) (Some bytes) now before after reads read writes written answer read_faults write_faults no_read no_write =
+    λ short accepted. completes (Damaged at) bytes accepted (of_whole bytes now before after task.limit (task.Refuses (Damaged at)) answer)
+is_done task completes ScheduleFull (Some bytes) now before after reads read writes written answer read_faults write_faults no_read no_write =
+    λ short accepted. completes ScheduleFull bytes accepted (of_whole bytes now before after task.limit (task.Refuses ScheduleFull) answer)
 
-pub replayed : (o : Outcome) (left now before after : Option (List ℕ)) (reads read writes written : ℕ)
-    → IsReplayAnswer o (record { left = left; rest = now; before = before; after = after }) → HasReadFaults o reads read → HasWriteFaults o writes written
-    → (Rose reads read → ⊥) → (Rose writes written → ⊥)
-    → IfSome left (λ bytes. length bytes ≤ install_limit → IsReplayable bytes → IsDoneOrMemory o)
-replayed o None now before after reads read writes written answer read_faults write_faults no_read no_write = tt
-replayed Done (Some bytes) now before after reads read writes written answer read_faults write_faults no_read no_write = λ short r. tt
-replayed Memory (Some bytes) now before after reads read writes written answer read_faults write_faults no_read no_write = λ short r. tt
-replayed ReadFault (Some bytes) now before after reads read writes written answer read_faults write_faults no_read no_write = λ short r. no_read read_faults
-replayed WriteFault (Some bytes) now before after reads read writes written answer read_faults write_faults no_read no_write = λ short r. no_write write_faults
-replayed (Damaged at) (Some bytes) now before after reads read writes written answer read_faults write_faults no_read no_write =
-    λ short r. not_damaged bytes at r (of_whole bytes now before after install_limit (λ bs. IsDamagedAt bs at) answer)
-replayed (Syntax at) (Some bytes) now before after reads read writes written answer read_faults write_faults no_read no_write =
-    λ short r. no_syntax_fault bytes at r (of_whole bytes now before after install_limit (λ bs. HasSyntaxFault bs at) answer)
-replayed ScheduleFull (Some bytes) now before after reads read writes written answer read_faults write_faults no_read no_write =
-    λ short r. not_too_many bytes r (of_whole bytes now before after install_limit HasTooManyEvents answer)
-replayed TooLong (Some bytes) now before after reads read writes written answer read_faults write_faults no_read no_write =
-    λ short r. not_more bytes now before after install_limit answer short
-replayed Words (Some bytes) now before after reads read writes written answer read_faults write_faults no_read no_write = absurd answer
-replayed (Lex at) (Some bytes) now before after reads read writes written answer read_faults write_faults no_read no_write = absurd answer
-replayed (Name at kind) (Some bytes) now before after reads read writes written answer read_faults write_faults no_read no_write = absurd answer
-replayed NotYet (Some bytes) now before after reads read writes written answer read_faults write_faults no_read no_write = absurd answer
+-- an outcome that is Memory
+memory : (o : Outcome) → o ≡ Memory → IsDoneOrMemory o
+memory o is = subst IsDoneOrMemory (sym is) tt
 
-pub inspected : (o : Outcome) (left now before after : Option (List ℕ)) (reads read writes written : ℕ)
-    → IsInspectAnswer o (record { left = left; rest = now; before = before; after = after }) → HasReadFaults o reads read → HasWriteFaults o writes written
-    → (Rose reads read → ⊥) → (Rose writes written → ⊥)
-    → IfSome left (λ bytes. length bytes ≤ install_limit → IsWholeInstall bytes → IsDoneOrMemory o)
-inspected o None now before after reads read writes written answer read_faults write_faults no_read no_write = tt
-inspected Done (Some bytes) now before after reads read writes written answer read_faults write_faults no_read no_write = λ short i. tt
-inspected Memory (Some bytes) now before after reads read writes written answer read_faults write_faults no_read no_write = λ short i. tt
-inspected ReadFault (Some bytes) now before after reads read writes written answer read_faults write_faults no_read no_write = λ short i. no_read read_faults
-inspected WriteFault (Some bytes) now before after reads read writes written answer read_faults write_faults no_read no_write = λ short i. no_write write_faults
-inspected (Damaged at) (Some bytes) now before after reads read writes written answer read_faults write_faults no_read no_write =
-    λ short i. not_spoiled bytes at i (of_whole bytes now before after install_limit (λ bs. IsSpoiledAt bs at) answer)
-inspected TooLong (Some bytes) now before after reads read writes written answer read_faults write_faults no_read no_write =
-    λ short i. not_more bytes now before after install_limit answer short
-inspected Words (Some bytes) now before after reads read writes written answer read_faults write_faults no_read no_write = absurd answer
-inspected (Lex at) (Some bytes) now before after reads read writes written answer read_faults write_faults no_read no_write = absurd answer
-inspected (Name at kind) (Some bytes) now before after reads read writes written answer read_faults write_faults no_read no_write = absurd answer
-inspected NotYet (Some bytes) now before after reads read writes written answer read_faults write_faults no_read no_write = absurd answer
-inspected (Syntax at) (Some bytes) now before after reads read writes written answer read_faults write_faults no_read no_write = absurd answer
-inspected ScheduleFull (Some bytes) now before after reads read writes written answer read_faults write_faults no_read no_write = absurd answer
+-- each command completes
+pub completes : (command : Command) → Completes (task_of command)
+completes Compile o bytes (document, form) (inl (f, is, fault)) = memory o (is ∙ ap document_outcome (no_document_fault bytes document.0 f document.1 fault))
+completes Compile o bytes (document, form) (inr (is, is_document, none)) = absurd (none form.0 form.1)
+completes Replay o bytes accepted (replay.Damaged at, is, fault) = absurd (not_damaged bytes at accepted fault)
+completes Replay o bytes accepted (replay.Syntax at, is, fault) = absurd (no_syntax_fault bytes at accepted fault)
+completes Replay o bytes accepted (replay.Full, is, fault) = absurd (not_too_many bytes accepted fault)
+completes Replay o bytes accepted (replay.Memory, is, fault) = memory o is
+completes Inspect o bytes accepted (install.Damaged at, is, fault) = absurd (not_spoiled bytes at accepted fault)
+completes Inspect o bytes accepted (install.Memory, is, fault) = memory o is

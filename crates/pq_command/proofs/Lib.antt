@@ -1,2 +1,2 @@
 pub mod Complete
-pub mod Refusals
+pub mod Texts

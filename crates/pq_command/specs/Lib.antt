@@ -1,4 +1,5 @@
 pub mod Answers
 pub mod Outcomes
 pub mod Reading
+pub mod Tasks
 pub mod Words

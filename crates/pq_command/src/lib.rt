@@ -1,6 +1,7 @@
 //! The commands of pathq, over any source and sink.
 #![tactic(auto)]
 
+mod answer;
 mod compile;
 mod inspect;
 mod outcome;

@@ -1,7 +1,6 @@
-ghost use Rattle.std.specs.Prelude.{◌≡◌, ◌+◌, ◌^◌, ◌<◌, ◌≤◌, length, vec_len, IfOk, IsErrOf};
+ghost use Rattle.std.specs.Prelude.{◌≡◌, ◌^◌, ◌<◌, ◌≤◌, ℕ, List, length, vec_len, IfErr, IfOk};
 ghost use Rattle.std.specs.Io.KnownBytes.{Consumes, IsAtEnd};
-ghost use Rattle.pq_io.specs.Faults.{Rose};
-ghost use Rattle.pq_command.specs.Reading.{IsTaken, HasReadCause};
+ghost use Rattle.pq_command.specs.Reading.{HasReadCause, IsLength};
 
 use pq_io::Source;
 use std::alloc::{AllocError, Global};
@@ -30,7 +29,7 @@ fn zeros(alloc: Global, len: usize) -> Result<Vec<u8>, AllocError>
 pub fn read_whole<S: Source>(alloc: Global, source: &mut S, limit: usize) -> Result<Vec<u8>, Unread>
     requires { limit < 2 ^ 32 }
     ensures ok { IfOk result (λ text. (length text.items ≤ limit) × Consumes (S.left source.old) (S.left source.new) text.items × IsAtEnd (S.left source.new)) }
-    ensures too_long { IsErrOf result Unread.TooLong → IsTaken (S.left source.old) (S.left source.new) (λ text. limit < length text) }
+    ensures err { IfErr result (λ unread. (text : List ℕ) × Consumes (S.left source.old) (S.left source.new) text × IsLength unread limit (length text)) }
     ensures cause { HasReadCause result (S.faults source.old) (S.faults source.new) }
 {
     let Ok(mut piece) = zeros(alloc, PIECE) else {
