@@ -43,17 +43,19 @@ holding_has k (d ∷ es) w (suc j) e at is = let more = holding_has (suc k) es w
     there true (i, within, is) = (suc i, omega (arith, within), is)
     there false found = found
 
-holding_from_has : (k : ℕ) (es : List ExprTree) (w : HalfSteps) (i n : ℕ) → slice_get (holding_from k es w) n ≡ Some i → (j : ℕ) × (e : ExprTree) × (i ≡ k + j) × (slice_get es j ≡ Some e) × (holds e w ≡ true)
-holding_from_has k [] w i n at = absurd cc
-holding_from_has k (d ∷ es) w i n at = by (holds d w) refl n at
-  where
-    later : (n : ℕ) → slice_get (holding_from (suc k) es w) n ≡ Some i → (j : ℕ) × (e : ExprTree) × (i ≡ k + j) × (slice_get (d ∷ es) j ≡ Some e) × (holds e w ≡ true)
-    later n at = let found = holding_from_has (suc k) es w i n at in (suc found.0, found.1, omega (arith, found.2), found.3, found.4)
+-- what a place among them says
+abbrev IsAt : ℕ → List ExprTree → HalfSteps → ℕ → Type 0
+IsAt k es w i = (j : ℕ) × (e : ExprTree) × (i ≡ k + j) × (slice_get es j ≡ Some e) × (holds e w ≡ true)
 
-    by : (b : Bool) → holds d w ≡ b → (n : ℕ) → slice_get (if b then k ∷ holding_from (suc k) es w else holding_from (suc k) es w) n ≡ Some i → (j : ℕ) × (e : ExprTree) × (i ≡ k + j) × (slice_get (d ∷ es) j ≡ Some e) × (holds e w ≡ true)
-    by true is zero at = let same : k ≡ i = cc in (0, d, omega (arith, same), refl, is)
-    by true is (suc n) at = later n at
-    by false is n at = later n at
+holding_from_has : (k : ℕ) (es : List ExprTree) (w : HalfSteps) (i n : ℕ) → slice_get (holding_from k es w) n ≡ Some i → IsAt k es w i
+holding_from_has k [] w i n at = absurd cc
+holding_from_has k (d ∷ es) w i n at =
+    by (holds d w) refl (λ n at. (let found = holding_from_has (suc k) es w i n at in (suc found.0, found.1, omega (arith, found.2), found.3, found.4))) n at
+  where
+    by : (b : Bool) → holds d w ≡ b → ((n : ℕ) → slice_get (holding_from (suc k) es w) n ≡ Some i → IsAt k (d ∷ es) w i) → (n : ℕ) → slice_get (if b then k ∷ holding_from (suc k) es w else holding_from (suc k) es w) n ≡ Some i → IsAt k (d ∷ es) w i
+    by true is later zero at = let same : k ≡ i = cc in (0, d, omega (arith, same), refl, is)
+    by true is later (suc n) at = later n at
+    by false is later n at = later n at
 
 -- they ascend
 rises : (k l : ℕ) (es : List ExprTree) (w : HalfSteps) → k < l → Ascends (k ∷ holding_from l es w)
@@ -77,10 +79,7 @@ holding_rises k (d ∷ es) w = by (holds d w) (rises k (suc k) es w (omega arith
 zip_at : {A B : Type 0} (R : A → B → Type 0) (xs : List A) (ys : List B) (i : ℕ) (x : A) → AllZip R xs ys → slice_get xs i ≡ Some x → (y : B) × (slice_get ys i ≡ Some y) × R x y
 zip_at R [] ys i x all at = absurd cc
 zip_at R (z ∷ xs) [] i x all at = absurd all
-zip_at R (z ∷ xs) (y ∷ ys) zero x all at = (y, refl, ap-first (unwrap_or (Some z) x) at)
-  where
-    ap-first : (d : _) → Some z ≡ Some x → R x y
-    ap-first d same = subst (λ o. R (unwrap_or o z) y) same all.0
+zip_at R (z ∷ xs) (y ∷ ys) zero x all at = (y, refl, subst (λ o. R (unwrap_or o z) y) at all.0)
 zip_at R (z ∷ xs) (y ∷ ys) (suc i) x all at = zip_at R xs ys i x all.1 at
 
 zip_back : {A B : Type 0} (R : A → B → Type 0) (xs : List A) (ys : List B) (i : ℕ) (y : B) → AllZip R xs ys → slice_get ys i ≡ Some y → (x : A) × (slice_get xs i ≡ Some x) × R x y
@@ -92,6 +91,12 @@ zip_back R (x ∷ xs) (z ∷ ys) (suc i) y all at = zip_back R xs ys i y all.1 a
 
 -- The instances that hold a word.
 
+-- a place within a list has an element
+at_place : {X : Type 0} (xs : List X) (k : ℕ) → k < length xs → (x : X) × (slice_get xs k ≡ Some x)
+at_place [] k within = absurd (omega (arith, within))
+at_place (x ∷ xs) zero within = (x, refl)
+at_place (x ∷ xs) (suc k) within = at_place xs k (omega (arith, within))
+
 pub are_holding : (qs : List QueryTree) (ps : List PredTree) (is : List Instance) (es : List ExprTree) → AreLowered qs ps is es → All (λ i. i.query < length qs) is
     → (w : Word) → is_word w ≡ true → AreHolding (IsHeld qs is) w (holding es (half_steps ps w))
 are_holding qs ps is es lowered within w word = record {
@@ -101,25 +106,23 @@ are_holding qs ps is es lowered within w word = record {
         let place = has_from (holding es (half_steps ps w)) i h in
         let found = holding_from_has 0 es (half_steps ps w) i place.0 place.1 in
         let instance = zip_back (IsLowered qs ps) is es found.0 found.1 lowered found.3 in
-        let query : slice_get qs instance.0.query ≡ Some (get_or qs instance.0.query (asked instance.0)) = slice_get-get_or qs instance.0.query (asked instance.0) (below i found.0 instance.0 instance.1) in
+        let query = at_place qs instance.0.query (below found.0 instance.0 instance.1) in
+        let same : i ≡ found.0 = omega (arith, found.2) in
         record {
           instance = instance.0;
-          at = ap (slice_get is) found.2 ∙ instance.1;
-          query = get_or qs instance.0.query (asked instance.0);
-          asked = query;
-          holds = (instance.2.language (get_or qs instance.0.query (asked instance.0)) query w word).1 found.4;
+          at = ap (slice_get is) same ∙ instance.1;
+          query = query.0;
+          asked = query.1;
+          holds = (instance.2.language query.0 query.1 w word).1 found.4;
         },
     λ h.
         let e = zip_at (IsLowered qs ps) is es i h.instance lowered h.at in
-        holding_has 0 es (half_steps ps w) i e.0 e.1 ((e.2.language h.query h.asked w word).0 h.holds),
+        subst (Contains (holding es (half_steps ps w))) (omega arith) (holding_has 0 es (half_steps ps w) i e.0 e.1 ((e.2.language h.query h.asked w word).0 h.holds)),
   );
 }
   where
-    asked : Instance → QueryTree
-    asked i = get_or qs i.query (record { top = Rattle.pq_query.specs.Query.InTurn; below = Rattle.pq_query.specs.Query.none })
-
-    below : (i j : ℕ) (x : Instance) → slice_get is j ≡ Some x → x.query < length qs
-    below i j x at = subst (λ y. y.query < length qs) (get_or_from_slice_get is j x x at) (within j x (slice_get_within is j x at))
+    below : (j : ℕ) (x : Instance) → slice_get is j ≡ Some x → x.query < length qs
+    below j x at = subst (λ y. y.query < length qs) (get_or_from_slice_get is j x x at) (within j x (slice_get_within is j x at))
 
 -- Words of letters say what words of packets do.
 

@@ -2,3 +2,7 @@ pub mod Order
 pub mod Spelled
 pub mod Following
 pub mod Joined
+pub mod Held
+pub mod Values
+pub mod Whole
+pub mod Lowering

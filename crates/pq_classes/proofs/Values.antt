@@ -1,6 +1,6 @@
 -- The values of labels.
-use Rattle.std.proofs.Common.{◌≡◌, ◌<◌, ◌≤◌, ◌+◌, ℕ, suc, zero, true, List, [], ◌∷◌, ◌++◌, length, map, refl, sym, ap, subst, ◌∙◌, arith}
-use Rattle.std.specs.Prelude.{All, Some, None, slice_get}
+use Rattle.std.proofs.Common.{◌≡◌, ◌<◌, ◌≤◌, ◌+◌, ◌^◌, ℕ, suc, zero, true, List, [], ◌∷◌, ◌++◌, length, map, refl, sym, ap, subst, ◌∙◌, arith}
+use Rattle.std.specs.Prelude.{All, Option, Some, None, slice_get}
 use Rattle.std.specs.List.{AllByRecursion, flat_map}
 use Rattle.std.specs.Option.{unwrap_or}
 use Rattle.std.specs.Ordering.{nat_cmp}
@@ -17,7 +17,7 @@ use Rattle.pq_topo.specs.Named.{IsNamedTopology}
 use Rattle.pq_query.specs.Groups.{Group}
 use Rattle.pq_query.specs.Instances.{instances_from, instances_of, under_labels}
 use Rattle.pq_query.specs.Labels.{ascending, datapath_numbers, group_values, groups_of, labels, listed_values, one_from_each, port_numbers, top_groups}
-use Rattle.pq_query.specs.Lawful.{AreGroupsOver, AreLawfulQueries, IsGroupOver, IsLawfulQuery, IsLawfulTop}
+use Rattle.pq_query.specs.Lawful.{AreGroupsOver, AreLawfulQueries, IsGroupOver, MayTake, IsLawfulQuery, IsLawfulTop}
 use Rattle.pq_query.specs.Query.{QueryTop, Enters, Leaves, Passes, Ends, InTurn, Either, Both, Other, Repeated, Queries, none, put, QueryTree, queries}
 use Rattle.pq_query.specs.Resolved.{is_listed}
 
@@ -76,7 +76,7 @@ instances_all P T place (q ∷ qs) all =
 
 pub instances_along : (P : QueryTree → List ℕ → Type 0) (T : Topology) (qs : List QueryTree) → All (λ q. All (P q) (labels T q)) qs → All (λ i. (q : QueryTree) → slice_get qs i.query ≡ Some q → P q i.label) (instances_of T qs)
 instances_along P T qs all =
-    All-weaker (IsNumberedFrom P 0 qs) (λ i. (q : QueryTree) → slice_get qs i.query ≡ Some q → P q i.label) (λ i told q at. told.1 i.query q refl at) (instances_of T qs) (instances_all P T 0 qs all)
+    All-weaker (IsNumberedFrom P 0 qs) (λ i. (q : QueryTree) → slice_get qs i.query ≡ Some q → P q i.label) (λ i told q at. told.1 i.query q (omega arith) at) (instances_of T qs) (instances_all P T 0 qs all)
 
 -- Values of lawful groups fit.
 
@@ -111,9 +111,12 @@ module _ (T : Topology) (named : IsNamedTopology T) where
   abbrev DoesFit : Group → Type 0
   DoesFit g = All (FitsField g.field) (group_values T g)
 
+  values_fit : (f : Field) (values : Option (List ℕ)) → MayTake FitsField f values → All (FitsField f) (group_values T (record { field = f; values = values }))
+  values_fit f (Some ns) lawful = lawful.fit
+  values_fit f None lawful = listed_fit f lawful
+
   group_fits : (g : Group) → IsGroupOver FitsField g → DoesFit g
-  group_fits (record { field = f; values = Some ns }) lawful = lawful.1.fit
-  group_fits (record { field = f; values = None }) lawful = listed_fit f lawful.1
+  group_fits g lawful = values_fit g.field g.values lawful.1
 
   groups_fit : (gs : List Group) → AreGroupsOver FitsField gs → All DoesFit gs
   groups_fit gs lawful = All-weaker (IsGroupOver FitsField) DoesFit group_fits gs lawful.each

@@ -8,12 +8,11 @@ ghost use Rattle.pq_store.specs.Store.{Keeps};
 ghost use Rattle.pq_classes.specs.Room.{FitAsQueries};
 ghost use Rattle.pq_classes.specs.Told.{AreClasses};
 
-use crate::letters::{alphabet, nodes};
+use crate::letters::{classes_of, letters_of};
 use crate::lowering::lowered;
-use pq_auto::explore;
 use pq_io::Steps;
-use pq_letters::{Letters, partition};
-use pq_min::{Classes, minimise};
+use pq_letters::Letters;
+use pq_min::Classes;
 use pq_query::{Instance, InstancesFault, Query, instances};
 use pq_store::Store;
 use pq_term::Name;
@@ -51,12 +50,9 @@ fn told<L: Ledger>(
     ensures keeps { Keeps tests.old tests.new }
 {
     let lowered = lowered(alloc, queries, all)?;
-    let ids = nodes(alloc, tests, &lowered.preds)?;
-    let letters = partition(tests, &ids)?;
-    let alphabet = alphabet(alloc, &letters)?;
-    let automaton = explore(alloc, &lowered.exprs, &alphabet, steps)?;
-    let classes = minimise(alloc, automaton)?;
-    classes.is_lawful();
+    let letters = letters_of(alloc, tests, &lowered.preds)?;
+    let classes = classes_of(alloc, &lowered.exprs, &letters, steps)?;
+    letters.count();
     Ok((letters, classes))
 }
 

@@ -1,5 +1,5 @@
 //! The expressions of instances.
-ghost use Rattle.std.specs.Prelude.{◌≡◌, ◌<◌, ◌≤◌, ◌^◌, ◌++◌, [], ◌∷◌, All, IfOk, OnOk, Some, length, map, slice_get};
+ghost use Rattle.std.specs.Prelude.{◌≡◌, ◌<◌, ◌≤◌, ◌+◌, ◌^◌, ◌++◌, All, IfOk, OnOk, Some, length, map, slice_get};
 ghost use Rattle.pq_fields.specs.Pred.{pred_tree};
 ghost use Rattle.pq_expr.specs.Expr.{expr_tree};
 ghost use Rattle.pq_query.specs.Instances.{named_trees};
@@ -17,7 +17,7 @@ use std::alloc::{AllocError, Global};
 
 /// The expressions of instances, over predicates of packets.
 #[derive(Debug, Drop)]
-pub(crate) struct Lowered {
+pub(crate) struct LoweredInstances {
     pub(crate) preds: Vec<Pred>,
     pub(crate) exprs: Vec<Expr>,
 }
@@ -45,7 +45,7 @@ pub(crate) fn lowered(
     alloc: Global,
     queries: &[(Name, Query)],
     instances: &[Instance],
-) -> Result<Lowered, AllocError>
+) -> Result<LoweredInstances, AllocError>
     requires within { All (λ i. i.query < length queries.now) instances.now }
     requires few { length instances.now ≤ 1024 }
     requires atoms { All (λ q. query_atoms q < 2 ^ 19) (named_trees queries.now) }
@@ -58,5 +58,5 @@ pub(crate) fn lowered(
         let expr = lowered_one(alloc, queries, instance, &mut preds)?;
         exprs.push(expr)?;
     }
-    Ok(Lowered { preds, exprs })
+    Ok(LoweredInstances { preds, exprs })
 }
