@@ -11,3 +11,4 @@ pub mod Going
 pub mod Whole
 pub mod Building
 pub mod Longer
+pub mod LabelsFit

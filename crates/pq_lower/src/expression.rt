@@ -23,8 +23,8 @@ use std::alloc::{AllocError, Global};
 /// The half-step expression of a query under a label, over a list of predicates that grows by those that the query needs.
 ///
 /// The label has a value for each grouped field of the query, in text order; a test without a value holds of no packet. The
-/// list gains one predicate that holds of every packet, and at most two for each atom. It fails only where there is no memory,
-/// and then leaves the list as it was.
+/// list gains one predicate that holds of every packet, and then those of the atoms in text order: one for an atom of one
+/// packet, two for an atom of two. It fails only where there is no memory, and then leaves the list as it was.
 pub fn lower(
     alloc: Global,
     query: &Query,

@@ -10,7 +10,7 @@ mod predicates;
 mod twins;
 
 pub use expression::lower;
-pub use laws::more_predicates_tell_the_same;
+pub use laws::{labels_of_lawful_queries_fit, more_predicates_tell_the_same};
 
 #[cfg(test)]
 mod tests;
