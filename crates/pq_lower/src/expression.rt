@@ -11,6 +11,7 @@ ghost use Rattle.pq_query.specs.Query.{query_tree};
 ghost use Rattle.pq_lower.specs.HalfSteps.{half_steps};
 ghost use Rattle.pq_lower.specs.Added.{added_preds};
 ghost use Rattle.pq_lower.specs.Built.{IsFittingLabel};
+ghost use Rattle.pq_lower.specs.Depth.{depth, query_depth};
 ghost use Rattle.pq_lower.specs.Lowered.{query_atoms};
 
 use crate::lowering::lower_query;
@@ -39,6 +40,7 @@ pub fn lower(
     ensures lawful_preds { OnOk result (IsLawfulQuery (query_tree query.now) → IsFittingLabel (query_tree query.now) label.now → All IsLawfulPred (map pred_tree preds.old.items) → All IsLawfulPred (map pred_tree preds.new.items)) }
     ensures bound { IfOk result (λ e. bound (expr_tree e) ≤ length preds.new.items) }
     ensures lawful { IfOk result (λ e. IsLawful (expr_tree e)) }
+    ensures depth { IfOk result (λ e. depth (expr_tree e) ≤ 1 + 2 * query_depth (query_tree query.now)) }
     ensures err { OnErr result (preds.new.items ≡ preds.old.items) }
 {
     let base = preds.len() as u32;
