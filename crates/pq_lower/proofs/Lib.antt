@@ -7,6 +7,7 @@ pub mod Fulfilling
 pub mod Windows
 pub mod Meaning
 pub mod Bounds
+pub mod Depths
 pub mod Going
 pub mod Whole
 pub mod Building

@@ -46,12 +46,6 @@ seam_before u v w word (AtEnd last whole) = ap (λ z. is_word z) (sym whole) ∙
 seam_before u v w word (AtOnce even behind some whole) = (word_cut u v w word whole).0
 seam_before u v w word (Over x odd behind some whole) = (word_cut u (Out x ∷ v) w word whole).0
 
--- the word behind a seam
-pub seam_behind : (u v w : Word) → Seam u v w → is_word v ≡ true
-seam_behind u v w (AtEnd last whole) = ap (λ z. is_word z) last
-seam_behind u v w (AtOnce even behind some whole) = behind
-seam_behind u v w (Over x odd behind some whole) = behind
-
 -- an Out comes only where no In does
 pub out_next : (b : Bool) (x : Numbers) (v : Word) → alternates b (Out x ∷ v) ≡ true → (b ≡ false) × (is_word v ≡ true)
 out_next true x v h = absurd (search (h, rules))

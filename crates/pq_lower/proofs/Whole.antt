@@ -14,7 +14,9 @@ use Rattle.pq_query.specs.Atoms.{query_atoms}
 use Rattle.pq_lower.specs.Lowered.{lowered}
 use Rattle.pq_lower.proofs.Places.{HasAt, has_first, has_second, number_tells, counted, few_preds}
 use Rattle.pq_lower.proofs.Meaning.{lowered_tells}
+use Rattle.pq_lower.specs.Depth.{depth, query_depth}
 use Rattle.pq_lower.proofs.Bounds.{IsGood, lowered_good}
+use Rattle.pq_lower.proofs.Depths.{lowered_depth}
 
 -- a query lowered over a list of predicates
 pub record IsLowered (base : ℕ) (q : QueryTree) (label : List ℕ) (old added new : List Pred) (e : ExprTree) : Type 0 where
@@ -56,3 +58,6 @@ whole_good base q label old added new e l =
     let sum : length new ≡ length old + length added = ap (λ z. length z) l.joined ∙ length-append old added in
     let based = l.based in
     subst (λ z. IsGood (length new) z) (sym l.expr) (lowered_good (length new) base (base + 1) q (omega (arith, count, sum, based)) (omega (arith, count, sum, based)))
+
+pub whole_depth : (base : ℕ) (q : QueryTree) (label : List ℕ) (old added new : List Pred) (e : ExprTree) → IsLowered base q label old added new e → depth e ≤ 1 + 2 * query_depth q
+whole_depth base q label old added new e l = subst (λ z. depth z ≤ 1 + 2 * query_depth q) (sym l.expr) (lowered_depth base (base + 1) q)

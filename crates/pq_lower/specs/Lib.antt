@@ -3,3 +3,4 @@ pub mod Operators
 pub mod Added
 pub mod Lowered
 pub mod Built
+pub mod Depth

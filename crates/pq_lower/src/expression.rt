@@ -11,6 +11,7 @@ ghost use Rattle.pq_query.specs.Query.{query_tree};
 ghost use Rattle.pq_lower.specs.HalfSteps.{half_steps};
 ghost use Rattle.pq_lower.specs.Added.{added_preds};
 ghost use Rattle.pq_lower.specs.Built.{IsFittingLabel};
+ghost use Rattle.pq_lower.specs.Depth.{depth, query_depth};
 ghost use Rattle.pq_query.specs.Atoms.{query_atoms};
 
 use crate::lowering::lower_query;
@@ -23,8 +24,8 @@ use std::alloc::{AllocError, Global};
 /// The half-step expression of a query under a label, over a list of predicates that grows by those that the query needs.
 ///
 /// The label has a value for each grouped field of the query, in text order; a test without a value holds of no packet. The
-/// list gains one predicate that holds of every packet, and at most two for each atom. It fails only where there is no memory,
-/// and then leaves the list as it was.
+/// list gains one predicate that holds of every packet, and then those of the atoms in text order: one for an atom of one
+/// packet, two for an atom of two. It fails only where there is no memory, and then leaves the list as it was.
 pub fn lower(
     alloc: Global,
     query: &Query,
@@ -39,6 +40,7 @@ pub fn lower(
     ensures lawful_preds { OnOk result (IsLawfulQuery (query_tree query.now) → IsFittingLabel (query_tree query.now) label.now → All IsLawfulPred (map pred_tree preds.old.items) → All IsLawfulPred (map pred_tree preds.new.items)) }
     ensures bound { IfOk result (λ e. bound (expr_tree e) ≤ length preds.new.items) }
     ensures lawful { IfOk result (λ e. IsLawful (expr_tree e)) }
+    ensures depth { IfOk result (λ e. depth (expr_tree e) ≤ 1 + 2 * query_depth (query_tree query.now)) }
     ensures err { OnErr result (preds.new.items ≡ preds.old.items) }
 {
     let base = preds.len() as u32;

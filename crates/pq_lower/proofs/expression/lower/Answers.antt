@@ -5,7 +5,7 @@ use Rattle.pq_query.specs.Query.{query_tree}
 use Rattle.pq_lower.specs.Added.{query_preds}
 use Rattle.pq_lower.specs.Lowered.{lowered}
 use Rattle.pq_lower.proofs.Building.{lawful_more}
-use Rattle.pq_lower.proofs.Whole.{IsLowered, whole_added, whole_language, whole_grown, whole_good}
+use Rattle.pq_lower.proofs.Whole.{IsLowered, whole_added, whole_language, whole_grown, whole_good, whole_depth}
 use Rattle.pq_lower.proofs.expression.lower.Goals as goal
 
 pub returns : goal.returns
@@ -27,5 +27,6 @@ returns c =
       lawful_preds = λ lawful fit all. lawful_more _ _ _ _ added lawful fit all;
       bound = good.bounded;
       lawful = good.lawful;
+      depth = whole_depth _ _ _ _ _ _ _ l;
       err = search rules;
     }
