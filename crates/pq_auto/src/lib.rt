@@ -3,6 +3,8 @@
 
 mod automaton;
 mod exploration;
+mod leading;
+mod lists;
 mod partition;
 mod product;
 mod quotient;
