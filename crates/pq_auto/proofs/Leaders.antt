@@ -1,12 +1,12 @@
 -- Classes that are named by their leaders are parts of the states, round by round.
-use Rattle.std.proofs.Common.{ℕ, suc, ◌+◌, ◌<◌, ◌≡◌, ◌∙◌, ◌⊎◌, inl, inr, true, false, Bool, List, [], ◌∷◌, ◌++◌, length, map, get_or, Some, nat_eq, refl, sym, ap, ap₂, subst, arith}
+use Rattle.std.proofs.Common.{ℕ, ◌+◌, ◌<◌, ◌≡◌, ◌∙◌, ◌⊎◌, inl, inr, true, false, Bool, List, [], ◌∷◌, ◌++◌, length, map, get_or, Some, nat_eq, refl, sym, ap, ap₂, subst, arith}
 use Rattle.std.specs.Prelude.{slice_get}
-use Rattle.std.specs.Cmp.Lexicographic.{pointwise, nat_list_eq_equiv, same_text}
+use Rattle.std.specs.Cmp.Lexicographic.{pointwise, nat_list_eq_equiv}
 use Rattle.std.proofs.lemmas.Bool.{cases_lt, true≢false}
 use Rattle.std.proofs.lemmas.List.{get_or-map, get_or_append_left, get_or_push, length-append, length-map}
 use Rattle.std.proofs.lemmas.Option.{slice_get_within}
 use Rattle.pq_auto.specs.Machine.{Machine, IsMachine, AreSame}
-use Rattle.pq_auto.specs.Parts.{Parts, IsParted, GivesNumber, class_of, first_of}
+use Rattle.pq_auto.specs.Parts.{Parts, IsParted, class_of, first_of}
 use Rattle.pq_auto.specs.Refinement.{IsRound, mark, row_of}
 use Rattle.pq_auto.specs.Leading.{AreLed, AreFirsts, GivesFirst, IsNext, key_in, leader_in, row_in}
 use Rattle.pq_auto.proofs.Numbers.{class_within, one_key}

@@ -10,3 +10,4 @@ pub mod Telling
 pub mod Parts
 pub mod Refinement
 pub mod Leading
+pub mod Met

@@ -5,6 +5,7 @@ mod automaton;
 mod exploration;
 mod leading;
 mod lists;
+mod met;
 mod partition;
 mod product;
 mod quotient;
