@@ -1,15 +1,17 @@
 -- States of one expression, in a set.
-use Rattle.std.proofs.Common.{◌≡◌, ◌<◌, ℕ, zero, suc, Vec, Global, arith, length-append, Bool, true, false, ◌&&◌, if◌then◌else◌, List, [], ◌∷◌, ◌++◌, length, map, Some, inl, inr, refl, sym, ap, ap₂, subst, ◌∙◌}
+use Rattle.std.proofs.Common.{◌≡◌, ◌<◌, ℕ, zero, suc, Vec, Global, arith, length-append, Bool, true, false, nat_eq, if◌then◌else◌, List, [], ◌∷◌, ◌++◌, length, map, Some, inl, inr, refl, sym, ap, ap₂, subst, ◌∙◌}
 use Rattle.std.specs.List.{slice_get, list_any, position_or_len}
 use Rattle.std.proofs.lemmas.List.{get_or-map, map-append, length-map}
 use Rattle.std.proofs.Math.ListN.{get_or}
 use Rattle.std.proofs.lemmas.Option.{slice_get-get_or}
 use Rattle.indexmap.specs.IndexSet.{insert_key}
 use Rattle.std.specs.contracts.prelude.BoolPartialEq.TheImpl.{ghosts as bools}
+use Rattle.std.specs.Cmp.Lexicographic.{pointwise, same_text}
+use Rattle.pq_expr.specs.declared.expr.Expr.{Expr}
 use Rattle.pq_expr.specs.Expr.{ExprTree, expr_tree}
 use Rattle.pq_deriv.specs.Rests.{IsRest}
 use Rattle.pq_deriv.specs.State.{StateValue}
-use Rattle.pq_deriv.specs.Order.{state_eq, same_state}
+use Rattle.pq_auto.specs.Met.{met_eq}
 use Rattle.pq_auto.specs.Rests.{Rest, rest_of, rests, behind, after, AreAlike, AreLike, AreRestsOf, IsRestOf}
 use Rattle.pq_auto.specs.Search.{IsNumber}
 use Rattle.pq_auto.proofs.Keys.{both, none_found}
@@ -26,15 +28,12 @@ exact_bool true false same = absurd cc
 exact_bool false true same = absurd cc
 exact_bool false false same = refl
 
--- states and parities that are equal
-abbrev pub same_key : StateValue × Bool → StateValue × Bool → Bool
-same_key k m = state_eq k.0 m.0 && bools.eq k.1 m.1
-
 -- equal ones of one expression are one
-pub exact_key : IsExact same_key
+pub exact_key : IsExact met_eq
 exact_key k m expr same =
-    let p = both (state_eq k.0 m.0) (bools.eq k.1 m.1) same in
-    ap₂ (λ s b. rest_of (s, b)) (same_state k.0 m.0 (sym expr) p.0) (exact_bool k.1 m.1 p.1)
+    let p = both (pointwise nat_eq k.0.rest m.0.rest) (bools.eq k.1 m.1) same in
+    let rest : k.0.rest ≡ m.0.rest = same_text k.0.rest m.0.rest (sym p.0) in
+    ap₂ (λ s b. rest_of (s, b)) (ap₂ (λ (e : Expr) (r : List ℕ). record { expr = e; rest = r }) (sym expr) rest) (exact_bool k.1 m.1 p.1)
 
 -- what stands at a place of changed elements
 pub changed_place : {A B : Type 0} (f : A → B) (xs : List A) (i : ℕ) (x : A) → slice_get xs i ≡ Some x → slice_get (map f xs) i ≡ Some (f x)

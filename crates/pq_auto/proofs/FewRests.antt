@@ -1,12 +1,11 @@
 -- Words of each parity lead an expression to few states.
-use Rattle.std.proofs.Common.{◌≡◌, ℕ, zero, suc, ◌+◌, ◌*◌, ◌≤◌, Bool, true, false, not, ◌&&◌, if◌then◌else◌, nat_eq, inl, inr, List, [], ◌∷◌, length, Some, refl, sym, ap, ap₂, subst, ◌∙◌, arith}
+use Rattle.std.proofs.Common.{◌≡◌, ℕ, zero, suc, ◌+◌, ◌*◌, ◌≤◌, Bool, true, false, not, ◌&&◌, if◌then◌else◌, nat_eq, inl, inr, List, [], ◌∷◌, length, Some, refl, sym, ap, subst, ◌∙◌, arith}
 use Rattle.std.specs.List.{slice_get, AllByRecursion, IsDistinct}
-use Rattle.std.specs.Cmp.Lexicographic.{pointwise, same_text}
+use Rattle.std.specs.Cmp.Lexicographic.{pointwise}
 use Rattle.std.specs.contracts.prelude.BoolPartialEq.TheImpl.{ghosts as bools}
 use Rattle.pq_expr.specs.Expr.{ExprTree, IsLawful}
 use Rattle.pq_deriv.specs.Choices.{IsOneOf}
 use Rattle.pq_deriv.specs.Most.{most}
-use Rattle.pq_deriv.specs.Order.{state_eq, state_equiv}
 use Rattle.pq_deriv.specs.Rests.{IsRest}
 use Rattle.pq_deriv.specs.State.{StateValue}
 use Rattle.pq_deriv.proofs.Rests.{count_distinct}
@@ -15,9 +14,9 @@ use Rattle.pq_auto.specs.Rests.{Rest, after, rest_of, rests, whole, AreAlike, Ar
 use Rattle.pq_auto.specs.Search.{run}
 use Rattle.pq_auto.specs.Searched.{IsSearched}
 use Rattle.pq_auto.specs.Telling.{HasFew}
-use Rattle.pq_auto.proofs.Alike.{exact_bool, same_key}
+use Rattle.pq_auto.specs.Met.{met_eq}
+use Rattle.pq_auto.proofs.Alike.{exact_bool}
 use Rattle.pq_auto.proofs.Counted.{one_of_all}
-use Rattle.pq_auto.proofs.Keys.{not_both}
 use Rattle.pq_auto.proofs.Searched.{key_reached}
 
 -- the places of the states of one parity, counted from this one
@@ -51,17 +50,12 @@ own_bool : (b : Bool) → bools.eq b b ≡ true
 own_bool true = refl
 own_bool false = refl
 
--- states of one expression and one parity that differ have rests that differ
-differ : (k m : StateValue × Bool) → k.0.expr ≡ m.0.expr → k.1 ≡ m.1 → same_key k m ≡ false → pointwise nat_eq k.0.rest m.0.rest ≡ false
-differ k m expr flag fails = by (pointwise nat_eq k.0.rest m.0.rest) refl
+-- states of one parity that differ have rests that differ
+differ : (k m : StateValue × Bool) → k.1 ≡ m.1 → met_eq k m ≡ false → pointwise nat_eq k.0.rest m.0.rest ≡ false
+differ k m flag fails = by (pointwise nat_eq k.0.rest m.0.rest) (sym (ap (λ b. pointwise nat_eq k.0.rest m.0.rest && b) (ap (bools.eq k.1) (sym flag) ∙ own_bool k.1)) ∙ fails)
   where
-    passes : k.0.rest ≡ m.0.rest → same_key k m ≡ true
-    passes rest =
-        let same : k.0 ≡ m.0 = ap₂ (λ e r. record { expr = e; rest = r }) expr rest in
-        ap₂ (λ s c. state_eq k.0 s && bools.eq k.1 c) (sym same) (sym flag) ∙ ap₂ (λ x y. x && y) (state_equiv.refl k.0) (own_bool k.1)
-
-    by : (c : Bool) → pointwise nat_eq k.0.rest m.0.rest ≡ c → c ≡ false
-    by true is = absurd (not_both (same_key k m) fails (passes (same_text k.0.rest m.0.rest (sym is))))
+    by : (c : Bool) → (c && true) ≡ false → c ≡ false
+    by true is = absurd cc
     by false is = refl
 
 -- a list more, where the test passes
@@ -71,12 +65,12 @@ distinct_more true r rs first rest = (first refl, rest)
 distinct_more false r rs first rest = rest
 
 -- no two states of one parity have the same rest
-distinct_at : (b : Bool) (ks : List (StateValue × Bool)) → AreAlike ks → IsDistinct same_key ks → IsDistinct (pointwise nat_eq) (rests_at b ks)
+distinct_at : (b : Bool) (ks : List (StateValue × Bool)) → AreAlike ks → IsDistinct met_eq ks → IsDistinct (pointwise nat_eq) (rests_at b ks)
 unfolding IsDistinct
 distinct_at b [] alike distinct = tt
 distinct_at b (k ∷ ks) alike distinct =
     distinct_more (bools.eq b k.1) k.0.rest (rests_at b ks)
-    (λ is. all_at (λ r. pointwise nat_eq k.0.rest r ≡ false) b ks (λ j m at same. differ k m (alike 0 (suc j) k m refl at) (sym (exact_bool b k.1 is) ∙ exact_bool b m.1 same) (one_of_all (λ x. same_key k x ≡ false) ks distinct.0 j m at)))
+    (λ is. all_at (λ r. pointwise nat_eq k.0.rest r ≡ false) b ks (λ j m at same. differ k m (sym (exact_bool b k.1 is) ∙ exact_bool b m.1 same) (one_of_all (λ x. met_eq k x ≡ false) ks distinct.0 j m at)))
     (distinct_at b ks (λ i j x y at_i at_j. alike (suc i) (suc j) x y at_i at_j) distinct.1)
 
 -- the place of a state of the parity is one of the places
@@ -112,12 +106,12 @@ even_behind alphabet (l ∷ w) r = even_behind alphabet w (after alphabet r l) �
     by false false = refl
 
 -- there are at most so many states of one parity as the expression has rests
-few_at : (e : ExprTree) (keys : List (StateValue × Bool)) → AreAlike keys → AreRestsOf e keys → IsDistinct same_key keys → IsLawful e → (b : Bool) → length (rests_at b keys) ≤ most e
+few_at : (e : ExprTree) (keys : List (StateValue × Bool)) → AreAlike keys → AreRestsOf e keys → IsDistinct met_eq keys → IsLawful e → (b : Bool) → length (rests_at b keys) ≤ most e
 few_at e keys alike are distinct lawful b = count_distinct e lawful (rests_at b keys) (distinct_at b keys alike distinct) (all_at (IsRest e) b keys (λ j m at same. subst (λ x. IsRest x m.0.rest) (are j m at).0 (are j m at).1))
 
 -- words of each parity lead to at most so many states
 pub few_states : (alphabet : List (List Bool)) (e : ExprTree) (keys : List (StateValue × Bool)) (t : Machine) → IsSearched (after alphabet) (whole e) (length alphabet) (rests keys) t.rows → length (rests keys) ≤ length t.rows
-    → AreAlike keys → AreRestsOf e keys → IsDistinct same_key keys → IsLawful e → HasFew (length alphabet) t (most e)
+    → AreAlike keys → AreRestsOf e keys → IsDistinct met_eq keys → IsLawful e → HasFew (length alphabet) t (most e)
 few_states alphabet e keys t searched all alike are distinct lawful b =
     let few = few_at e keys alike are distinct lawful b in
     let a : Machine = record { letters = length alphabet; rows = t.rows; even = []; accepted = [] } in (
@@ -141,7 +135,7 @@ all_places (k ∷ ks) = by k.1 (all_places ks)
     by false rest = omega (arith, rest)
 
 -- so a lawful expression has at most twice as many states as it has rests
-pub few_both : (e : ExprTree) (keys : List (StateValue × Bool)) → AreAlike keys → AreRestsOf e keys → IsDistinct same_key keys → IsLawful e → length keys ≤ 2 * most e
+pub few_both : (e : ExprTree) (keys : List (StateValue × Bool)) → AreAlike keys → AreRestsOf e keys → IsDistinct met_eq keys → IsLawful e → length keys ≤ 2 * most e
 few_both e keys alike are distinct lawful =
     let evens : length (rests_at true keys) ≤ most e = few_at e keys alike are distinct lawful true in
     let odds : length (rests_at false keys) ≤ most e = few_at e keys alike are distinct lawful false in

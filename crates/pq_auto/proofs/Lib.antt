@@ -23,3 +23,4 @@ pub mod Quotients
 pub mod LeastWords
 pub mod Whole
 pub mod Joined
+pub mod Leaders

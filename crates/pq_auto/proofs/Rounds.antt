@@ -46,7 +46,7 @@ module _ (m : Machine) (machine : IsMachine m) where
   same_mark s t same = let here = same [] tt in ap₂ (λ (b : Bool) (xs : List ℕ). parity_number b ∷ xs) here.0 here.1
 
   -- rows by classes are equal where each letter leads to one class
-  rows_same : (p : Parts) (s t : ℕ) → s < length m.rows → t < length m.rows → ((l : ℕ) → l < m.letters → class_of p (next m s l) ≡ class_of p (next m t l)) → map (class_of p) (row_of m s) ≡ map (class_of p) (row_of m t)
+  pub rows_same : (p : Parts) (s t : ℕ) → s < length m.rows → t < length m.rows → ((l : ℕ) → l < m.letters → class_of p (next m s l) ≡ class_of p (next m t l)) → map (class_of p) (row_of m s) ≡ map (class_of p) (row_of m t)
   rows_same p s t hs ht each =
       ext_get_or 0 (map (class_of p) (row_of m s)) (map (class_of p) (row_of m t))
       (length-map (row_of m s) (class_of p) ∙ machine.long s hs ∙ sym (length-map (row_of m t) (class_of p) ∙ machine.long t ht))

@@ -16,7 +16,7 @@ use Rattle.pq_auto.specs.Searched.{IsSearched}
 use Rattle.pq_auto.specs.Tables.{lists}
 use Rattle.pq_auto.proofs.Assembled.{same_count}
 use Rattle.pq_auto.proofs.Found.{all_rests}
-use Rattle.pq_auto.proofs.Alike.{same_key}
+use Rattle.pq_auto.specs.Met.{met_eq}
 use Rattle.pq_auto.proofs.FewRests.{few_both}
 
 -- no row was made yet
@@ -31,7 +31,7 @@ more_counted old now next rows more row letters counted stepped grown =
     omega (arith, counted, stepped, each)
 
 -- a lawful expression alone takes at most so many steps
-pub steps_within : (e : ExprTree) (keys : List (StateValue × Bool)) (old new rows letters : ℕ) → new ≡ old + rows * letters → rows ≤ length keys → AreAlike keys → AreRestsOf e keys → IsDistinct same_key keys → IsLawful e → new ≤ old + letters * (2 * most e)
+pub steps_within : (e : ExprTree) (keys : List (StateValue × Bool)) (old new rows letters : ℕ) → new ≡ old + rows * letters → rows ≤ length keys → AreAlike keys → AreRestsOf e keys → IsDistinct met_eq keys → IsLawful e → new ≤ old + letters * (2 * most e)
 steps_within e keys old new rows letters counted all alike are distinct lawful =
     let few : rows ≤ 2 * most e = omega (arith, all, few_both e keys alike are distinct lawful) in
     let each : letters * rows ≤ letters * (2 * most e) = mul-le letters rows letters (2 * most e) (omega arith) few in

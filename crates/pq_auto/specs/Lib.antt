@@ -9,3 +9,5 @@ pub mod Rests
 pub mod Telling
 pub mod Parts
 pub mod Refinement
+pub mod Leading
+pub mod Met

@@ -3,6 +3,9 @@
 
 mod automaton;
 mod exploration;
+mod leading;
+mod lists;
+mod met;
 mod partition;
 mod product;
 mod quotient;

@@ -51,6 +51,13 @@ impl Partition {
         self.classes[place as usize]
     }
 
+    /// The class of each place.
+    pub fn classes(&self) -> &[u64]
+        ensures { result.now ≡ self.now.classes }
+    {
+        &self.classes
+    }
+
     /// The first place of each class.
     pub fn firsts(&self) -> &[u64]
         ensures { result.now ≡ self.now.firsts }
@@ -73,7 +80,7 @@ impl Partition {
 }
 
 /// The number of a key among those seen: that of an equal one, or the next.
-fn number(seen: &mut IndexSet<Vec<u64>>, key: Vec<u64>) -> Result<u64, AllocError>
+pub(crate) fn number(seen: &mut IndexSet<Vec<u64>>, key: Vec<u64>) -> Result<u64, AllocError>
     ensures { IfOk result (λ class. GivesNumber (map (λ k. k.items) seen.old.keys) key.items class (map (λ k. k.items) seen.new.keys)) }
 {
     match seen.insert_full(key) {

@@ -1,6 +1,5 @@
 //! Automata side by side: a state is the list of the parity and of each automaton's state.
 ghost use Rattle.std.specs.Prelude.{◌≡◌, ◌<◌, ◌≤◌, ◌*◌, ◌^◌, ℕ, List, length, map, IfOk};
-ghost use Rattle.std.proofs.Math.ListN.{get_or};
 ghost use Rattle.pq_auto.specs.Machine.{AllBelow, accepted_at, has_even_length, is_even_at, reached};
 ghost use Rattle.pq_auto.specs.Search.{run, targets, IsNumber, AreNumbers};
 ghost use Rattle.pq_auto.specs.Tables.{accepting, begin, is_even_key, lists, starts, steps};
@@ -9,19 +8,10 @@ ghost use Rattle.pq_auto.specs.Telling.{HaveFew};
 ghost use Rattle.pq_deriv.specs.Most.{product};
 
 use crate::automaton::Automaton;
+use crate::lists::number_at;
 use crate::table::Table;
 use indexmap::IndexSet;
 use std::alloc::{AllocError, Global};
-
-/// The number at a place of a list, 0 behind its end.
-fn number_at(numbers: &[u64], place: usize) -> u64
-    ensures { result ≡ get_or numbers.now place 0 }
-{
-    match numbers.get(place) {
-        Some(number) => *number,
-        None => 0,
-    }
-}
 
 /// The state before any letter.
 fn begin(alloc: Global, tables: &[Table]) -> Result<Vec<u64>, AllocError>

@@ -1,13 +1,29 @@
 //! The automaton of the classes of states that no word tells apart.
-ghost use Rattle.std.specs.Prelude.{◌≡◌, map, IfOk};
+ghost use Rattle.std.specs.Prelude.{◌≡◌, ◌<◌, length, map, IfOk};
+ghost use Rattle.pq_auto.specs.Parts.{class_of};
 ghost use Rattle.pq_auto.specs.Machine.{IsLeastMachine, SaySame};
 ghost use Rattle.pq_auto.specs.Numbering.{IsNumbered};
-ghost use Rattle.pq_auto.specs.Refinement.{AreJoined, IsLast, quotient};
+ghost use Rattle.pq_auto.specs.Refinement.{AreJoined, IsLast, quotient, row_of};
 
 use crate::partition::Partition;
 use crate::refinement::{push_classes, settled};
 use crate::table::Table;
 use std::alloc::{AllocError, Global};
+
+/// The row of a state, by classes.
+fn class_row(
+    alloc: Global,
+    table: &Table,
+    parts: &Partition,
+    state: u64,
+) -> Result<Vec<u64>, AllocError>
+    requires { state < length table.now.rows }
+    ensures { IfOk result (λ row. row.items ≡ map (class_of parts.now) (row_of table.now state)) }
+{
+    let mut row = Vec::new(alloc);
+    push_classes(parts.classes(), table.row(state), &mut row)?;
+    Ok(row)
+}
 
 /// The rows of the classes: each has that of its first state, by classes.
 fn class_rows(alloc: Global, table: &Table, parts: &Partition) -> Result<Vec<Vec<u64>>, AllocError>
@@ -17,9 +33,7 @@ fn class_rows(alloc: Global, table: &Table, parts: &Partition) -> Result<Vec<Vec
     table.is_lawful();
     let mut rows = Vec::new(alloc);
     for first in parts.firsts() {
-        let mut row = Vec::new(alloc);
-        push_classes(parts, table.row(*first), &mut row)?;
-        rows.push(row)?;
+        rows.push(class_row(alloc, table, parts, *first)?)?;
     }
     Ok(rows)
 }

@@ -1,9 +1,10 @@
 ghost use Rattle.std.specs.Prelude.{◌≡◌, ◌<◌, ◌≤◌, ◌++◌, length, map, IfOk, OnOk};
-ghost use Rattle.pq_auto.specs.Machine.{AllBelow};
-ghost use Rattle.pq_auto.specs.Parts.{class_of};
+ghost use Rattle.pq_auto.specs.Leading.{key_in, leader_in};
 ghost use Rattle.pq_auto.specs.Refinement as states;
 ghost use Rattle.pq_auto.specs.Refinement.{IsRound, IsLast};
 
+use crate::leading::led;
+use crate::lists::number_at;
 use crate::partition::Partition;
 use crate::table::Table;
 use std::alloc::{AllocError, Global};
@@ -29,39 +30,37 @@ fn parity_number(even: bool) -> u64
 }
 
 /// What tells states apart after a letter: the state's own class, then the classes of its next states.
-fn signature(
+pub(crate) fn signature(
     alloc: Global,
     table: &Table,
-    parts: &Partition,
+    classes: &[u64],
     state: u64,
 ) -> Result<Vec<u64>, AllocError>
-    requires state { state < length table.now.rows }
-    requires whole { length parts.now.classes ≡ length table.now.rows }
-    ensures { IfOk result (λ key. key.items ≡ states.signature table.now parts.now state) }
+    requires { state < length table.now.rows }
+    ensures { IfOk result (λ key. key.items ≡ key_in table.now classes.now state) }
 {
     let mut key = Vec::new(alloc);
-    key.push(parts.class(state))?;
-    push_classes(parts, table.row(state), &mut key)?;
+    key.push(number_at(classes, state as usize))?;
+    push_classes(classes, table.row(state), &mut key)?;
     Ok(key)
 }
 
 /// Appends the classes of the states.
 pub(crate) fn push_classes(
-    parts: &Partition,
+    classes: &[u64],
     states: &[u64],
     out: &mut Vec<u64>,
 ) -> Result<(), AllocError>
-    requires { AllBelow (length parts.now.classes) states.now }
-    ensures { OnOk result (out.new.items ≡ out.old.items ++ map (class_of parts.now) states.now) }
+    ensures { OnOk result (out.new.items ≡ out.old.items ++ map (leader_in classes.now) states.now) }
 {
     for state in states {
-        out.push(parts.class(*state))?;
+        out.push(number_at(classes, *state as usize))?;
     }
     Ok(())
 }
 
 /// The first round: states parted by their marks.
-fn marked(alloc: Global, table: &Table) -> Result<Partition, AllocError>
+pub(crate) fn marked(alloc: Global, table: &Table) -> Result<Partition, AllocError>
     ensures { IfOk result (λ parts. IsRound table.now parts) }
 {
     table.is_lawful();
@@ -82,7 +81,7 @@ fn refined(alloc: Global, table: &Table, parts: &Partition) -> Result<Partition,
     table.is_lawful();
     let mut finer = Partition::new(alloc);
     for state in 0..table.count() {
-        let key = signature(alloc, table, parts, state)?;
+        let key = signature(alloc, table, parts.classes(), state)?;
         finer.add(key)?;
     }
     Ok(finer)
@@ -93,7 +92,7 @@ fn refined(alloc: Global, table: &Table, parts: &Partition) -> Result<Partition,
 pub(crate) fn settled(alloc: Global, table: &Table) -> Result<Partition, AllocError>
     ensures { IfOk result (λ parts. IsLast table.now parts) }
 {
-    let mut parts = marked(alloc, table)?;
+    let mut parts = led(alloc, table)?;
     loop {
         let finer = refined(alloc, table, &parts)?;
         if finer.count() <= parts.count() {

@@ -10,10 +10,11 @@ ghost use Rattle.pq_auto.specs.Rests.{after, alone, held, behind, rest_of, rests
 ghost use Rattle.pq_auto.specs.Search.{targets, AreNumbers, IsNumber};
 ghost use Rattle.pq_auto.specs.Tables.{lists};
 
+use crate::met::Met;
 use crate::quotient::least;
 use crate::table::Table;
 use indexmap::IndexSet;
-use pq_deriv::{State, accepts, start, step};
+use pq_deriv::{accepts, start, step};
 use pq_expr::{Expr, Side};
 use pq_io::Steps;
 use std::alloc::{AllocError, Global};
@@ -27,7 +28,7 @@ fn side_of(even: bool) -> Side
 }
 
 /// The number of a state, a new one where the state is new.
-fn number(states: &mut IndexSet<(State, bool)>, state: (State, bool)) -> Result<u64, AllocError>
+fn number(states: &mut IndexSet<Met>, state: Met) -> Result<u64, AllocError>
     requires { AreLike state states.old.keys }
     ensures number { IfOk result (λ n. IsNumber (rests states.old.keys) (rest_of state) n (rests states.new.keys)) }
     ensures alike { AreLike state states.new.keys }
@@ -44,7 +45,7 @@ fn expand<L: Ledger>(
     alloc: Global,
     alphabet: &[Vec<bool>],
     place: usize,
-    states: &mut IndexSet<(State, bool)>,
+    states: &mut IndexSet<Met>,
     steps: &mut Steps<L>,
 ) -> Result<Vec<u64>, AllocError>
     requires place { place < length states.old.keys }
@@ -65,26 +66,29 @@ fn expand<L: Ledger>(
 /// The state after one half step more, and the parity.
 fn step_at<L: Ledger>(
     alloc: Global,
-    state: &(State, bool),
+    state: &Met,
     signature: &[bool],
     steps: &mut Steps<L>,
-) -> Result<(State, bool), AllocError>
+) -> Result<Met, AllocError>
     ensures expr { IfOk result (λ s. s.0.expr ≡ state.now.0.expr) }
     ensures rest { IfOk result (λ s. rest_of s ≡ behind (rest_of state.now) signature.now) }
     ensures own { IfOk result (λ s. IsRest (expr_tree s.0.expr) s.0.rest) }
     ensures counted { steps.new ≡ steps.old + 1 }
 {
-    let next = step(alloc, &state.0, side_of(state.1), signature, steps)?;
-    Ok((next, !state.1))
+    let next = step(alloc, &state.state, side_of(state.even), signature, steps)?;
+    Ok(Met {
+        state: next,
+        even: !state.even,
+    })
 }
 
 /// For each state whether the next half step is In.
-fn parities(alloc: Global, states: &[(State, bool)]) -> Result<Vec<bool>, AllocError>
+fn parities(alloc: Global, states: &[Met]) -> Result<Vec<bool>, AllocError>
     ensures { IfOk result (λ v. v.items ≡ map (λ r. r.even) (rests states.now)) }
 {
     let mut even = Vec::with_capacity(alloc, states.len())?;
     for state in states {
-        even.push(state.1)?;
+        even.push(state.even)?;
     }
     Ok(even)
 }
@@ -102,12 +106,12 @@ fn alone(alloc: Global, holds: bool) -> Result<Vec<u32>, AllocError>
 }
 
 /// For each state the place 0 where it accepts the empty word, else none.
-fn acceptances(alloc: Global, states: &[(State, bool)]) -> Result<Vec<Vec<u32>>, AllocError>
+fn acceptances(alloc: Global, states: &[Met]) -> Result<Vec<Vec<u32>>, AllocError>
     ensures { IfOk result (λ v. map (λ places. places.items) v.items ≡ map held (rests states.now)) }
 {
     let mut all = Vec::with_capacity(alloc, states.len())?;
     for state in states {
-        all.push(alone(alloc, accepts(&state.0))?)?;
+        all.push(alone(alloc, accepts(&state.state))?)?;
     }
     Ok(all)
 }
@@ -118,7 +122,7 @@ fn search<L: Ledger>(
     expr: &Expr,
     alphabet: &[Vec<bool>],
     steps: &mut Steps<L>,
-) -> Result<(Vec<Vec<u64>>, IndexSet<(State, bool)>), AllocError>
+) -> Result<(Vec<Vec<u64>>, IndexSet<Met>), AllocError>
     ensures searched { IfOk result (λ r. IsSearched (after (map (λ v. v.items) alphabet.now)) (whole (expr_tree expr.now)) (length alphabet.now) (rests r.1.keys) (lists r.0.items)) }
     ensures all { IfOk result (λ r. length r.1.keys ≤ length r.0.items) }
     ensures alike { IfOk result (λ r. AreAlike r.1.keys) }
@@ -126,7 +130,11 @@ fn search<L: Ledger>(
     ensures counted { IfOk result (λ r. steps.new ≡ steps.old + length r.0.items * length alphabet.now) }
 {
     let mut states = IndexSet::new(alloc);
-    number(&mut states, (start(alloc, expr)?, true))?;
+    let first = Met {
+        state: start(alloc, expr)?,
+        even: true,
+    };
+    number(&mut states, first)?;
     let mut rows = Vec::new(alloc);
     'states: while rows.len() < states.len() {
         let row = expand(alloc, alphabet, rows.len(), &mut states, steps)?;

@@ -37,6 +37,15 @@ impl Model for State {
     ghost view = { λ s. record { expr = s.expr.value; rest = s.rest.items } };
 }
 
+impl State {
+    /// The numbers of the rest.
+    pub fn rest(&self) -> &[u64]
+        ensures { result.now ≡ self.now.rest }
+    {
+        &self.rest
+    }
+}
+
 /// The state before any half step: it accepts the words of the expression.
 pub fn start(alloc: Global, expr: &Expr) -> Result<State, AllocError>
     ensures expr { IfOk result (λ s. expr_tree s.expr ≡ expr_tree expr.now) }
