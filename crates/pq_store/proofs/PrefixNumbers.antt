@@ -1,11 +1,11 @@
 -- The numbers of a packet, one field changed, and the order of packets.
-use Rattle.std.proofs.Common.{◌≡◌, ℕ, zero, suc, ◌<◌, ◌≤◌, ◌⊎◌, inl, inr, true, false, ◌==◌, ◌&&◌, ◌||◌, List, [], ◌∷◌, length, get_or, set, refl, sym, ap, subst, ◌∙◌, true≢false, lt_trans, lt_of_lt_of_le, ◌^◌, arith}
+use Rattle.std.proofs.Common.{◌≡◌, ℕ, zero, suc, ◌<◌, ◌≤◌, ◌⊎◌, inl, inr, true, false, ◌==◌, ◌&&◌, ◌||◌, List, [], ◌∷◌, length, get_or, set, refl, sym, ap, subst, ◌∙◌, true≢false, lt_trans, lt_of_lt_of_le, arith}
 use Rattle.std.proofs.lemmas.List.{get_or-set_same, get_or-set_other}
 use Rattle.std.proofs.lemmas.Bool.{cases_order, cases_lt}
 use Rattle.std.proofs.lemmas.Bool.Decides.{nat_tests, leb_tells, eqb_tells}
 use Rattle.pq_fields.specs.declared.field.Field.{Field}
 use Rattle.pq_fields.specs.declared.field.Field.TheVariants.{Switch, Port, EthType, IpProto, EthSrc, EthDst, Ipv4Src, Ipv4Dst, TcpSrc, TcpDst, UdpSrc, UdpDst, Ipv6Src, Ipv6Dst}
-use Rattle.pq_fields.specs.Packet.{Numbers, Fit, numbers, number_in, with_number, rank, width_of, is_wide, is_before, zero_packet}
+use Rattle.pq_fields.specs.Packet.{Numbers, numbers, number_in, with_number, rank, width_of, is_wide, is_before, zero_packet}
 use Rattle.pq_store.specs.Least.{precedes}
 use Rattle.pq_store.specs.Search.{Agrees, IsClear}
 use Rattle.pq_store.proofs.Order.{rank_injective}
