@@ -1,5 +1,5 @@
 -- Diagrams whose value on packets doesn't depend on a field's number.
-use Rattle.std.proofs.Common.{◌≡◌, ◌<◌, ◌^◌, ℕ, ◌-◌, ◌/◌, ◌%◌, Bool, true, false, List, [], ◌∷◌, refl, sym, ◌∙◌, ap, subst, inl, inr, true≢false, pow_pos, arith}
+use Rattle.std.proofs.Common.{◌≡◌, ◌<◌, ◌^◌, ℕ, ◌-◌, ◌/◌, ◌%◌, Bool, true, false, List, [], ◌∷◌, refl, sym, ◌∙◌, ap, subst, inl, inr, true≢false, arith}
 use Rattle.std.specs.Prelude.{◌==◌, ◌&&◌, ◌||◌, if◌then◌else◌}
 use Rattle.std.proofs.Math.Bool.{or-true}
 use Rattle.std.proofs.lemmas.Bool.Decides.{eqb_tells}
@@ -20,6 +20,7 @@ use Rattle.pq_store.proofs.Packets.{packet_of, whole_number_of_packet, packet_fi
 use Rattle.pq_store.proofs.PrefixNumbers.{number_with, number_with_other}
 use Rattle.pq_store.proofs.Points.{yes_point, yes_turns}
 use Rattle.pq_store.proofs.Sides.{yes_diagram, no_diagram}
+use Rattle.pq_store.proofs.Unique.{zero_point, zero_in_range}
 use Rattle.pq_store.proofs.Guarded.{AllPass, AreAlikeOff, AreAhead, IsKey, StayLacking, Guarded, own_ahead, ahead_no, pass_still, guarded, guarded_untested}
 
 -- a test asks for its field's number alone
@@ -55,18 +56,13 @@ module _ {L : Type 0} where
             ∙ (passes_packet_of s s_is p ∙ (alike s (λ e. other.1 (sym e)) ∙ sym (passes_packet_of s s_is q)))
       ]
 
--- the point whose numbers are 0
-zero_point : Point
-zero_point = record { number = λ f. 0; bit = λ f i. false }
-
 -- a diagram whose value is the same whatever a field's number doesn't test the field
 pub untested : {L : Type 0} (f : Field) (t : Tree L) → IsDiagram t → Ignores f (λ x. Unit {0}) t → IsUntested f t
-unfolding zero_point
 untested f t d ignores s tested own =
     guarded_untested f (λ p. Unit {0}) (λ p q still lacks. tt) (λ p. tt) [] t d tt
     (guarded f (λ p. Unit {0}) (λ p q still lacks. tt) [] t d tt
     (λ p q p_in q_in p_pass q_pass lacks alike. points_same f (λ x. Unit {0}) t d.lawful ignores p q p_in q_in tt alike))
-    zero_point (λ g whole. pow_pos (width_of g)) tt s tested (ap rank (sym own))
+    zero_point zero_in_range tt s tested (ap rank (sym own))
 
 -- the packet of the point lacks the field
 abbrev Lacking : Field → Point → Type 0
@@ -200,8 +196,7 @@ stands_below f passed (Fork s y n) z d ahead z_in z_pass guards =
 
 -- where the value is the same whatever the number of a field that the packet lacks
 pub prerequisites_first : {L : Type 0} (f : Field) (t : Tree L) → IsDiagram t → Ignores f (λ x. has_field f x ≡ false) t → StandsBelow f [] t
-unfolding zero_point
 prerequisites_first f t d ignores =
-    stands_below f [] t zero_point d tt (λ g whole. pow_pos (width_of g)) tt
+    stands_below f [] t zero_point d tt zero_in_range tt
     (guarded f (Lacking f) (lacking_stays f) [] t d tt
     (λ p q p_in q_in p_pass q_pass lacks alike. points_same f (λ x. has_field f x ≡ false) t d.lawful ignores p q p_in q_in lacks alike))

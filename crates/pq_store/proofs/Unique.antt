@@ -22,10 +22,11 @@ abbrev AreOneBelow : Type 0 → ℕ → Type 0
 AreOneBelow L k = (t u : Tree L) → size t + size u < k → IsDiagram t → IsDiagram u → Agree t u → t ≡ u
 
 -- the point whose numbers are 0
-abbrev zero_point : Point
+abbrev pub zero_point : Point
 zero_point = record { number = λ f. 0; bit = λ f i. false }
 
-zero_in_range : InRange zero_point
+-- it is in range
+pub zero_in_range : InRange zero_point
 zero_in_range f number = pow_pos (width_of f)
 
 module _ {L : Type 0} where

@@ -56,7 +56,7 @@ module _ {L : Type 0} where
 
   -- a new id joins the trees of two old ones
   abbrev pub JoinsAt : List (Tree L) → Test → ℕ → ℕ → List (Tree L) → ℕ → Type 0
-  JoinsAt old test i j new k = (y n : Tree L) → slice_get old i ≡ Some y → slice_get old j ≡ Some n → (joined : Tree L) × (slice_get new k ≡ Some joined) × IsJoin test y n joined
+  JoinsAt old test i j new k = (y n : Tree L) → slice_get old i ≡ Some y → slice_get old j ≡ Some n → HasAt (IsJoin test y n) new k
 
   -- an id whose tree is what another says past the test
   abbrev pub IsPastAt : List (Tree L) → Test → ℕ → ℕ → Type 0
