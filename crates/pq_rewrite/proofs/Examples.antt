@@ -1,12 +1,13 @@
 -- Examples may be written first, joined, and put in sequence.
 use Rattle.std.proofs.Common.{ℕ, ◌≡◌, ◌⊎◌, Bool, List, true, inl, inr, sym, subst}
-use Rattle.std.specs.Prelude.{◌==◌}
+use Rattle.std.specs.Prelude.{◌==◌, Some, slice_get}
 use Rattle.std.specs.List.{list_any}
 use Rattle.pq_fields.specs.declared.field.Field.{Field}
 use Rattle.pq_fields.specs.Writes.{Written}
 use Rattle.pq_store.specs.declared.test.Test.TheVariants.{Equal}
 use Rattle.pq_store.specs.Store.{Keeps}
 use Rattle.pq_store.specs.Tree.{Tree}
+use Rattle.pq_store.specs.Tree.Tree.{Tip}
 use Rattle.pq_apply.specs.Examples.{IsExampleAt, example_numbers}
 use Rattle.pq_apply.specs.Predicates.{NeedsAmong}
 use Rattle.pq_apply.specs.Product.{FitTogetherAt}
@@ -24,6 +25,13 @@ example_after w ts id (u, is, within) t t_is =
     let same : u ≡ t = cc in
     let ns : Field → List ℕ = λ f. example_numbers in
     record { numbers = ns; few = examples_few; tree = subst (Within ns) same within; needs = λ f n written. needs_known f }
+
+-- and so does a leaf
+pub leaf_after : {M : Type 0} (w : Written) (ts : List (Tree M)) (k : ℕ) (l : M) → slice_get ts k ≡ Some (Tip l) → FitsAfterAt w ts k
+leaf_after w ts k l is t t_is =
+    let same : Tip l ≡ t = cc in
+    let ns : Field → List ℕ = λ f. example_numbers in
+    record { numbers = ns; few = examples_few; tree = subst (Within ns) same (λ f v tested. absurd tested); needs = λ f n written. needs_known f }
 
 -- a diagram that writes a number of examples is an example
 pub writing_example : (f : Field) (n : ℕ) (ts : List (Tree (List Written))) (id : ℕ) → list_any (λ m. n == m) example_numbers ≡ true → HasAt (IsWriting f n) ts id → IsExampleRewritingAt ts id

@@ -3,6 +3,7 @@ ghost use Rattle.pq_rewrite.specs.Leaves.{copies_eq, copies_equiv, copies_hash, 
 
 use pq_fields::Writes;
 use pq_store::Leaf;
+use std::alloc::AllocError;
 use std::hash::{Hash, Hasher};
 use std::marker::Model;
 
@@ -59,6 +60,17 @@ impl Hash for Copies {
 
     fn hash<H: Hasher>(&self, state: &mut H) {
         self.list.hash(state);
+    }
+}
+
+impl Clone for Copies {
+    ghost use Rattle.std.specs.Prelude.{◌≡◌};
+
+    ghost is_clone = { λ c d. d ≡ c };
+
+    fn clone(&self) -> Result<Copies, AllocError> {
+        let list = Vec::from_slice(*self.list.allocator(), &self.list)?;
+        Ok(Copies { list })
     }
 }
 

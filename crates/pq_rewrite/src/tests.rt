@@ -45,42 +45,12 @@ fn after_writing(
 }
 
 #[test]
-fn a_number_that_is_written_is_not_tested(rt: HostRuntime) -> Result<(), Fail> {
-    let mut from = Store::new(rt.alloc());
-    let node = equal(&mut from, Field::Port, 1)?;
-    let mut into = Store::new(rt.alloc());
-    let id = after_writing(Field::Port, 1, &from, node, &mut into)?;
-    assert!(rt; id == into.leaf(true)?);
-    Ok(())
-}
-
-#[test]
 fn a_number_is_written_only_where_the_field_is(rt: HostRuntime) -> Result<(), Fail> {
     let mut from = Store::new(rt.alloc());
     let node = equal(&mut from, Field::TcpDst, 80)?;
     let mut into = Store::new(rt.alloc());
     let id = after_writing(Field::TcpDst, 80, &from, node, &mut into)?;
     assert!(rt; id == equal(&mut into, Field::IpProto, 6)?);
-    Ok(())
-}
-
-#[test]
-fn another_number_is_never_reached(rt: HostRuntime) -> Result<(), Fail> {
-    let mut from = Store::new(rt.alloc());
-    let node = equal(&mut from, Field::TcpDst, 80)?;
-    let mut into = Store::new(rt.alloc());
-    let id = after_writing(Field::TcpDst, 1, &from, node, &mut into)?;
-    assert!(rt; id == into.leaf(false)?);
-    Ok(())
-}
-
-#[test]
-fn a_test_of_another_field_stays(rt: HostRuntime) -> Result<(), Fail> {
-    let mut from = Store::new(rt.alloc());
-    let node = equal(&mut from, Field::TcpDst, 80)?;
-    let mut into = Store::new(rt.alloc());
-    let id = after_writing(Field::TcpSrc, 80, &from, node, &mut into)?;
-    assert!(rt; id == equal(&mut into, Field::TcpDst, 80)?);
     Ok(())
 }
 
@@ -124,17 +94,6 @@ fn keeping_equal(
 {
     let mut tests = Store::new(store.allocator());
     let cond = equal(&mut tests, field, value)?;
-    let id = keeping(&tests, cond, store)?;
-    Ok(id)
-}
-
-/// The diagram that keeps no packet.
-fn keeping_none(store: &mut Store<WriteSet>) -> Result<NodeId, AllocError>
-    ensures example { IfOk result (λ id. IsExampleRewritingAt store.new id) }
-    ensures keeps { KeepsExamples store.old store.new }
-{
-    let mut tests = Store::new(store.allocator());
-    let cond = tests.leaf(false)?;
     let id = keeping(&tests, cond, store)?;
     Ok(id)
 }
@@ -219,14 +178,6 @@ fn the_later_write_stays(rt: HostRuntime) -> Result<(), Fail> {
 }
 
 #[test]
-fn a_union_with_itself_is_one(rt: HostRuntime) -> Result<(), Fail> {
-    let mut store = Store::new(rt.alloc());
-    let node = writing(&mut store, Field::Port, 1)?;
-    assert!(rt; either(&mut store, node, node)? == node);
-    Ok(())
-}
-
-#[test]
 fn a_write_of_what_a_packet_has_is_none(rt: HostRuntime) -> Result<(), Fail> {
     let mut store = Store::new(rt.alloc());
     let at_port = keeping_equal(&mut store, Field::Port, 1)?;
@@ -268,21 +219,30 @@ fn writes_of_a_union_ascend(rt: HostRuntime) -> Result<(), Fail> {
 }
 
 #[test]
-fn the_second_tests_what_the_first_writes(rt: HostRuntime) -> Result<(), Fail> {
-    let mut store = Store::new(rt.alloc());
-    let to_second = writing(&mut store, Field::Port, 2)?;
-    let at_second = keeping_equal(&mut store, Field::Port, 2)?;
-    assert!(rt; in_sequence(&mut store, to_second, at_second)? == to_second);
+fn sets_of_writes_are_compacted(rt: HostRuntime) -> Result<(), Fail> {
+    let alloc = rt.alloc();
+    let mut store = Store::new(alloc);
+    let _nothing = store.leaf(WriteSet::of(Vec::new(alloc)))?;
+    let node = writing(&mut store, Field::Port, 1)?;
+    let (compact, _ids) = store.compacted([node].as_slice())?;
+    assert_eq!(rt; store.count(), 4);
+    assert_eq!(rt; compact.count(), 3);
     Ok(())
 }
 
 #[test]
-fn another_number_than_is_written_is_never_kept(rt: HostRuntime) -> Result<(), Fail> {
-    let mut store = Store::new(rt.alloc());
-    let to_second = writing(&mut store, Field::Port, 2)?;
-    let at_third = keeping_equal(&mut store, Field::Port, 3)?;
-    let never = in_sequence(&mut store, to_second, at_third)?;
-    assert!(rt; never == keeping_none(&mut store)?);
+fn copies_come_after_writes(rt: HostRuntime) -> Result<(), Fail> {
+    let alloc = rt.alloc();
+    let sent = Outgoing {
+        writes: Writes::none(),
+        tag: None,
+        kind: OutKind::Send,
+    };
+    let mut from = Store::new(alloc);
+    let leaf = from.leaf(Copies::of(vec![in alloc; sent]?))?;
+    let mut into = Store::new(alloc);
+    let id = after(&Writes::none(), &from, leaf, &mut into)?;
+    assert!(rt; into.leaf(Copies::of(vec![in alloc; sent]?))? == id);
     Ok(())
 }
 

@@ -4,6 +4,7 @@ ghost use Rattle.pq_rewrite.specs.Rewriting.{Ascend};
 
 use pq_fields::Writes;
 use pq_store::Leaf;
+use std::alloc::AllocError;
 use std::hash::{Hash, Hasher};
 use std::marker::Model;
 
@@ -46,6 +47,17 @@ impl Hash for WriteSet {
 
     fn hash<H: Hasher>(&self, state: &mut H) {
         self.list.hash(state);
+    }
+}
+
+impl Clone for WriteSet {
+    ghost use Rattle.std.specs.Prelude.{◌≡◌};
+
+    ghost is_clone = { λ s t. t ≡ s };
+
+    fn clone(&self) -> Result<WriteSet, AllocError> {
+        let list = Vec::from_slice(*self.list.allocator(), &self.list)?;
+        Ok(WriteSet { list })
     }
 }
 
