@@ -5,4 +5,4 @@ pub mod Joined
 pub mod Held
 pub mod Values
 pub mod Whole
-pub mod Lowering
+pub mod OneLowered

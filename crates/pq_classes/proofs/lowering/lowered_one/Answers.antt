@@ -1,6 +1,6 @@
 use Rattle.std.proofs.Common.{◌≡◌, ◌<◌, ap, arith, subst, sym, length}
 use Rattle.pq_query.specs.Instances.{named_trees}
-use Rattle.pq_classes.proofs.Lowering.{asked, few_atoms, one_added, one_grown, one_lowered}
+use Rattle.pq_classes.proofs.OneLowered.{asked, few_atoms, one_added, one_grown, one_lowered}
 use Rattle.pq_classes.proofs.lowering.lowered_one.Goals as goal
 
 pub lower-requires-clause-atoms : goal.lower-requires-clause-atoms
