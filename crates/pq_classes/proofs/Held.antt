@@ -92,7 +92,7 @@ zip_back R (x ∷ xs) (z ∷ ys) (suc i) y all at = zip_back R xs ys i y all.1 a
 -- The instances that hold a word.
 
 -- a place within a list has an element
-at_place : {X : Type 0} (xs : List X) (k : ℕ) → k < length xs → (x : X) × (slice_get xs k ≡ Some x)
+pub at_place : {X : Type 0} (xs : List X) (k : ℕ) → k < length xs → (x : X) × (slice_get xs k ≡ Some x)
 at_place [] k within = absurd (omega (arith, within))
 at_place (x ∷ xs) zero within = (x, refl)
 at_place (x ∷ xs) (suc k) within = at_place xs k (omega (arith, within))

@@ -6,3 +6,4 @@ pub mod Held
 pub mod Values
 pub mod Whole
 pub mod OneLowered
+pub mod Signed

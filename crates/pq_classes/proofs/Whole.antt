@@ -1,9 +1,10 @@
 -- Instances, letters and classes together.
-use Rattle.std.proofs.Common.{◌≡◌, ◌<◌, ◌≤◌, ℕ, suc, zero, Bool, List, [], ◌∷◌, length, map, get_or, refl, sym, ap, subst, ◌∙◌, arith}
+use Rattle.std.proofs.Common.{◌≡◌, ◌<◌, ◌≤◌, ◌+◌, ◌^◌, ℕ, suc, zero, Bool, List, [], ◌∷◌, length, length-append, map, get_or, refl, sym, ap, subst, ◌∙◌, arith}
 use Rattle.std.specs.Prelude.{All, Some, slice_get}
 use Rattle.std.specs.List.{AllByRecursion, AllZip}
 use Rattle.std.proofs.lemmas.List.Elements.{All-nil, All-cons, All-contains, All-get_or, All-weaker, recursion_from_All}
 use Rattle.std.proofs.lemmas.List.{length-map}
+use Rattle.std.proofs.lemmas.List.Sums.{sum_by-cons}
 use Rattle.std.proofs.lemmas.Option.{slice_get_within, slice_get-get_or, get_or_from_slice_get}
 use Rattle.std.proofs.Math.ListN.{get_or-map}
 use Rattle.pq_fields.specs.declared.field.Field.{Field}
@@ -16,12 +17,14 @@ use Rattle.pq_model.specs.Topology.{Topology}
 use Rattle.pq_model.specs.Word.{Word}
 use Rattle.pq_topo.specs.Named.{IsNamedTopology}
 use Rattle.pq_query.specs.Groups.{Group}
-use Rattle.pq_query.specs.Instances.{instances_of}
+use Rattle.pq_query.specs.Instances.{instances_from, instances_of, label_sum, named_trees, under_labels}
 use Rattle.pq_query.specs.Labels.{group_values, groups_of, labels}
 use Rattle.pq_query.specs.Languages.{IsHeld}
 use Rattle.pq_query.specs.Lawful.{IsLawfulQuery}
-use Rattle.pq_query.specs.Query.{QueryTree, queries}
-use Rattle.pq_expr.specs.Expr.{ExprTree}
+use Rattle.pq_query.specs.declared.query.Query.{Query}
+use Rattle.pq_query.specs.Query.{QueryTree, queries, query_tree}
+use Rattle.pq_expr.specs.declared.expr.Expr.{Expr}
+use Rattle.pq_expr.specs.Expr.{ExprTree, expr_tree}
 use Rattle.pq_lower.specs.Added.{added_preds}
 use Rattle.pq_lower.specs.Built.{AreBuilt, AreTested, DoFit, IsBuilt, IsKept, Say, own_preds}
 use Rattle.pq_lower.specs.HalfSteps.{half_steps}
@@ -33,7 +36,7 @@ use Rattle.pq_store.specs.Tree.{Tree}
 use Rattle.pq_apply.specs.Predicates.{ArePredsWithin, HoldsAt, IsPredWithin, IsTopWithin, NeedsAmong}
 use Rattle.pq_letters.specs.Letters.{LettersValue, IsLettered}
 use Rattle.pq_letters.specs.Words.{letters_of}
-use Rattle.pq_classes.specs.Lowered.{AreLowered, IsAdded}
+use Rattle.pq_classes.specs.Lowered.{AreLowered, IsAdded, IsLowered}
 use Rattle.pq_classes.specs.Room.{FitAsQueries, IsGroupWithin, IsQueryWithin}
 use Rattle.pq_classes.specs.Told.{AreClasses, AreHolding, IsAutomatonOf, TellPreds, class_of}
 use Rattle.pq_classes.proofs.Held.{are_holding, same_steps}
@@ -101,7 +104,7 @@ no_needs : (ns : Field → List ℕ) → NeedsAmong ns Port
 no_needs ns = record { types = λ v among. absurd (omega (arith, among.2)); protocols = λ v among. absurd (omega (arith, among.2)) }
 
 kept_within : (ns : Field → List ℕ) → IsAmong 0 (ns Port) → IsKept (Says ns)
-kept_within ns zero = record { always = tt; never = tt; dropped = ((λ narrow. zero), no_needs ns); every = λ ps some. tt; negated = λ ps some. tt }
+kept_within ns ported = record { always = tt; never = tt; dropped = ((λ narrow. ported), no_needs ns); every = λ ps some. tt; negated = λ ps some. tt }
 
 tested_within : (ns : Field → List ℕ) (gs : List Group) (label : List ℕ) → AllByRecursion (λ g. NeedsAmong ns g.field) gs → Along (IsCounted ns) gs label → AreTested (Says ns) gs label
 tested_within ns [] label needs along = tt
@@ -110,14 +113,14 @@ tested_within ns (g ∷ gs) (n ∷ label) needs along = ((along.0, needs.0), tes
 
 -- the numbers that an instance adds are among those of its query
 instance_within : (ns : Field → List ℕ) (T : Topology) (q : QueryTree) → IsAmong 0 (ns Port) → IsQueryWithin ns T q → All (λ label. All (IsPredWithin ns) (added_preds q label)) (labels T q)
-instance_within ns T q zero within =
+instance_within ns T q ported within =
     let gs = groups_of (queries (q ∷ [])) in
     let values = query_along (IsCounted ns) T q (All-weaker (IsGroupWithin ns T) (λ g. All (IsCounted ns g.field) (group_values T g)) (λ g is. is.1) gs within.groups) in
     let needs = recursion_from_All (λ g. NeedsAmong ns g.field) gs (All-weaker (IsGroupWithin ns T) (λ g. NeedsAmong ns g.field) (λ g is. is.0) gs within.groups) in
     let own = list_built ns (own_preds (queries (q ∷ []))) (recursion_from_All (IsPredWithin ns) (own_preds (queries (q ∷ []))) within.preds) in
     All-weaker (Along (IsCounted ns) gs) (λ label. All (IsPredWithin ns) (added_preds q label))
     (λ label along. All-weaker (IsBuilt (Says ns)) (IsPredWithin ns) (λ p built. built_within ns (preds (p ∷ [])) built) (added_preds q label)
-    (added_built (Says ns) q label (kept_within ns zero) (record { own = own; tests = tested_within ns gs label needs along })))
+    (added_built (Says ns) q label (kept_within ns ported) (record { own = own; tests = tested_within ns gs label needs along })))
     (labels T q) values
 
 pub preds_room : (T : Topology) (qs : List QueryTree) (is : List Instance) (ps : List PredTree) → is ≡ instances_of T qs → FitAsQueries T qs → All (IsAdded qs is) ps → HasRoom (λ ns. All (IsPredWithin ns) ps)
@@ -130,3 +133,35 @@ preds_room T qs is ps listed room added = let ns = room.numbers in record {
       (All-weaker (IsQueryWithin ns T) (λ q. All (λ label. All (IsPredWithin ns) (added_preds q label)) (labels T q)) (λ q is. instance_within ns T q room.within.0 is) qs room.within.1)))
       added;
 }
+
+-- How many there are.
+
+zip_long : {A B : Type 0} (R : A → B → Type 0) (xs : List A) (ys : List B) → AllZip R xs ys → length ys ≡ length xs
+zip_long R [] [] all = refl
+zip_long R [] (y ∷ ys) all = absurd all
+zip_long R (x ∷ xs) [] all = absurd all
+zip_long R (x ∷ xs) (y ∷ ys) all = ap suc (zip_long R xs ys all.1)
+
+-- as many expressions as instances
+pub few_exprs : (qs : List QueryTree) (ps : List PredTree) (is : List Instance) (es : List Expr) → AreLowered qs ps is (map expr_tree es) → length is ≤ 1024 → length es < 2 ^ 32
+few_exprs qs ps is es lowered few =
+    let long = zip_long (IsLowered qs ps) is (map expr_tree es) lowered in
+    let own = length-map es expr_tree in
+    omega (arith, long, own, few)
+
+instances_long : (T : Topology) (place : ℕ) (qs : List QueryTree) → length (instances_from T place qs) ≡ label_sum T qs
+instances_long T place [] = refl
+instances_long T place (q ∷ qs) =
+    let whole = length-append (under_labels place (labels T q)) (instances_from T (place + 1) qs) in
+    let instance : List ℕ → Instance = λ label. record { query = place; label = label } in
+    let first = length-map (labels T q) instance in
+    let rest = instances_long T (place + 1) qs in
+    let sum : label_sum T (q ∷ qs) ≡ length (labels T q) + label_sum T qs = sum_by-cons (λ r. length (labels T r)) q qs in
+    omega (arith, whole, first, rest, sum)
+
+pub few_instances : (T : Topology) (qs : List QueryTree) (is : List Instance) → is ≡ instances_of T qs → label_sum T qs ≤ 1024 → length is ≤ 1024
+few_instances T qs is listed few = let long = ap length listed in let all = instances_long T 0 qs in omega (arith, long, all, few)
+
+-- queries without their names are as many
+pub within_trees : (queries : List (List ℕ × Query)) (is : List Instance) → All (λ i. i.query < length queries) is → All (λ i. i.query < length (named_trees queries)) is
+within_trees queries is within = subst (λ n. All (λ i. i.query < n) is) (sym (length-map queries (λ q. query_tree q.1))) within

@@ -49,6 +49,7 @@ fn told<L: Ledger>(
     ensures classes { IfOk result (λ r. AreClasses (IsHeld (named_trees queries.now) all.now) r.0 r.1) }
     ensures keeps { Keeps tests.old tests.new }
 {
+    let _named = topology.switches();
     let lowered = lowered(alloc, queries, all)?;
     let letters = letters_of(alloc, tests, &lowered.preds)?;
     let classes = classes_of(alloc, &lowered.exprs, &letters, steps)?;
