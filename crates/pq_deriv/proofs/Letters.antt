@@ -51,9 +51,6 @@ turn_more l e es begins old set more steps rest w =
     (turn_stepped begins (holds (expr_tree e)) Ps (left (expr_tree e)) (members (first_set old)) l w (turn_left Ps ls (spread (length Ps) (behind_set old)) (l ∷ w)))
 
 -- the number of empty sets apart from what stands behind it
-pub sets_from : (l : HalfStep) (es : Exprs) (begins : Bool) (old new : List ℕ) → AreSetsStepped l es begins old new → AreSetsStepped l es begins (first_gap old ∷ behind_gap old) new
-sets_from l es begins old new steps w = rw (spread_gap (length (languages es)) old) (steps w)
-
 pub sets_whole : (l : HalfStep) (es : Exprs) (begins : Bool) (old new : List ℕ) → AreSetsStepped l es begins (first_gap old ∷ behind_gap old) new → AreSetsStepped l es begins old new
 sets_whole l es begins old new steps w = rw (← spread_gap (length (languages es)) old) (steps w)
 
