@@ -1,5 +1,5 @@
-ghost use Rattle.std.specs.Prelude.{ℕ, List, [], ◌≡◌, ◌<◌, ◌+◌, length, map, IfOk, OnOk};
-ghost use Rattle.pq_auto.specs.Parts.{GivesNumber, IsParted, class_of};
+ghost use Rattle.std.specs.Prelude.{ℕ, List, [], ◌≡◌, ◌+◌, length, map, IfOk, OnOk};
+ghost use Rattle.pq_auto.specs.Parts.{GivesNumber, IsParted};
 
 use indexmap::IndexSet;
 use std::alloc::{AllocError, Global};
@@ -41,14 +41,6 @@ impl Partition {
         ensures { result ≡ length self.now.firsts }
     {
         self.firsts.len() as u64
-    }
-
-    /// The class of a place.
-    pub fn class(&self, place: u64) -> u64
-        requires { place < length self.now.classes }
-        ensures { result ≡ class_of self.now place }
-    {
-        self.classes[place as usize]
     }
 
     /// The class of each place.

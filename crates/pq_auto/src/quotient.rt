@@ -91,8 +91,8 @@ fn joined(alloc: Global, table: &Table, parts: &Partition) -> Result<Table, Allo
 /// The least automaton that says the same of each word: states that no word tells apart are joined. Where states are numbered
 /// by their least words, so are the classes.
 ///
-/// States are parted by their marks, then in rounds by the classes that each letter leads to. There are at most as many
-/// rounds as states, and each looks up one key of the length of a row for each state.
+/// States are parted by their marks, then in rounds by the classes that each letter leads to. A round compares one row for
+/// each state, and looks up a key of its length for each state that leaves its class; the last rounds do so for every state.
 pub fn least(alloc: Global, table: &Table) -> Result<Table, AllocError>
     ensures letters { IfOk result (λ classes. classes.letters ≡ table.now.letters) }
     ensures same { IfOk result (λ classes. SaySame table.now classes) }

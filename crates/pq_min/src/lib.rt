@@ -3,6 +3,8 @@
 
 mod classes;
 mod minimisation;
+#[cfg(test)]
+mod tests;
 
 pub use classes::Classes;
 pub use minimisation::minimise;
