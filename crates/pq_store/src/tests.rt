@@ -152,3 +152,15 @@ fn least_packets_come_in_packet_order(rt: HostRuntime) -> Result<(), Fail> {
     assert!(rt; *store.eval(id, &found[1].packet));
     Ok(())
 }
+
+#[test]
+fn laws_are_calls_that_do_nothing(rt: HostRuntime) -> Result<(), Fail> {
+    let mut store = Store::new(rt.alloc());
+    let id = of_ports(&mut store, true, false, false)?;
+    store.has_diagrams();
+    one_diagram::<bool>();
+    ignored_fields_are_untested::<bool>();
+    prerequisites_stand_first::<bool>();
+    assert!(rt; *store.eval(id, &at_port(1)));
+    Ok(())
+}
