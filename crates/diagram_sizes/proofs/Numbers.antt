@@ -7,27 +7,27 @@ use Rattle.pq_fields.specs.declared.field.Field.TheVariants.{EthType, IpProto}
 use Rattle.pq_fields.specs.Packet.{rank, width_of}
 use Rattle.pq_fields.specs.Pred.{PredTree}
 use Rattle.pq_store.proofs.Order.{rank_injective}
-use Rattle.pq_apply.specs.Together.{AreFew, IsAmong}
+use Rattle.pq_store.specs.Room.{AreFew, IsAmong}
 use Rattle.pq_apply.specs.Predicates.{FitsAsNode, NeedsAmong, protocols_before, types_before}
-use Rattle.pq_apply.proofs.AtomTrees.{roomy}
+use Rattle.pq_store.proofs.RoomLemmas.{roomy}
 use Rattle.diagram_sizes.specs.declared.disjunctions.Tested.{Tested}
 use Rattle.diagram_sizes.specs.declared.disjunctions.Tested.TheVariants.{Numbers, Networks}
 use Rattle.diagram_sizes.specs.Disjunctions.{NamesOnly, IsTestable, numbers_of, prerequisites}
 
 -- the numbers in prerequisites are few
 few_prerequisites : AreFew (λ f. prerequisites)
-few_prerequisites f = omega (arith, roomy f)
+few_prerequisites f whole = omega (arith, roomy f)
 
 -- so are those of a disjunction
 few_numbers : (tested : Tested) (count : ℕ) → IsTestable tested count → AreFew (numbers_of tested count)
-few_numbers (Numbers tested) count testable f = elim (eqb_tells (rank f) (rank tested)) [
+few_numbers (Numbers tested) count testable f whole = elim (eqb_tells (rank f) (rank tested)) [
   | inl same ↦
       let field : f ≡ tested = rank_injective f tested same.1 in
       let few : count ≤ 2 ^ width_of f / 2 - 1 = subst (λ g. count ≤ 2 ^ width_of g / 2 - 1) (sym field) testable.0 in
       rw same.0 (omega (arith, length-range_with_len 1 count, few))
-  | inr other ↦ rw other.0 (few_prerequisites f)
+  | inr other ↦ rw other.0 (few_prerequisites f whole)
 ]
-few_numbers Networks count testable f = few_prerequisites f
+few_numbers Networks count testable f whole = few_prerequisites f whole
 
 -- the number at a place is one of them
 pub number_among : (tested : Field) (count place : ℕ) → place < count → IsAmong (place + 1) (numbers_of (Numbers tested) count tested)

@@ -16,8 +16,8 @@ use Rattle.diagram_sizes.proofs.Numbers.{number_among, needs_none}
 -- the test of a number is lawful and names that number
 pub number_operand : (f : Field) (count place : ℕ) → IsTestable (Numbers f) count → place < count → NamesOnly (numbers_of (Numbers f) count) (pred_tree (pred.Equal f (place + 1)))
 number_operand f count place testable within = subst (NamesOnly (numbers_of (Numbers f) count)) (sym is) (record {
-  lawful = ((testable.1, omega (arith, testable.0, within)), tt, tt);
-  within = ((number_among f count place within, needs_none (numbers_of (Numbers f) count) f testable.2 testable.3), tt, tt);
+  lawful = (omega (arith, testable.0, within), tt, tt);
+  within = ((λ whole. number_among f count place within, needs_none (numbers_of (Numbers f) count) f testable.1 testable.2), tt, tt);
 })
   where
     is : pred_tree (pred.Equal f (place + 1)) ≡ leaf (Equals f (place + 1))

@@ -1,8 +1,8 @@
 -- Disjunctions of many tests, and the numbers that they name.
-use Rattle.std.specs.Prelude.{ℕ, ◌-◌, ◌/◌, ◌^◌, ◌≤◌, ◌≡◌, false, List, [], ◌∷◌, ◌==◌, if◌then◌else◌}
+use Rattle.std.specs.Prelude.{ℕ, ◌-◌, ◌/◌, ◌^◌, ◌≤◌, ◌≡◌, List, [], ◌∷◌, ◌==◌, if◌then◌else◌}
 use Rattle.std.specs.List.{range_with_len}
 use Rattle.pq_fields.specs.declared.field.Field.{Field}
-use Rattle.pq_fields.specs.Packet.{is_wide, rank, width_of}
+use Rattle.pq_fields.specs.Packet.{rank, width_of}
 use Rattle.pq_fields.specs.Pred.{AreLawful, IsLawfulPred, PredTree, Preds}
 use Rattle.pq_apply.specs.Predicates.{ArePredsWithin, IsPredWithin, protocols_before, types_before}
 use Rattle.diagram_sizes.specs.declared.sizes.Sizes.{Sizes}
@@ -21,7 +21,7 @@ numbers_of Networks count f = prerequisites
 
 -- a field without prerequisites, and at most half of its numbers less one; or networks that lie within 32 bits
 abbrev pub IsTestable : Tested → ℕ → Type 0
-IsTestable (Numbers f) count = (count ≤ 2 ^ width_of f / 2 - 1) × (is_wide f ≡ false) × (types_before f ≡ []) × (protocols_before f ≡ [])
+IsTestable (Numbers f) count = (count ≤ 2 ^ width_of f / 2 - 1) × (types_before f ≡ []) × (protocols_before f ≡ [])
 IsTestable Networks count = count ≤ 2 ^ 16
 
 -- a lawful predicate with only these numbers

@@ -1,11 +1,11 @@
 -- The trees of single tests: where they may stand, what they say, and what they test.
-use Rattle.std.proofs.Common.{ℕ, zero, suc, ◌+◌, ◌-◌, ◌/◌, ◌^◌, ◌<◌, ◌≤◌, ◌≡◌, ◌∙◌, Bool, true, false, List, [], ◌∷◌, Some, refl, ap, sym, subst, inl, inr, eq-eqb, ne_eqb, if◌then◌else◌, arith}
+use Rattle.std.proofs.Common.{ℕ, zero, suc, ◌+◌, ◌^◌, ◌<◌, ◌≤◌, ◌≡◌, ◌∙◌, Bool, true, false, List, [], ◌∷◌, Some, refl, ap, sym, inl, inr, eq-eqb, ne_eqb, if◌then◌else◌, arith}
 use Rattle.std.specs.Prelude.{◌==◌, ◌&&◌, ◌||◌, slice_get}
 use Rattle.std.proofs.lemmas.Bool.{true≢false}
 use Rattle.pq_fields.specs.declared.field.Field.{Field}
 use Rattle.pq_fields.specs.declared.field.Field.TheVariants.{Switch, Port, EthType, IpProto, EthSrc, EthDst, Ipv4Src, Ipv4Dst, TcpSrc, TcpDst, UdpSrc, UdpDst, Ipv6Src, Ipv6Dst}
 use Rattle.pq_fields.specs.Packet.{Numbers, Fit, rank, width_of, number_in, bit_in, has_field, is_ipv4, is_ipv6}
-use Rattle.pq_fields.specs.Pred.{leading, is_prefixed}
+use Rattle.pq_fields.specs.Pred.{leading}
 use Rattle.pq_store.specs.declared.test.Test.{Test}
 use Rattle.pq_store.specs.declared.test.Test.TheVariants.{Equal, Bit}
 use Rattle.pq_store.specs.Test.{is_address, IsLawful}
@@ -13,44 +13,12 @@ use Rattle.pq_store.specs.Tree.{Tree, value}
 use Rattle.pq_store.specs.Tree.Tree.{Tip, Fork}
 use Rattle.pq_store.specs.Diagram.{IsBefore, counts, most, HasEqualSides}
 use Rattle.pq_store.specs.Store.{IsJoinable, JoinsAt}
-use Rattle.pq_apply.specs.Together.{IsAmong, Within}
+use Rattle.pq_store.specs.Room.{IsAmong, IsCounted, Within}
+use Rattle.pq_store.proofs.RoomLemmas.{roomy, tip_within, fork_within}
+use Rattle.pq_fields.proofs.Fitting.{number_fits}
 use Rattle.pq_apply.specs.Atoms.{bit_at, bit_fork, bits_tree, number_tree, protocol_tree, type_tree, ip_tree, present_tree, IsOfBits, IsInner}
 use Rattle.pq_apply.specs.Predicates.{NeedsAmong}
 use Rattle.pq_apply.proofs.Leading.{fewer, none_lead, all_lead, bit_joins, bit_follows}
-
--- a packet's numbers fit
-number_fits : (f : Field) (x : Numbers) → Fit x → number_in f x < 2 ^ width_of f
-number_fits Switch x fit = fit.switch
-number_fits Port x fit = fit.port
-number_fits EthType x fit = fit.eth_type
-number_fits IpProto x fit = fit.ip_proto
-number_fits EthSrc x fit = fit.eth_src
-number_fits EthDst x fit = fit.eth_dst
-number_fits Ipv4Src x fit = fit.ipv4_src
-number_fits Ipv4Dst x fit = fit.ipv4_dst
-number_fits TcpSrc x fit = fit.tcp_src
-number_fits TcpDst x fit = fit.tcp_dst
-number_fits UdpSrc x fit = fit.udp_src
-number_fits UdpDst x fit = fit.udp_dst
-number_fits Ipv6Src x fit = fit.ipv6_src
-number_fits Ipv6Dst x fit = fit.ipv6_dst
-
--- a path may test a few numbers of each field
-pub roomy : (f : Field) → 9 ≤ 2 ^ width_of f / 2 - 1
-roomy Switch = omega arith
-roomy Port = omega arith
-roomy EthType = omega arith
-roomy IpProto = omega arith
-roomy EthSrc = omega arith
-roomy EthDst = omega arith
-roomy Ipv4Src = omega arith
-roomy Ipv4Dst = omega arith
-roomy TcpSrc = omega arith
-roomy TcpDst = omega arith
-roomy UdpSrc = omega arith
-roomy UdpDst = omega arith
-roomy Ipv6Src = omega arith
-roomy Ipv6Dst = omega arith
 
 -- a test counts for one number at most
 pub counts_one : (f : Field) (s : Test) → counts f s ≤ 1
@@ -132,7 +100,7 @@ bits_inner f i t bits = record {
 -- and so is the test of its number
 pub number_inner : (f : Field) (n : ℕ) → IsInner (rank f) 1 (number_tree f n)
 unfolding number_tree
-number_inner f n = by (is_prefixed f)
+number_inner f n = by (is_address f)
   where
     by : (b : Bool) → IsInner (rank f) 1 (if b then bits_tree f n 0 (width_of f) else Fork (Equal f n) (Tip true) (Tip false))
     by true = bits_inner f 0 (bits_tree f n 0 (width_of f)) (bits_tests f n 0 (width_of f))
@@ -224,7 +192,7 @@ leads_value f n len x fit small fits =
 -- the test of a number says whether the field's number is this one
 pub number_value : (f : Field) (n : ℕ) (x : Numbers) → Fit x → n < 2 ^ width_of f → value (number_tree f n) x ≡ (number_in f x == n)
 unfolding number_tree
-number_value f n x fit small = by (is_prefixed f)
+number_value f n x fit small = by (is_address f)
   where
     told : (b : Bool) → (if b then true else false) ≡ b
     told true = refl
@@ -273,39 +241,24 @@ present_value f t x = by f
     by Ipv6Src = one (is_ipv6 x) (value t x)
     by Ipv6Dst = one (is_ipv6 x) (value t x)
 
--- the number that a test tests is among these
-abbrev is_test_among : (Field → List ℕ) → Test → Type 0
-is_test_among ns (Equal f v) = IsAmong v (ns f)
-is_test_among ns (Bit f i) = Unit {0}
-
--- a tree tests these numbers where its root and its sides do
-within_fork : {L : Type 0} (ns : Field → List ℕ) (s : Test) (y n : Tree L) → is_test_among ns s → Within ns y → Within ns n → Within ns (Fork s y n)
-within_fork ns s y n here y_in n_in f v (inl is) = subst (is_test_among ns) (sym is) here
-within_fork ns s y n here y_in n_in f v (inr (inl in_yes)) = y_in f v in_yes
-within_fork ns s y n here y_in n_in f v (inr (inr in_no)) = n_in f v in_no
-
--- a leaf tests none
-pub within_tip : {L : Type 0} (ns : Field → List ℕ) (l : L) → Within ns (Tip l)
-within_tip ns l f v tested = absurd tested
-
--- nor do bits
+-- bits are no numbers
 pub bits_within : (ns : Field → List ℕ) (f : Field) (n i m : ℕ) → Within ns (bits_tree f n i m)
 unfolding bits_tree
-bits_within ns f n i zero = within_tip ns true
+bits_within ns f n i zero = tip_within ns true
 bits_within ns f n i (suc m) = by (bits_tree f n (suc i) m) (bits_within ns f n (suc i) m) (bit_at f n i)
   where
     by : (t : Tree Bool) → Within ns t → (b : Bool) → Within ns (bit_fork b f i t)
-    by t behind true = within_fork ns (Bit f i) t (Tip false) tt behind (within_tip ns false)
-    by t behind false = within_fork ns (Bit f i) (Tip false) t tt (within_tip ns false) behind
+    by t behind true = fork_within ns (Bit f i) t (Tip false) tt behind (tip_within ns false)
+    by t behind false = fork_within ns (Bit f i) (Tip false) t tt (tip_within ns false) behind
 
 -- the test of a number tests that number
-pub number_within : (ns : Field → List ℕ) (f : Field) (n : ℕ) → IsAmong n (ns f) → Within ns (number_tree f n)
+pub number_within : (ns : Field → List ℕ) (f : Field) (n : ℕ) → IsCounted ns f n → Within ns (number_tree f n)
 unfolding number_tree
-number_within ns f n here = by (is_prefixed f)
+number_within ns f n here = by (is_address f) refl
   where
-    by : (b : Bool) → Within ns (if b then bits_tree f n 0 (width_of f) else Fork (Equal f n) (Tip true) (Tip false))
-    by true = bits_within ns f n 0 (width_of f)
-    by false = within_fork ns (Equal f n) (Tip true) (Tip false) here (within_tip ns true) (within_tip ns false)
+    by : (b : Bool) → is_address f ≡ b → Within ns (if b then bits_tree f n 0 (width_of f) else Fork (Equal f n) (Tip true) (Tip false))
+    by true address = bits_within ns f n 0 (width_of f)
+    by false whole = fork_within ns (Equal f n) (Tip true) (Tip false) (here whole) (tip_within ns true) (tip_within ns false)
 
 -- prerequisites test their numbers
 pub present_within : (ns : Field → List ℕ) (f : Field) (t : Tree Bool) → NeedsAmong ns f → Within ns t → Within ns (present_tree f t)
@@ -319,14 +272,14 @@ present_within ns f t needs inner = by f needs
     second u v = (1, v, omega arith, refl, refl)
 
     typed : (v : ℕ) (u : Tree Bool) → IsAmong v (ns EthType) → Within ns u → Within ns (type_tree v u)
-    typed v u here u_in = within_fork ns (Equal EthType v) u (Tip false) here u_in (within_tip ns false)
+    typed v u here u_in = fork_within ns (Equal EthType v) u (Tip false) here u_in (tip_within ns false)
 
     numbered : (v : ℕ) (u : Tree Bool) → IsAmong v (ns IpProto) → Within ns u → Within ns (protocol_tree v u)
-    numbered v u here u_in = within_fork ns (Equal IpProto v) u (Tip false) here u_in (within_tip ns false)
+    numbered v u here u_in = fork_within ns (Equal IpProto v) u (Tip false) here u_in (tip_within ns false)
 
     both : (u : Tree Bool) → ((v : ℕ) → IsAmong v (0x0800 ∷ 0x86dd ∷ []) → IsAmong v (ns EthType)) → Within ns u → Within ns (ip_tree u)
     both u types u_in =
-        within_fork ns (Equal EthType 0x0800) u (type_tree 0x86dd u) (types 0x0800 (first 0x0800 (0x86dd ∷ []))) u_in
+        fork_within ns (Equal EthType 0x0800) u (type_tree 0x86dd u) (types 0x0800 (first 0x0800 (0x86dd ∷ []))) u_in
         (typed 0x86dd u (types 0x86dd (second 0x0800 0x86dd)) u_in)
 
     by : (f : Field) → NeedsAmong ns f → Within ns (present_tree f t)

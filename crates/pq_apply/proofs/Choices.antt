@@ -4,17 +4,18 @@ use Rattle.std.specs.Prelude.{slice_get, if◌then◌else◌}
 use Rattle.indexmap.specs.IndexMap.{IndexMap, Updates}
 use Rattle.pq_fields.specs.Packet.{Numbers}
 use Rattle.pq_store.specs.declared.test.Test.{Test}
+use Rattle.pq_store.specs.declared.test.Test.TheVariants.{Equal}
 use Rattle.pq_store.specs.Test.{IsLawful, Precedes, passes}
 use Rattle.pq_store.specs.Tree.{Tree, IsTested, value}
 use Rattle.pq_store.specs.Tree.Tree.{Tip, Fork}
 use Rattle.pq_store.specs.Store.{AreDiagrams, IsJoinable, JoinsAt, Keeps, ShowsBranch}
 use Rattle.pq_store.proofs.Elements.{at_place}
 use Rattle.pq_store.proofs.Order.{precedes_trans}
-use Rattle.pq_apply.specs.Choice.{ChoosesAt, FitAsChoiceAt}
+use Rattle.pq_store.proofs.RoomLemmas.{room_for}
+use Rattle.pq_apply.specs.Choice.{ChoosesAt, FitAsChoice, FitAsChoiceAt}
 use Rattle.pq_apply.specs.Choosing.{IsChosen, IsChosenAt, IsFirstOfThree}
 use Rattle.pq_apply.specs.Memo.{Remembers, same_triple}
 use Rattle.pq_apply.specs.Split.{HasRootAt, IsAtOrBefore, IsEarlier, LeadsRoot, SplitsAt, root_of}
-use Rattle.pq_apply.specs.Together.{FitAsChoice}
 use Rattle.pq_apply.proofs.Places.{earlier_lawful, together, SidesAt, lawful_at, no_small, same_tree, sides_at, sides_still, size_at, size_still, yes_small}
 use Rattle.pq_apply.proofs.Remembered.{remembers_more, remembers_still, triple_exact}
 use Rattle.pq_apply.proofs.Splits.{AreSides, IsJoined, IsRoot, IsSide, joinable, joined_is, root_tested, side_later, side_other}
@@ -173,15 +174,13 @@ module _ {L : Type 0} where
   }
 
   -- parts of three trees may come together where the trees may
-  parts_fit : {c d : Tree Bool} {y n z m : Tree L} → ((s : Test) → IsTested s d → IsTested s c) → ((s : Test) → IsTested s z → IsTested s y) → ((s : Test) → IsTested s m → IsTested s n)
+  parts_fit : (c d : Tree Bool) (y n z m : Tree L) → ((s : Test) → IsTested s d → IsTested s c) → ((s : Test) → IsTested s z → IsTested s y) → ((s : Test) → IsTested s m → IsTested s n)
       → FitAsChoice c y n → FitAsChoice d z m
-  parts_fit in_c in_y in_n fit = record {
-    numbers = fit.numbers;
-    few = fit.few;
-    condition = λ f v tested. fit.condition f v (in_c _ tested);
-    left = λ f v tested. fit.left f v (in_y _ tested);
-    right = λ f v tested. fit.right f v (in_n _ tested);
-  }
+  parts_fit c d y n z m in_c in_y in_n = room_for (λ ns within. (
+    λ f v tested. within.0 f v (in_c (Equal f v) tested),
+    λ f v tested. within.1 f v (in_y (Equal f v) tested),
+    λ f v tested. within.2 f v (in_n (Equal f v) tested),
+  ))
 
   -- trees that may come together may do so at their places
   fit_there : (cs : List (Tree Bool)) (k : ℕ) (ts : List (Tree L)) (i j : ℕ) (c : Tree Bool) (y n : Tree L)
@@ -206,13 +205,15 @@ module _ {L : Type 0} where
     pub passed_fit : FitAsChoiceAt cs cy ts ly ry
     passed_fit =
         fit_there cs cy ts ly ry st.condition_sides.yes st.left_sides.yes st.right_sides.yes st.condition_sides.yes_is st.left_sides.yes_is st.right_sides.yes_is
-        (parts_fit st.condition_sides.yes_side.tested st.left_sides.yes_side.tested st.right_sides.yes_side.tested st.fit)
+        (parts_fit st.condition st.condition_sides.yes st.left st.right st.left_sides.yes st.right_sides.yes
+        st.condition_sides.yes_side.tested st.left_sides.yes_side.tested st.right_sides.yes_side.tested st.fit)
 
     -- and so may what the no sides test
     pub failed_fit : FitAsChoiceAt cs cn ts ln rn
     failed_fit =
         fit_there cs cn ts ln rn st.condition_sides.no st.left_sides.no st.right_sides.no st.condition_sides.no_is st.left_sides.no_is st.right_sides.no_is
-        (parts_fit st.condition_sides.no_side.tested st.left_sides.no_side.tested st.right_sides.no_side.tested st.fit)
+        (parts_fit st.condition st.condition_sides.no st.left st.right st.left_sides.no st.right_sides.no
+        st.condition_sides.no_side.tested st.left_sides.no_side.tested st.right_sides.no_side.tested st.fit)
 
   -- what is chosen between the trees at two places is chosen between whichever trees stand there
   pub chosen_there : {cs : List (Tree Bool)} {k : ℕ} {ts : List (Tree L)} {i j id : ℕ} {c : Tree Bool} {y n w : Tree L}
@@ -309,8 +310,8 @@ module _ {L : Type 0} where
     chosen_joinable a b a_is b_is =
         joinable (IsTestedInThree st.condition st.left st.right) st.fit.numbers s a b st.fit.few
         (λ f v tested. elim tested [
-          | inl at ↦ st.fit.condition f v at
-          | inr other ↦ elim other [ inl at ↦ st.fit.left f v at | inr at ↦ st.fit.right f v at ]
+          | inl at ↦ st.fit.within.0 f v at
+          | inr other ↦ elim other [ inl at ↦ st.fit.within.1 f v at | inr at ↦ st.fit.within.2 f v at ]
         ]) (sides_there a b a_is b_is)
 
     -- the node with the two is chosen between the three

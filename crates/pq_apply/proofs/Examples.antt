@@ -1,5 +1,5 @@
 -- The predicates of examples have diagrams, and these may come together.
-use Rattle.std.proofs.Common.{ℕ, ◌^◌, ◌<◌, ◌≡◌, ◌∙◌, Bool, true, false, List, [], ◌∷◌, refl, sym, ap, subst, inl, inr, arith}
+use Rattle.std.proofs.Common.{ℕ, ◌^◌, ◌<◌, ◌≡◌, ◌∙◌, Bool, true, List, [], ◌∷◌, refl, sym, ap, subst, inl, inr, arith}
 use Rattle.std.specs.Prelude.{◌==◌, Some, slice_get}
 use Rattle.std.specs.List.{Any, list_any}
 use Rattle.std.proofs.lemmas.Bool.{true≢false}
@@ -10,16 +10,16 @@ use Rattle.pq_fields.specs.declared.field.Field.{Field}
 use Rattle.pq_fields.specs.declared.pred.Pred.TheVariants as pred
 use Rattle.pq_fields.specs.declared.pred.Pred.TheOpen.{Pred-F}
 use Rattle.pq_fields.specs.declared.pred.Pred.TheFolds.{fold-roll-Pred}
-use Rattle.pq_fields.specs.Packet.{width_of, is_wide}
+use Rattle.pq_fields.specs.Packet.{width_of}
 use Rattle.pq_fields.specs.Pred.{PredTree, leaf, pred_step, pred_tree}
 use Rattle.pq_fields.specs.Pred.PredTop.{Equals}
 use Rattle.pq_store.specs.Tree.{Tree}
-use Rattle.pq_apply.specs.Together.{AreFew, IsAmong, Within}
+use Rattle.pq_store.specs.Room.{AreFew, IsAmong, Within}
 use Rattle.pq_apply.specs.Predicates.{FitsAsNode, HoldsAt, NeedsAmong}
 use Rattle.pq_apply.specs.Junction.{FitTogetherAll}
 use Rattle.pq_apply.specs.Product.{FitTogetherAt}
 use Rattle.pq_apply.specs.Examples.{IsExample, IsExampleAt, example_numbers}
-use Rattle.pq_apply.proofs.AtomTrees.{roomy}
+use Rattle.pq_store.proofs.RoomLemmas.{roomy}
 use Rattle.pq_apply.proofs.Required.{needs_among}
 
 -- a number found among some is among them
@@ -40,17 +40,17 @@ needs_known f =
 
 -- few numbers are tested together
 pub examples_few : AreFew (λ f. example_numbers)
-examples_few f = omega (arith, roomy f)
+examples_few f whole = omega (arith, roomy f)
 
 -- the predicates of examples have few numbers
 pub example_fits : (p : PredTree) → IsExample p → FitsAsNode p
 example_fits p example = record { numbers = λ f. example_numbers; few = examples_few; within = example.within }
 
 -- the test of a number is an example
-pub equal_example : (f : Field) (n : ℕ) → is_wide f ≡ false → n < 2 ^ width_of f → list_any (λ m. n == m) example_numbers ≡ true → IsExample (pred_tree (pred.Equal f n))
-equal_example f n narrow fits known = subst IsExample (sym is) (record {
-  lawful = ((narrow, fits), tt, tt);
-  within = ((found_among n example_numbers known, needs_known f), tt, tt);
+pub equal_example : (f : Field) (n : ℕ) → n < 2 ^ width_of f → list_any (λ m. n == m) example_numbers ≡ true → IsExample (pred_tree (pred.Equal f n))
+equal_example f n fits known = subst IsExample (sym is) (record {
+  lawful = (fits, tt, tt);
+  within = ((λ whole. found_among n example_numbers known, needs_known f), tt, tt);
 })
   where
     is : pred_tree (pred.Equal f n) ≡ leaf (Equals f n)
@@ -73,4 +73,4 @@ two_fit ls rs x y (l, l_is, l_within) (r, r_is, r_within) t u t_is u_is =
     let e : l ≡ t = cc in
     let f : r ≡ u = cc in
     let ns : Field → List ℕ = λ f. example_numbers in
-    record { numbers = ns; few = examples_few; left = subst (Within ns) e l_within; right = subst (Within ns) f r_within }
+    record { numbers = ns; few = examples_few; within = (subst (Within ns) e l_within, subst (Within ns) f r_within) }

@@ -1,16 +1,16 @@
 -- A tree that tests only some numbers has on each path at most as many tests of them.
-use Rattle.std.proofs.Common.{◌≡◌, ◌⊎◌, ℕ, zero, suc, ◌≤◌, List, [], ◌∷◌, length, refl, sym, ◌∙◌, ap, inl, inr, arith}
+use Rattle.std.proofs.Common.{◌≡◌, ◌⊎◌, ℕ, zero, suc, ◌-◌, ◌/◌, ◌^◌, ◌≤◌, Bool, true, false, List, [], ◌∷◌, length, refl, sym, ◌∙◌, ap, inl, inr, arith}
 use Rattle.std.proofs.Math.Nat.{max-le}
 use Rattle.std.proofs.lemmas.Bool.Decides.{eqb_tells}
 use Rattle.pq_fields.specs.declared.field.Field.{Field}
-use Rattle.pq_fields.specs.Packet.{rank}
+use Rattle.pq_fields.specs.Packet.{rank, width_of}
 use Rattle.pq_store.specs.declared.test.Test.TheVariants.{Equal, Bit}
-use Rattle.pq_store.specs.Test.{Precedes}
+use Rattle.pq_store.specs.Test.{is_address, Precedes}
 use Rattle.pq_store.specs.Tree.{Tree, IsTested}
 use Rattle.pq_store.specs.Tree.Tree.{Tip, Fork}
-use Rattle.pq_store.specs.Diagram.{Ascends, Fits, most}
-use Rattle.pq_store.proofs.Order.{rank_injective, before_tested}
-use Rattle.pq_apply.specs.Together.{AreFew, IsAmong, Within}
+use Rattle.pq_store.specs.Diagram.{AllLawful, Ascends, Fits, most}
+use Rattle.pq_store.proofs.Order.{rank_injective, kinds_differ, before_tested}
+use Rattle.pq_store.specs.Room.{AreFew, IsAmong, Within}
 
 -- the number stands in the list
 abbrev Has : ℕ → List ℕ → Type 0
@@ -71,8 +71,21 @@ module _ {L : Type 0} where
       let no_few : most f n ≤ length xs = few_on_path f n xs ascends.3 (λ w tested. only w (inr (inr tested))) in
       omega (arith, max-le yes_few no_few)
 
-  -- so it fits, where these are few
-  pub few_fit : (ns : Field → List ℕ) (t : Tree L) → AreFew ns → Within ns t → Ascends t → Fits t
-  few_fit ns t few within ascends f =
-      let path : most f t ≤ length (ns f) = few_on_path f t (ns f) ascends (λ v tested. has v (ns f) (within f v tested)) in
-      omega (arith, path, few f)
+  -- no path tests a number of an address
+  none_on_path : (f : Field) (t : Tree L) → is_address f ≡ true → AllLawful t → most f t ≡ 0
+  none_on_path f (Tip l) address lawful = refl
+  none_on_path f (Fork (Equal g v) y n) address lawful = elim (eqb_tells (rank f) (rank g)) [
+    | inl same ↦ absurd (kinds_differ g f lawful.0.0 address (sym same.1))
+    | inr other ↦ rw (other.0, none_on_path f y address lawful.1, none_on_path f n address lawful.2) refl
+  ]
+  none_on_path f (Fork (Bit g i) y n) address lawful = rw (none_on_path f y address lawful.1, none_on_path f n address lawful.2) refl
+
+  -- so a tree fits, where the numbers that it tests are few
+  pub few_fit : (ns : Field → List ℕ) (t : Tree L) → AreFew ns → Within ns t → AllLawful t → Ascends t → Fits t
+  few_fit ns t few within lawful ascends f = by (is_address f) refl
+    where
+      by : (b : Bool) → is_address f ≡ b → most f t ≤ 2 ^ width_of f / 2 - 1
+      by true address = omega (arith, none_on_path f t address lawful)
+      by false whole =
+          let path : most f t ≤ length (ns f) = few_on_path f t (ns f) ascends (λ v tested. has v (ns f) (within f v tested)) in
+          omega (arith, path, few f whole)

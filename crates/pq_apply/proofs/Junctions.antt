@@ -12,10 +12,10 @@ use Rattle.pq_store.specs.Tree.{Tree, value, IsTested}
 use Rattle.pq_store.specs.Tree.Tree.{Tip}
 use Rattle.pq_store.specs.Store.{Keeps}
 use Rattle.pq_store.proofs.Elements.{at_place}
-use Rattle.pq_apply.specs.Together.{Within, FitAsChoice}
-use Rattle.pq_apply.specs.Choice.{FitAsChoiceAt, IsChoice, ChoosesAt}
+use Rattle.pq_store.specs.Room.{Within}
+use Rattle.pq_apply.specs.Choice.{FitAsChoice, FitAsChoiceAt, IsChoice, ChoosesAt}
 use Rattle.pq_apply.specs.Junction.{joined, trees_at, FitTogetherAll, IsJunction, JunctionAt, IsRecoding, RecodesAt}
-use Rattle.pq_apply.proofs.AtomTrees.{within_tip}
+use Rattle.pq_store.proofs.RoomLemmas.{room_for, tip_within}
 use Rattle.pq_apply.proofs.Kept.{within_still, tree_before}
 
 -- what a tree within numbers tests is within them
@@ -26,16 +26,9 @@ within_part ns t u tests within f v tested = within f v (tests f v tested)
 pub leaves_fit : {L : Type 0} (cs : List (Tree Bool)) (ts : List (Tree L)) (k i j : ℕ) (a b : L) → ((t : Tree Bool) → slice_get cs k ≡ Some t → FitTogetherAll (t ∷ []))
     → slice_get ts i ≡ Some (Tip a) → slice_get ts j ≡ Some (Tip b) → FitAsChoiceAt cs k ts i j
 leaves_fit cs ts k i j a b fit yes_is no_is c y n c_is y_is n_is =
-    let own = fit c c_is in
     let e : Tip a ≡ y = cc in
     let f : Tip b ≡ n = cc in
-    record {
-      numbers = own.numbers;
-      few = own.few;
-      condition = All-head (Within own.numbers) c [] own.within;
-      left = subst (Within own.numbers) e (within_tip own.numbers a);
-      right = subst (Within own.numbers) f (within_tip own.numbers b);
-    }
+    room_for (λ ns within. (All-head (Within ns) c [] within, subst (Within ns) e (tip_within ns a), subst (Within ns) f (tip_within ns b))) (fit c c_is)
 
 -- a choice between two leaves
 pub leaves_chosen : (cs old new : List (Tree Bool)) (k i j id : ℕ) (a b : Bool) → slice_get old i ≡ Some (Tip a) → slice_get old j ≡ Some (Tip b)
@@ -54,11 +47,15 @@ leaves_chosen cs old new k i j id a b yes_is no_is chooses t t_is =
 -- two trees that may come together, one of them recoded, may do so with a leaf
 pair_fits : (c t y n : Tree Bool) → FitTogetherAll (t ∷ y ∷ []) → IsRecoding true false t c → (l : Bool) → n ≡ Tip l → FitAsChoice c y n × FitAsChoice c n y
 pair_fits c t y n fit recodes l leaf =
-    let ns = fit.numbers in
-    let condition : Within ns c = within_part ns t c (λ f v. recodes.tests (Equal f v)) (All-head (Within ns) t (y ∷ []) fit.within) in
-    let side : Within ns y = All-head (Within ns) y [] (All-tail (Within ns) t (y ∷ []) fit.within) in
-    let tip : Within ns n = subst (Within ns) (sym leaf) (within_tip ns l) in
-    (record { numbers = ns; few = fit.few; condition = condition; left = side; right = tip }, record { numbers = ns; few = fit.few; condition = condition; left = tip; right = side })
+    let within_all : (ns : Field → List ℕ) → All (Within ns) (t ∷ y ∷ []) → Within ns c × Within ns y × Within ns n =
+    λ ns within. (
+      within_part ns t c (λ f v. recodes.tests (Equal f v)) (All-head (Within ns) t (y ∷ []) within),
+      All-head (Within ns) y [] (All-tail (Within ns) t (y ∷ []) within),
+      subst (Within ns) (sym leaf) (tip_within ns l),
+    ) in (
+      room_for within_all fit,
+      room_for (λ ns within. let all = within_all ns within in (all.0, all.2, all.1)) fit,
+    )
 
 -- the choice of a second tree where the first holds
 pub both_hold : (t u c w : Tree Bool) → IsRecoding true false t c → IsChoice c u (Tip false) w → IsJunction true (t ∷ u ∷ []) w
@@ -152,22 +149,18 @@ halves_joined every m us t u w front back both = record {
 
 -- of trees that may come together the first may
 pub front_fits : (m : ℕ) (us : List (Tree Bool)) → FitTogetherAll us → FitTogetherAll (take m us)
-front_fits m us fit = record { numbers = fit.numbers; few = fit.few; within = All-take (Within fit.numbers) m us fit.within }
+front_fits m us = room_for (λ ns within. All-take (Within ns) m us within)
 
 -- and those behind them
 pub back_fits : (m : ℕ) (us : List (Tree Bool)) → FitTogetherAll us → FitTogetherAll (drop m us)
-back_fits m us fit = record { numbers = fit.numbers; few = fit.few; within = All-drop (Within fit.numbers) m us fit.within }
+back_fits m us = room_for (λ ns within. All-drop (Within ns) m us within)
 
 -- and so may the junctions of both halves
 pub halves_fit : (every : Bool) (m : ℕ) (us : List (Tree Bool)) (t u : Tree Bool) → FitTogetherAll us → IsJunction every (take m us) t → IsJunction every (drop m us) u → FitTogetherAll (t ∷ u ∷ [])
 halves_fit every m us t u fit front back =
-    let ns = fit.numbers in
-    record {
-      numbers = ns;
-      few = fit.few;
-      within = All-cons (Within ns) t (u ∷ []) (front.tests ns (All-take (Within ns) m us fit.within))
-          (All-cons (Within ns) u [] (back.tests ns (All-drop (Within ns) m us fit.within)) (All-nil (Within ns)));
-    }
+    room_for (λ ns within.
+    All-cons (Within ns) t (u ∷ []) (front.tests ns (All-take (Within ns) m us within))
+    (All-cons (Within ns) u [] (back.tests ns (All-drop (Within ns) m us within)) (All-nil (Within ns)))) fit
 
 -- the trees at the first places
 front_at : (ts : List (Tree Bool)) (ids part : List ℕ) (m : ℕ) → part ≡ take m ids → take m (trees_at ts ids) ≡ trees_at ts part
@@ -236,9 +229,7 @@ pub first_fits : (ts : List (Tree Bool)) (x y : ℕ) → y < length ts → ((t u
     → (t : Tree Bool) → slice_get ts x ≡ Some t → FitTogetherAll (t ∷ [])
 first_fits ts x y y_in fit t t_is =
     let u = at_place ts y y_in in
-    let both = fit t u.0 t_is u.1 in
-    let ns = both.numbers in
-    record { numbers = ns; few = both.few; within = All-cons (Within ns) t [] (All-head (Within ns) t (u.0 ∷ []) both.within) (All-nil (Within ns)) }
+    room_for (λ ns within. All-cons (Within ns) t [] (All-head (Within ns) t (u.0 ∷ []) within) (All-nil (Within ns))) (fit t u.0 t_is u.1)
 
 -- a recoded tree, a second tree and a leaf may come together in a choice
 pub record IsPairReady (cs ts : List (Tree Bool)) (condition y leaf : ℕ) : Type 0 where

@@ -4,6 +4,7 @@ use Rattle.std.specs.Prelude.{slice_get}
 use Rattle.indexmap.specs.IndexMap.{IndexMap, Updates}
 use Rattle.pq_fields.specs.Packet.{Numbers}
 use Rattle.pq_store.specs.declared.test.Test.{Test}
+use Rattle.pq_store.specs.declared.test.Test.TheVariants.{Equal}
 use Rattle.pq_store.specs.Test.{IsLawful, passes}
 use Rattle.pq_store.specs.Tree.{Tree, IsTested, value}
 use Rattle.pq_store.specs.Tree.Tree.{Tip, Fork}
@@ -11,10 +12,10 @@ use Rattle.pq_store.specs.Store.{AreDiagrams, IsJoinable, JoinsAt, Keeps, ShowsB
 use Rattle.pq_store.proofs.Elements.{at_place}
 use Rattle.pq_store.proofs.Joins.{leaf_diagram}
 use Rattle.pq_apply.specs.Memo.{Remembers, same_pair}
-use Rattle.pq_apply.specs.Product.{FitTogetherAt, IsProduct}
+use Rattle.pq_store.proofs.RoomLemmas.{room_for}
+use Rattle.pq_apply.specs.Product.{FitTogether, FitTogetherAt, IsProduct}
 use Rattle.pq_apply.specs.Pairing.{IsFirstAt, IsPaired, IsPairedAt}
 use Rattle.pq_apply.specs.Split.{HasRootAt, IsEarlier, LeadsRoot, SplitsAt, root_of}
-use Rattle.pq_apply.specs.Together.{FitTogether}
 use Rattle.pq_apply.proofs.Places.{earlier_lawful, lawful_at, together, SidesAt, no_small, same_tree, sides_at, size_at, yes_small}
 use Rattle.pq_apply.proofs.Remembered.{pair_exact, remembers_more, remembers_still}
 use Rattle.pq_apply.proofs.Splits.{AreSides, IsJoined, IsRoot, IsSide, joinable, joined_is, root_tested, side_later, side_other}
@@ -71,13 +72,8 @@ module _ {A B : Type 0} where
   }
 
   -- parts of two trees may come together where the trees may
-  parts_fit : {t v : Tree A} {u w : Tree B} → ((s : Test) → IsTested s v → IsTested s t) → ((s : Test) → IsTested s w → IsTested s u) → FitTogether t u → FitTogether v w
-  parts_fit in_left in_right fit = record {
-    numbers = fit.numbers;
-    few = fit.few;
-    left = λ f v tested. fit.left f v (in_left _ tested);
-    right = λ f v tested. fit.right f v (in_right _ tested);
-  }
+  parts_fit : (t v : Tree A) (u w : Tree B) → ((s : Test) → IsTested s v → IsTested s t) → ((s : Test) → IsTested s w → IsTested s u) → FitTogether t u → FitTogether v w
+  parts_fit t v u w in_left in_right = room_for (λ ns within. (λ f v tested. within.0 f v (in_left (Equal f v) tested), λ f v tested. within.1 f v (in_right (Equal f v) tested)))
 
   -- trees that may come together may do so at their places
   pub fit_there : (ls : List (Tree A)) (x : ℕ) (rs : List (Tree B)) (y : ℕ) (t : Tree A) (u : Tree B) → slice_get ls x ≡ Some t → slice_get rs y ≡ Some u → FitTogether t u → FitTogetherAt ls x rs y
@@ -96,13 +92,13 @@ module _ {A B : Type 0} where
     pub yes_fit : FitTogetherAt ls x rs y → FitTogetherAt ls xy rs yy
     yes_fit fit =
         fit_there ls xy rs yy st.left.yes st.right.yes st.left.yes_is st.right.yes_is
-        (parts_fit st.left.yes_side.tested st.right.yes_side.tested (fit st.first.left st.first.right st.first.left_is st.first.right_is))
+        (parts_fit st.first.left st.left.yes st.first.right st.right.yes st.left.yes_side.tested st.right.yes_side.tested (fit st.first.left st.first.right st.first.left_is st.first.right_is))
 
     -- and so may what the no sides test
     pub no_fit : FitTogetherAt ls x rs y → FitTogetherAt ls xn rs yn
     no_fit fit =
         fit_there ls xn rs yn st.left.no st.right.no st.left.no_is st.right.no_is
-        (parts_fit st.left.no_side.tested st.right.no_side.tested (fit st.first.left st.first.right st.first.left_is st.first.right_is))
+        (parts_fit st.first.left st.left.no st.first.right st.right.no st.left.no_side.tested st.right.no_side.tested (fit st.first.left st.first.right st.first.left_is st.first.right_is))
 
 -- one of two trees tests it
 abbrev pub IsTestedIn : {A B : Type 0} → Tree A → Tree B → Test → Type 0
@@ -199,7 +195,7 @@ module _ {A B C : Type 0} (R : A → B → C → Type 0) where
     paired_joinable a b a_is b_is =
         let whole = fit st.first.left st.first.right st.first.left_is st.first.right_is in
         joinable (IsTestedIn st.first.left st.first.right) whole.numbers s a b whole.few
-        (λ f v tested. elim tested [ inl in_left ↦ whole.left f v in_left | inr in_right ↦ whole.right f v in_right ]) (sides_there a b a_is b_is)
+        (λ f v tested. elim tested [ inl in_left ↦ whole.within.0 f v in_left | inr in_right ↦ whole.within.1 f v in_right ]) (sides_there a b a_is b_is)
 
     -- and the node with them is made of the two trees
     pub paired_node : (new : List (Tree C)) (k : ℕ) → JoinsAt us s i j new k → IsPairedAt R ls x rs y new k

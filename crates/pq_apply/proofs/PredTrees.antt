@@ -15,7 +15,8 @@ use Rattle.pq_fields.specs.Pred.Preds.{none, put}
 use Rattle.pq_store.specs.declared.test.Test.TheVariants.{Equal}
 use Rattle.pq_store.specs.Tree.{Tree, value}
 use Rattle.pq_store.specs.Tree.Tree.{Tip}
-use Rattle.pq_apply.specs.Together.{Within}
+use Rattle.pq_store.specs.Room.{Within}
+use Rattle.pq_store.proofs.RoomLemmas.{room_for}
 use Rattle.pq_apply.specs.Junction.{joined, trees_at, FitTogetherAll, JunctionAt, RecodesAt}
 use Rattle.pq_apply.specs.Predicates.{ArePredsWithin, HoldsAt}
 use Rattle.pq_apply.specs.Operands.{FitAsNodes, HoldAt, JoinedAt}
@@ -26,7 +27,7 @@ first_of_all top below = record { top = top; below = below }
 
 -- of predicates that may come together those after the first may
 pub rest_fit : (top : PredTop) (below rest : Preds) → FitAsNodes (put top below rest) → FitAsNodes rest
-rest_fit top below rest fit = let within = fit.within in record { numbers = fit.numbers; few = fit.few; within = within.2 }
+rest_fit top below rest = room_for (λ ns within. within.2)
 
 -- predicates from an index on are the one there and those from the next on
 pub one_of : (ps : List Pred) (i : ℕ) (p : Pred) → i < length ps → p ≡ get_or ps i p → pred_trees (drop i ps) ≡ put (pred_tree p).top (pred_tree p).below (pred_trees (drop (i + 1) ps))
@@ -77,7 +78,7 @@ hold_tests ns (put top below rest) ts (id ∷ ids) within h =
 
 -- so they may come together
 pub hold_fit : (ps : Preds) (ts : List (Tree Bool)) (ids : List ℕ) → FitAsNodes ps → HoldAt ps ts ids → FitTogetherAll (trees_at ts ids)
-hold_fit ps ts ids fit h = record { numbers = fit.numbers; few = fit.few; within = hold_tests fit.numbers ps ts ids fit.within h }
+hold_fit ps ts ids fit h = room_for (λ ns within. hold_tests ns ps ts ids within h) fit
 
 -- and their junction is that of the operands
 pub hold_joined : (every : Bool) (ps : Preds) (ts us : List (Tree Bool)) (ids : List ℕ) (id : ℕ) → HoldAt ps ts ids → JunctionAt every (trees_at ts ids) us id → JoinedAt every ps us id

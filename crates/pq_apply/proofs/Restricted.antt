@@ -8,7 +8,7 @@ use Rattle.pq_fields.specs.declared.field.Field.{Field}
 use Rattle.pq_fields.specs.Packet.{Numbers, with_number, rank}
 use Rattle.pq_store.specs.declared.test.Test.{Test}
 use Rattle.pq_store.specs.declared.test.Test.TheVariants.{Equal, Bit}
-use Rattle.pq_store.specs.Test.{field_of, passes}
+use Rattle.pq_store.specs.Test.{field_of, passes, Precedes}
 use Rattle.pq_store.specs.Tree.{Tree, value, IsTested}
 use Rattle.pq_store.specs.Tree.Tree.{Tip, Fork}
 use Rattle.pq_store.specs.Diagram.{IsBefore, Ascends, Skips, SkipsBelow, most, IsDiagram}
@@ -16,11 +16,16 @@ use Rattle.pq_store.specs.Store.{Keeps, AreDiagrams, IsJoinable, IsJoin, JoinsAt
 use Rattle.pq_store.proofs.Order.{before_tested}
 use Rattle.pq_store.proofs.Joins.{value_there}
 use Rattle.pq_apply.specs.Restriction.{IsRestriction, RestrictsAt}
-use Rattle.pq_apply.specs.Restricting.{decides, StepsAt, IsRestrictedAt}
+use Rattle.pq_apply.specs.Restricting.{decides, IsLater, StepsAt, IsRestrictedAt}
 use Rattle.pq_apply.specs.declared.restriction.Step.TheVariants.{Keep, Side, Both}
 use Rattle.pq_apply.specs.Memo.{Remembers}
 use Rattle.pq_apply.proofs.Remembered.{remembers_still, remembers_more}
 use Rattle.pq_apply.proofs.SetNumbers.{passes_set, passes_kept, later_same}
+
+-- a test of the field doesn't stand behind one of a later field
+not_before : (f : Field) (r s : Test) → rank f < rank (field_of r) → Precedes r s → field_of s ≡ f → ⊥
+not_before f r s later (inl less) is = let d : rank (field_of s) ≡ rank f = ap rank is in omega arith
+not_before f r s later (inr less) is = let d : rank (field_of s) ≡ rank f = ap rank is in omega arith
 
 module _ {L : Type 0} where
   -- what stands before a diagram stands before a tree of its tests
@@ -51,6 +56,16 @@ module _ {L : Type 0} where
   still_skips (Equal f w) t u tests skips = skips_all f u (λ g v tested. none_tested f g v t skips (tests (Equal g v) tested))
   still_skips (Bit f i) t u tests skips = tt
 
+  -- a diagram of later fields doesn't test the field
+  later_untested : (f : Field) (s : Test) (t : Tree L) → IsLater f t → Ascends t → IsTested s t → field_of s ≡ f → ⊥
+  later_untested f s (Tip l) later ascends tested is = tested
+  later_untested f s (Fork r y n) later ascends (inl same) is =
+      let e : rank (field_of s) ≡ rank (field_of r) = ap (λ q. rank (field_of q)) same in
+      let d : rank (field_of s) ≡ rank f = ap rank is in
+      omega arith
+  later_untested f s (Fork r y n) later ascends (inr (inl in_yes)) is = not_before f r s later (before_tested r s y ascends.0 ascends.2 in_yes) is
+  later_untested f s (Fork r y n) later ascends (inr (inr in_no)) is = not_before f r s later (before_tested r s n ascends.1 ascends.3 in_no) is
+
   -- a diagram of later fields is its own restriction
   pub keep_restricted : (f : Field) (v : ℕ) (ts : List (Tree L)) (k : ℕ) → AreDiagrams ts → StepsAt f v ts k Keep → IsRestrictedAt f v ts k k
   keep_restricted f v ts k diagrams step = record {
@@ -58,7 +73,11 @@ module _ {L : Type 0} where
     restricted = step.0;
     tree_is = step.1;
     restricted_is = step.1;
-    restricts = record { gives = λ x. sym (later_same f v x step.0 step.2 (diagrams k step.0 step.1).ascends); tests = λ s tested. tested };
+    restricts = let ascends = (diagrams k step.0 step.1).ascends in record {
+      gives = λ x. sym (later_same f v x step.0 step.2 ascends);
+      tests = λ s tested. tested;
+      untested = λ s tested. later_untested f s step.0 step.2 ascends tested;
+    };
     few = λ g. omega arith;
   }
 
@@ -102,6 +121,7 @@ module _ {L : Type 0} where
         restricts = record {
           gives = side_says f v s y n done.tree done.restricted step.4 is restricts.gives;
           tests = λ r tested. part.0 r (restricts.tests r tested);
+          untested = restricts.untested;
         };
         few = λ g. let one = done.few g in let two = part.1 g in omega arith;
       }
@@ -185,7 +205,7 @@ module _ {L : Type 0} where
   -- what is joined of them is the restriction of the whole
   pub sides_join_restricted : (f : Field) (v : ℕ) (s : Test) (y n a b r : Tree L) → AreSidesRestricted f v s y n a b → IsJoin s a b r
       → ((x : Numbers) → value r x ≡ (if passes s x then value a x else value b x)) → IsRestriction f v (Fork s y n) r × ((g : Field) → most g r ≤ most g (Fork s y n))
-  sides_join_restricted f v s y n a b r sides join says = (record { gives = gives; tests = tests join }, few join)
+  sides_join_restricted f v s y n a b r sides join says = (record { gives = gives; tests = tests join; untested = untested join }, few join)
     where
       gives : (x : Numbers) → value r x ≡ value (Fork s y n) (with_number f v x)
       gives x =
@@ -200,6 +220,17 @@ module _ {L : Type 0} where
       tests (inr fork) q tested = let left = sides.left in let right = sides.right in elim (subst (IsTested q) fork.1 tested) [
         | inl here ↦ inl here
         | inr below ↦ elim below [ inl in_yes ↦ inr (inl (left.tests q in_yes)) | inr in_no ↦ inr (inr (right.tests q in_no)) ]
+      ]
+
+      untested : IsJoin s a b r → (q : Test) → IsTested q r → field_of q ≡ f → ⊥
+      untested (inl same) q tested is = let right = sides.right in right.untested q (subst (IsTested q) same.1 tested) is
+      untested (inr fork) q tested is = let left = sides.left in let right = sides.right in elim (subst (IsTested q) fork.1 tested) [
+        | inl here ↦
+            let earlier = sides.earlier in
+            let e : rank (field_of q) ≡ rank (field_of s) = ap (λ r. rank (field_of r)) here in
+            let d : rank (field_of q) ≡ rank f = ap rank is in
+            omega arith
+        | inr below ↦ elim below [ inl in_yes ↦ left.untested q in_yes is | inr in_no ↦ right.untested q in_no is ]
       ]
 
       few : IsJoin s a b r → (g : Field) → most g r ≤ most g (Fork s y n)

@@ -15,7 +15,7 @@ use Rattle.pq_store.proofs.Order.{before_tested}
 use Rattle.pq_store.proofs.Past.{past_skips}
 use Rattle.pq_store.proofs.Sides.{no_diagram, past_before, past_diagram, past_size, size, yes_diagram}
 use Rattle.pq_apply.specs.Split.{IsSplit, root_of}
-use Rattle.pq_apply.specs.Together.{AreFew, IsAmong, Within}
+use Rattle.pq_store.specs.Room.{AreFew, IsAmong, Within}
 use Rattle.pq_apply.proofs.Few.{few_fit}
 
 -- no test precedes itself
@@ -196,7 +196,7 @@ module _ {L : Type 0} where
         before_yes = before_y;
         before_no = before_n;
         once = others_skip s y (λ r tested. (are.yes_tested r tested).2);
-        fits = few_fit ns (Fork s y n) few within (before_y, before_n, are.yes_diagram.ascends, are.no_diagram.ascends);
+        fits = few_fit ns (Fork s y n) few within (are.lawful, are.yes_diagram.lawful, are.no_diagram.lawful) (before_y, before_n, are.yes_diagram.ascends, are.no_diagram.ascends);
       }
     where
       within : Within ns (Fork s y n)

@@ -3,10 +3,9 @@ use Rattle.std.specs.Prelude.{ℕ, zero, suc, ◌-◌, ◌/◌, ◌%◌, ◌^◌
 use Rattle.pq_fields.specs.declared.field.Field.{Field}
 use Rattle.pq_fields.specs.declared.field.Field.TheVariants.{Switch, Port, EthType, IpProto, EthSrc, EthDst, Ipv4Src, Ipv4Dst, TcpSrc, TcpDst, UdpSrc, UdpDst, Ipv6Src, Ipv6Dst}
 use Rattle.pq_fields.specs.Packet.{width_of, rank}
-use Rattle.pq_fields.specs.Pred.{is_prefixed}
 use Rattle.pq_store.specs.declared.test.Test.{Test}
 use Rattle.pq_store.specs.declared.test.Test.TheVariants.{Equal, Bit}
-use Rattle.pq_store.specs.Test.{Precedes, field_of}
+use Rattle.pq_store.specs.Test.{Precedes, field_of, is_address}
 use Rattle.pq_store.specs.Tree.{Tree}
 use Rattle.pq_store.specs.Tree.Tree.{Tip, Fork}
 use Rattle.pq_store.specs.Diagram.{IsBefore, Skips, most}
@@ -27,7 +26,7 @@ bits_tree f n place (suc more) = bit_fork (bit_at f n place) f place (bits_tree 
 
 -- the field's number is this one
 unfoldable pub number_tree : Field → ℕ → Tree Bool
-number_tree f n = if is_prefixed f then bits_tree f n 0 (width_of f) else Fork (Equal f n) (Tip true) (Tip false)
+number_tree f n = if is_address f then bits_tree f n 0 (width_of f) else Fork (Equal f n) (Tip true) (Tip false)
 
 -- the IP protocol is this one, and the rest holds
 abbrev pub protocol_tree : ℕ → Tree Bool → Tree Bool

@@ -1,8 +1,9 @@
 -- The predicates of examples, and their diagrams.
-use Rattle.std.specs.Prelude.{ℕ, ◌≡◌, Bool, List, [], ◌∷◌, Some, slice_get}
+use Rattle.std.specs.Prelude.{ℕ, Bool, List, [], ◌∷◌}
 use Rattle.pq_fields.specs.Pred.{PredTree, IsLawfulPred}
 use Rattle.pq_store.specs.Tree.{Tree}
-use Rattle.pq_apply.specs.Together.{Within}
+use Rattle.pq_store.specs.Room.{Within}
+use Rattle.pq_store.specs.Store.{HasAt}
 use Rattle.pq_apply.specs.Predicates.{IsPredWithin}
 
 -- their numbers: those in prerequisites, ports, and a transport port
@@ -16,4 +17,4 @@ pub record IsExample (p : PredTree) : Type 0 where
 
 -- a place has a tree with only these
 abbrev pub IsExampleAt : List (Tree Bool) → ℕ → Type 0
-IsExampleAt ts id = (t : Tree Bool) × (slice_get ts id ≡ Some t) × Within (λ f. example_numbers) t
+IsExampleAt ts id = HasAt (Within (λ f. example_numbers)) ts id

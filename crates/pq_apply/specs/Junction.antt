@@ -6,7 +6,8 @@ use Rattle.pq_fields.specs.Packet.{Numbers}
 use Rattle.pq_store.specs.declared.test.Test.{Test}
 use Rattle.pq_store.specs.Tree.{Tree, value, IsTested}
 use Rattle.pq_store.specs.Tree.Tree.{Tip}
-use Rattle.pq_apply.specs.Together.{AreFew, Within}
+use Rattle.pq_store.specs.Room.{HasRoom, Within}
+use Rattle.pq_store.specs.Store.{HasAt}
 
 -- whether all are true, or one is
 abbrev pub joined : Bool → List Bool → Bool
@@ -17,11 +18,9 @@ joined false bs = list_any (λ b. b) bs
 abbrev pub trees_at : List (Tree Bool) → List ℕ → List (Tree Bool)
 trees_at ts ids = map (λ id. slice_index_or ts id (Tip false)) ids
 
--- the numbers that the trees test together are at most half of each field's less one
-pub record FitTogetherAll (us : List (Tree Bool)) : Type 0 where
-  pub numbers : Field → List ℕ
-  pub few : AreFew numbers
-  pub within : All (Within numbers) us
+-- the trees may come together in one: there is room for the numbers that they test
+abbrev pub FitTogetherAll : List (Tree Bool) → Type 0
+FitTogetherAll us = HasRoom (λ ns. All (Within ns) us)
 
 -- the tree holds where all of these do, or one does, and tests only what they test
 pub record IsJunction (every : Bool) (us : List (Tree Bool)) (t : Tree Bool) : Type 0 where
@@ -30,7 +29,7 @@ pub record IsJunction (every : Bool) (us : List (Tree Bool)) (t : Tree Bool) : T
 
 -- a place has such a tree
 abbrev pub JunctionAt : Bool → List (Tree Bool) → List (Tree Bool) → ℕ → Type 0
-JunctionAt every us ts id = (t : Tree Bool) × (slice_get ts id ≡ Some t) × IsJunction every us t
+JunctionAt every us ts id = HasAt (IsJunction every us) ts id
 
 -- the tree gives one leaf where another holds and one elsewhere, and tests only what that tests
 pub record IsRecoding (there elsewhere : Bool) (t recoded : Tree Bool) : Type 0 where
@@ -40,4 +39,4 @@ pub record IsRecoding (there elsewhere : Bool) (t recoded : Tree Bool) : Type 0 
 -- a new place has the recoded tree of an old one
 abbrev pub RecodesAt : Bool → Bool → List (Tree Bool) → ℕ → List (Tree Bool) → ℕ → Type 0
 RecodesAt there elsewhere from node into id =
-    (t : Tree Bool) → slice_get from node ≡ Some t → (recoded : Tree Bool) × (slice_get into id ≡ Some recoded) × IsRecoding there elsewhere t recoded
+    (t : Tree Bool) → slice_get from node ≡ Some t → HasAt (IsRecoding there elsewhere t) into id

@@ -11,4 +11,3 @@ pub mod Product
 pub mod Restricting
 pub mod Restriction
 pub mod Split
-pub mod Together

@@ -1,19 +1,18 @@
 -- The diagrams of predicates one after another.
-use Rattle.std.specs.Prelude.{ℕ, ◌≡◌, Bool, List, [], ◌∷◌, Some, slice_get}
+use Rattle.std.specs.Prelude.{ℕ, ◌≡◌, Bool, List, [], ◌∷◌}
 use Rattle.pq_fields.specs.declared.field.Field.{Field}
 use Rattle.pq_fields.specs.Packet.{Numbers, Fit}
 use Rattle.pq_fields.specs.Pred.{Preds, truths}
 use Rattle.pq_fields.specs.Pred.Preds.{none, put}
 use Rattle.pq_store.specs.Tree.{Tree, value}
-use Rattle.pq_apply.specs.Together.{AreFew, Within}
+use Rattle.pq_store.specs.Room.{HasRoom, Within}
+use Rattle.pq_store.specs.Store.{HasAt}
 use Rattle.pq_apply.specs.Junction.{joined}
 use Rattle.pq_apply.specs.Predicates.{ArePredsWithin, HoldsAt}
 
--- the numbers of the predicates, with those in prerequisites, are at most half of each field's less one
-pub record FitAsNodes (ps : Preds) : Type 0 where
-  pub numbers : Field → List ℕ
-  pub few : AreFew numbers
-  pub within : ArePredsWithin numbers ps
+-- the predicates may come together in one diagram: there is room for their numbers and those in prerequisites
+abbrev pub FitAsNodes : Preds → Type 0
+FitAsNodes ps = HasRoom (λ ns. ArePredsWithin ns ps)
 
 -- the trees at these places are those of the predicates, one by one
 abbrev pub HoldAt : Preds → List (Tree Bool) → List ℕ → Type 0
@@ -29,4 +28,4 @@ pub record IsPredsTree (every : Bool) (ps : Preds) (t : Tree Bool) : Type 0 wher
 
 -- a place has such a tree
 abbrev pub JoinedAt : Bool → Preds → List (Tree Bool) → ℕ → Type 0
-JoinedAt every ps ts id = (t : Tree Bool) × (slice_get ts id ≡ Some t) × IsPredsTree every ps t
+JoinedAt every ps ts id = HasAt (IsPredsTree every ps) ts id

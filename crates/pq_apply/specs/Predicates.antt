@@ -1,5 +1,5 @@
 -- The diagram of a predicate.
-use Rattle.std.specs.Prelude.{ℕ, ◌≡◌, Bool, List, [], ◌∷◌, Some, slice_get}
+use Rattle.std.specs.Prelude.{ℕ, ◌≡◌, Bool, List, [], ◌∷◌}
 use Rattle.pq_fields.specs.declared.field.Field.{Field}
 use Rattle.pq_fields.specs.declared.field.Field.TheVariants.{Switch, Port, EthType, IpProto, EthSrc, EthDst, Ipv4Src, Ipv4Dst, TcpSrc, TcpDst, UdpSrc, UdpDst, Ipv6Src, Ipv6Dst}
 use Rattle.pq_fields.specs.Packet.{Numbers, Fit}
@@ -7,7 +7,8 @@ use Rattle.pq_fields.specs.Pred.{PredTop, Preds, PredTree, preds, holds}
 use Rattle.pq_fields.specs.Pred.PredTop.{Always, Never, Equals, Leads, LeadsWide, Every, Some as AnyOf, Negated}
 use Rattle.pq_fields.specs.Pred.Preds.{none, put}
 use Rattle.pq_store.specs.Tree.{Tree, value}
-use Rattle.pq_apply.specs.Together.{AreFew, IsAmong, Within}
+use Rattle.pq_store.specs.Room.{HasRoom, IsAmong, IsCounted, Within}
+use Rattle.pq_store.specs.Store.{HasAt}
 
 -- the numbers in a field's prerequisites (OpenFlow 1.3.5, section 7.2.3.6): EtherTypes, then IP protocols
 abbrev pub types_before : Field → List ℕ
@@ -51,7 +52,7 @@ pub record NeedsAmong (ns : Field → List ℕ) (f : Field) : Type 0 where
 abbrev pub IsTopWithin : (Field → List ℕ) → PredTop → Type 0
 IsTopWithin ns Always = Unit {0}
 IsTopWithin ns Never = Unit {0}
-IsTopWithin ns (Equals f v) = IsAmong v (ns f) × NeedsAmong ns f
+IsTopWithin ns (Equals f v) = IsCounted ns f v × NeedsAmong ns f
 IsTopWithin ns (Leads f v len) = NeedsAmong ns f
 IsTopWithin ns (LeadsWide f v len) = NeedsAmong ns f
 IsTopWithin ns Every = Unit {0}
@@ -66,11 +67,9 @@ ArePredsWithin ns (put top below rest) = IsTopWithin ns top × ArePredsWithin ns
 abbrev pub IsPredWithin : (Field → List ℕ) → PredTree → Type 0
 IsPredWithin ns p = ArePredsWithin ns (preds (p ∷ []))
 
--- the numbers of the predicate, with those in prerequisites, are at most half of each field's less one
-pub record FitsAsNode (p : PredTree) : Type 0 where
-  pub numbers : Field → List ℕ
-  pub few : AreFew numbers
-  pub within : IsPredWithin numbers p
+-- the predicate may be one diagram: there is room for its numbers and those in prerequisites
+abbrev pub FitsAsNode : PredTree → Type 0
+FitsAsNode p = HasRoom (λ ns. IsPredWithin ns p)
 
 -- the tree says of each packet whether the predicate holds, and tests only its numbers and those in prerequisites
 pub record IsPredTree (p : PredTree) (t : Tree Bool) : Type 0 where
@@ -78,4 +77,4 @@ pub record IsPredTree (p : PredTree) (t : Tree Bool) : Type 0 where
   pub tests : (ns : Field → List ℕ) → IsPredWithin ns p → Within ns t
 
 abbrev pub HoldsAt : PredTree → List (Tree Bool) → ℕ → Type 0
-HoldsAt p ts id = (t : Tree Bool) × (slice_get ts id ≡ Some t) × IsPredTree p t
+HoldsAt p ts id = HasAt (IsPredTree p) ts id

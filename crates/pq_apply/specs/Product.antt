@@ -4,13 +4,17 @@ use Rattle.std.specs.Borrow.{Bor}
 use Rattle.pq_fields.specs.Packet.{Numbers}
 use Rattle.pq_store.specs.declared.test.Test.{Test}
 use Rattle.pq_store.specs.Tree.{Tree, value, IsTested}
-use Rattle.pq_apply.specs.Together.{FitTogether}
+use Rattle.pq_store.specs.Room.{HasRoom, Within}
 
 -- a call with references to these two may answer so
 abbrev pub Gives : {A B R : Type 0} → (Bor A → Bor B → R → Type 0) → A → B → R → Type 0
 Gives {A} {B} post a b r = (s : Bor A) × (t : Bor B) × (s.now ≡ a) × (t.now ≡ b) × post s t r
 
--- the trees at two places may come together in one
+-- two trees may come together in one: there is room for the numbers that they test
+abbrev pub FitTogether : {A B : Type 0} → Tree A → Tree B → Type 0
+FitTogether t u = HasRoom (λ ns. Within ns t × Within ns u)
+
+-- so may those at two places
 abbrev pub FitTogetherAt : {A B : Type 0} → List (Tree A) → ℕ → List (Tree B) → ℕ → Type 0
 FitTogetherAt {A} {B} ls x rs y = (t : Tree A) (u : Tree B) → slice_get ls x ≡ Some t → slice_get rs y ≡ Some u → FitTogether t u
 

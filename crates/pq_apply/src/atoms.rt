@@ -1,6 +1,6 @@
 //! The diagrams of single tests of a field.
-ghost use Rattle.std.specs.Prelude.{◌≡◌, ◌<◌, ◌≤◌, ◌^◌, true, false, Some, slice_get, IfOk};
-ghost use Rattle.pq_fields.specs.Packet.{is_wide, width_of};
+ghost use Rattle.std.specs.Prelude.{◌≡◌, ◌<◌, ◌≤◌, ◌^◌, true, Some, slice_get, IfOk};
+ghost use Rattle.pq_fields.specs.Packet.{width_of};
 ghost use Rattle.pq_fields.specs.Pred.{leaf};
 ghost use Rattle.pq_fields.specs.Pred.PredTop.{Equals, Leads, LeadsWide};
 ghost use Rattle.pq_store.specs.Test.{is_address};
@@ -20,7 +20,6 @@ pub(crate) fn equal_number(
     field: Field,
     value: u64,
 ) -> Result<NodeId, AllocError>
-    requires narrow { is_wide field ≡ false }
     requires fits { value < 2 ^ width_of field }
     ensures holds { IfOk result (λ id. HoldsAt (leaf (Equals field value)) store.new id) }
     ensures keeps { Keeps store.old store.new }
@@ -51,13 +50,13 @@ pub(crate) fn equal_prefix(
 
 /// The diagram of the packets with this number in the field, whether or not they have it.
 fn of_number(store: &mut Store<bool>, field: Field, value: u64) -> Result<NodeId, AllocError>
-    requires narrow { is_wide field ≡ false }
     requires fits { value < 2 ^ width_of field }
     ensures tree { IfOk result (λ id. slice_get store.new id ≡ Some (number_tree field value)) }
     ensures keeps { Keeps store.old store.new }
 {
     match field {
         Field::Ipv4Src | Field::Ipv4Dst => leading_bits(store, field, u128::from(value), 32),
+        Field::Ipv6Src | Field::Ipv6Dst => leading_bits(store, field, u128::from(value), 128),
         _ => {
             let yes = store.leaf(true)?;
             let no = store.leaf(false)?;

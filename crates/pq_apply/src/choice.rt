@@ -12,7 +12,7 @@ use std::alloc::AllocError;
 
 /// The diagram that gives what `yes` gives where the condition holds, and what `no` gives elsewhere.
 ///
-/// The numbers that the three test of a field are at most half of the field's less one. The result tests only what they test.
+/// There is room for the numbers that the three test. The result tests only what they test.
 pub fn ite<L: Leaf>(
     tests: &Store<bool>,
     cond: NodeId,

@@ -13,7 +13,7 @@ use std::alloc::AllocError;
 
 /// The diagram that gives on each packet what `join` makes of the leaves of two others of the same store.
 ///
-/// The numbers that both test of a field are at most half of the field's less one. The result tests only what they test.
+/// There is room for the numbers that both test. The result tests only what they test.
 pub fn combine<L: Leaf, F: Fn(&L, &L) -> Result<L, AllocError>>(
     store: &mut Store<L>,
     x: NodeId,

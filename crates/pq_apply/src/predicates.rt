@@ -13,7 +13,7 @@ use std::alloc::AllocError;
 
 /// The diagram that says of each packet whether the predicate holds.
 ///
-/// Its numbers of a field, with those in prerequisites, are at most half of the field's less one. The diagram tests no others.
+/// There is room for its numbers and those in prerequisites. The diagram tests no others.
 pub fn pred_node(store: &mut Store<bool>, pred: &Pred) -> Result<NodeId, AllocError>
     requires lawful { IsLawfulPred (pred_tree pred.now) }
     requires fits { FitsAsNode (pred_tree pred.now) }

@@ -12,7 +12,7 @@ use std::alloc::AllocError;
 
 /// The diagram that gives on each packet what `join` makes of the leaves of two others.
 ///
-/// The numbers that both test of a field are at most half of the field's less one. The result tests only what they test.
+/// There is room for the numbers that both test. The result tests only what they test.
 pub fn product<A: Leaf, B: Leaf, C: Leaf, F: Fn(&A, &B) -> Result<C, AllocError>>(
     left: &Store<A>,
     x: NodeId,

@@ -1,7 +1,7 @@
 //! Diagrams of a few predicates, worked out by hand.
-ghost use Rattle.std.specs.Prelude.{◌≡◌, ◌<◌, ◌≤◌, ◌^◌, ◌==◌, ◌&&◌, false, true, Ok, IfOk, length};
+ghost use Rattle.std.specs.Prelude.{◌≡◌, ◌<◌, ◌≤◌, ◌^◌, ◌==◌, ◌&&◌, true, Ok, IfOk, length};
 ghost use Rattle.std.specs.List.{list_any};
-ghost use Rattle.pq_fields.specs.Packet.{is_wide, width_of};
+ghost use Rattle.pq_fields.specs.Packet.{width_of};
 ghost use Rattle.pq_fields.specs.Pred.{pred_tree};
 ghost use Rattle.pq_store.specs.Store.{Keeps};
 ghost use Rattle.pq_apply.specs.Examples.{IsExample, IsExampleAt, example_numbers};
@@ -14,7 +14,6 @@ use std::test::Fail;
 
 /// The field's number is this one.
 fn equal(field: Field, value: u64) -> Pred
-    requires narrow { is_wide field ≡ false }
     requires fits { value < 2 ^ width_of field }
     requires known { list_any (λ n. value == n) example_numbers ≡ true }
     ensures { IsExample (pred_tree result) }

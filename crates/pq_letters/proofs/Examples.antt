@@ -8,7 +8,7 @@ use Rattle.std.proofs.lemmas.Option.{get_or_from_slice_get, slice_get_within}
 use Rattle.pq_store.specs.Tree.{Tree}
 use Rattle.pq_store.specs.Tree.Tree.{Tip}
 use Rattle.pq_store.specs.Store.{Keeps}
-use Rattle.pq_apply.specs.Together.{Within}
+use Rattle.pq_store.specs.Room.{Within}
 use Rattle.pq_apply.specs.Junction.{FitTogetherAll, trees_at}
 use Rattle.pq_apply.specs.Examples.{IsExampleAt, example_numbers}
 use Rattle.pq_apply.proofs.Examples.{examples_few}

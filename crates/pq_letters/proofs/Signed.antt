@@ -10,9 +10,10 @@ use Rattle.pq_store.specs.Tree.{Tree, value}
 use Rattle.pq_store.specs.Tree.Tree.{Tip}
 use Rattle.pq_store.proofs.Elements.{at_place}
 use Rattle.pq_apply.specs.Choice.{ChoosesAt}
+use Rattle.pq_store.proofs.RoomLemmas.{room_for}
 use Rattle.pq_apply.specs.Junction.{FitTogetherAll, trees_at}
 use Rattle.pq_apply.specs.Product.{FitTogetherAt, IsProduct}
-use Rattle.pq_apply.specs.Together.{Within}
+use Rattle.pq_store.specs.Room.{Within}
 use Rattle.pq_apply.proofs.Pairs.{fit_there}
 use Rattle.pq_letters.specs.Letters.{SignedAt, truths}
 
@@ -67,13 +68,8 @@ both_say R ls rs new x y id appends made us vs (t, t_is, left) (u, u_is, right) 
 -- the trees that say what others say may come together where the others may
 pub both_fit : (us vs : List (Tree Bool)) (ls rs : List (Tree (List Bool))) (x y : ℕ) → FitTogetherAll (us ++ vs) → SignedAt us ls x → SignedAt vs rs y → FitTogetherAt ls x rs y
 both_fit us vs ls rs x y fit (t, t_is, left) (u, u_is, right) =
-    let ns = fit.numbers in
-    fit_there ls x rs y t u t_is u_is record {
-      numbers = ns;
-      few = fit.few;
-      left = left.tests ns (all_front (Within ns) us vs fit.within);
-      right = right.tests ns (all_back (Within ns) us vs fit.within);
-    }
+    fit_there ls x rs y t u t_is u_is
+    (room_for (λ ns within. (left.tests ns (all_front (Within ns) us vs within), right.tests ns (all_back (Within ns) us vs within))) fit)
 
 -- the trees at the first places and then those at the places behind them are the trees at all places
 pub both_parts : (ts : List (Tree Bool)) (ids front back : List ℕ) (m : ℕ) → front ≡ take m ids → back ≡ drop m ids → trees_at ts front ++ trees_at ts back ≡ trees_at ts ids

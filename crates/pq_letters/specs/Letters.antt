@@ -10,9 +10,9 @@ use Rattle.pq_fields.specs.contracts.packet.Packet as packet
 use Rattle.pq_store.specs.contracts.test.Test as tests
 use Rattle.pq_store.specs.Code.{coded_tree}
 use Rattle.pq_store.specs.Least.{precedes}
-use Rattle.pq_store.specs.Store.{value_at}
+use Rattle.pq_store.specs.Store.{HasAt, value_at}
 use Rattle.pq_store.specs.Tree.{Tree, value}
-use Rattle.pq_apply.specs.Together.{Within}
+use Rattle.pq_store.specs.Room.{Within}
 
 -- letters as plain data: the trees of their store and the place of their diagram, and of each letter which predicates hold and the least packet
 pub record LettersValue : Type 0 where
@@ -62,4 +62,4 @@ pub record IsSigned (us : List (Tree Bool)) (t : Tree (List Bool)) : Type 0 wher
   pub tests : (ns : Field → List ℕ) → All (Within ns) us → Within ns t
 
 abbrev pub SignedAt : List (Tree Bool) → List (Tree (List Bool)) → ℕ → Type 0
-SignedAt us ts id = (t : Tree (List Bool)) × (slice_get ts id ≡ Some t) × IsSigned us t
+SignedAt us ts id = HasAt (IsSigned us) ts id

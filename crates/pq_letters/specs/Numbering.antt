@@ -1,23 +1,21 @@
 -- The numbers of letters.
 use Rattle.std.specs.Prelude.{ℕ, zero, suc, ◌≡◌, Bool, List, [], ◌∷◌, Some, map, slice_get, if◌then◌else◌, All}
-use Rattle.pq_fields.specs.declared.field.Field.{Field}
 use Rattle.pq_fields.specs.Packet.{Numbers}
 use Rattle.pq_store.specs.declared.least.Least.{Least}
 use Rattle.pq_store.specs.declared.test.Test.{Test}
+use Rattle.pq_store.specs.Store.{HasAt}
 use Rattle.pq_store.specs.Tree.{Tree, value, IsTested}
 use Rattle.pq_store.specs.Tree.Tree.{Tip}
-use Rattle.pq_apply.specs.Together.{AreFew, Within}
+use Rattle.pq_store.specs.Room.{HasRoom, Within}
 use Rattle.pq_letters.specs.Order.{truths_eq}
 
 -- what was found are leaves of the store
 abbrev pub AreLeaves : List (Tree (List Bool)) → List Least → Type 0
 AreLeaves ts found = All (λ e. (s : List Bool) × (slice_get ts e.leaf ≡ Some (Tip s))) found
 
--- the numbers that a tree tests are at most half of each field's less one
-pub record FitsAlone (t : Tree (List Bool)) : Type 0 where
-  pub numbers : Field → List ℕ
-  pub few : AreFew numbers
-  pub within : Within numbers t
+-- there is room for the numbers that the tree tests
+abbrev pub FitsAlone : Tree (List Bool) → Type 0
+FitsAlone t = HasRoom (λ ns. Within ns t)
 
 -- the place of a signature in a list, and the list's length where it isn't there
 abbrev pub place_in : List (List Bool) → List Bool → ℕ
@@ -42,4 +40,4 @@ pub record IsNumbered (signatures : List (List Bool)) (t : Tree (List Bool)) (r 
 
 abbrev pub NumbersAt : List (List Bool) → List (Tree (List Bool)) → ℕ → List (Tree ℕ) → ℕ → Type 0
 NumbersAt signatures from k into id =
-    (t : Tree (List Bool)) → slice_get from k ≡ Some t → (r : Tree ℕ) × (slice_get into id ≡ Some r) × IsNumbered signatures t r
+    (t : Tree (List Bool)) → slice_get from k ≡ Some t → HasAt (IsNumbered signatures t) into id

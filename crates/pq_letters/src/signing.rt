@@ -15,8 +15,7 @@ use std::alloc::{AllocError, Global};
 
 /// The letters of these predicates: two packets have the same letter exactly where the same predicates hold of them.
 ///
-/// The numbers that the diagrams of the predicates test of a field are at most half of the field's less one. The diagram of
-/// the letters tests no others.
+/// There is room for the numbers that the diagrams of the predicates test. The diagram of the letters tests no others.
 pub fn partition(store: &mut Store<bool>, preds: &[NodeId]) -> Result<Letters, AllocError>
     requires within { All (λ id. id < length store.old) preds.now }
     requires fits { FitTogetherAll (trees_at store.old preds.now) }

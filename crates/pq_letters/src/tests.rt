@@ -75,20 +75,3 @@ fn each_packet_has_a_letter(rt: HostRuntime) -> Result<(), Fail> {
     assert_eq!(rt; letters.letter_of(&packet_at(6)), 2);
     Ok(())
 }
-
-#[test]
-fn no_predicates_have_one_letter(rt: HostRuntime) -> Result<(), Fail> {
-    let mut store = Store::new(rt.alloc());
-    let letters = letters_of(&mut store, &[])?;
-    assert_eq!(rt; letters.count(), 1);
-    assert!(rt; has_letter(&letters, 0, &[], Packet::zero()));
-    Ok(())
-}
-
-#[test]
-fn equal_predicates_have_two_letters(rt: HostRuntime) -> Result<(), Fail> {
-    let letters = letters_of_ports(rt.alloc(), 1, 1)?;
-    assert_eq!(rt; letters.count(), 2);
-    assert!(rt; has_letter(&letters, 1, &[true, true], packet_at(1)));
-    Ok(())
-}

@@ -22,7 +22,8 @@ use Rattle.pq_store.specs.Search.{Agrees, AreFound, IsSeen, IsClear, Begins, Lea
 use Rattle.pq_store.proofs.LeastFound.{leaf_searched}
 use Rattle.pq_store.proofs.LeastWeight.{size, visit_weight, visit_from_weight, size_rest, size_some, from_most}
 use Rattle.pq_store.proofs.LeastSteps.{nothing_left, bit_searched, gap_searched, next_searched, last_searched, number_searched}
-use Rattle.pq_store.proofs.PrefixNumbers.{narrow_width, number_fits, clear_with}
+use Rattle.pq_fields.proofs.Fitting.{number_fits}
+use Rattle.pq_store.proofs.PrefixNumbers.{narrow_width, clear_with}
 use Rattle.pq_store.proofs.PrefixBits.{bit_set, bit_fits, clear_first, set_first}
 use Rattle.pq_store.proofs.PrefixSpans.{Inside, first_inside, side_of_bit, yes_of_number, no_of_number, rest_inside, asks_less, rest_same}
 

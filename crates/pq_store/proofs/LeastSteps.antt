@@ -16,7 +16,8 @@ use Rattle.pq_store.specs.Diagram.{IsDiagram}
 use Rattle.pq_store.specs.Least.{precedes}
 use Rattle.pq_store.specs.Search.{Agrees, IsClear, Shares, Begins, AsksFrom, Reaching, IsFound, AreFound, IsSound, IsReady, Leads, LeadsFrom, IsSearched, Visits, IsGap, VisitsFrom, begins, raised}
 use Rattle.pq_store.proofs.LeastFound.{found_more, found_same, fork_found, sound_marked}
-use Rattle.pq_store.proofs.PrefixNumbers.{with_own, number_with, number_fits, agrees_back, precedes_with, precedes_between, precedes_more}
+use Rattle.pq_fields.proofs.Fitting.{number_fits}
+use Rattle.pq_store.proofs.PrefixNumbers.{with_own, number_with, agrees_back, precedes_with, precedes_between, precedes_more}
 use Rattle.pq_store.proofs.PrefixBits.{bit_set, clear_shares, set_shares, before_set, earlier_set, shared_set}
 use Rattle.pq_store.proofs.PrefixSpans.{Inside, narrows, side_of_bit, yes_of_number, no_of_number, rest_inside, value_rest, rest_same}
 

@@ -5,6 +5,8 @@ pub mod Canonical
 pub mod Elements
 pub mod Exact
 pub mod Fresh
+pub mod Guarded
+pub mod Ignored
 pub mod Joins
 pub mod LeastCalls
 pub mod LeastFound
@@ -12,6 +14,7 @@ pub mod LeastSteps
 pub mod LeastWeight
 pub mod LeastWhole
 pub mod Marking
+pub mod Mixed
 pub mod Moving
 pub mod Order
 pub mod Packets
@@ -22,5 +25,6 @@ pub mod Points
 pub mod PrefixBits
 pub mod PrefixNumbers
 pub mod PrefixSpans
+pub mod RoomLemmas
 pub mod Sides
 pub mod Unique

@@ -63,6 +63,11 @@ number_of_packet UdpDst p = refl
 number_of_packet Ipv6Src p = refl
 number_of_packet Ipv6Dst p = refl
 
+-- the number itself, of a field that is no address
+pub whole_number_of_packet : (f : Field) (p : Point) → is_address f ≡ false → number_in f (packet_of p) ≡ p.number f
+unfolding number_at
+whole_number_of_packet f p whole = number_of_packet f p ∙ ap (λ b. if b then joined (p.bit f) (width_of f) else p.number f) whole
+
 -- the packet of a point in range fits the widths of the fields
 pub packet_fits : (p : Point) → InRange p → Fit (packet_of p)
 unfolding packet_of
@@ -87,7 +92,7 @@ packet_fits p within = record {
 pub passes_packet_of : (s : Test) → IsLawful s → (p : Point) → passes s (packet_of p) ≡ answer s p
 unfolding number_at
 passes_packet_of (Equal f v) lawful p =
-    ap (λ n. n == v) (number_of_packet f p ∙ ap (λ b. if b then joined (p.bit f) (width_of f) else p.number f) lawful.0)
+    ap (λ n. n == v) (whole_number_of_packet f p lawful.0)
 passes_packet_of (Bit f i) lawful p =
     ap (λ n. n / 2 ^ (width_of f - 1 - i) % 2 == 1)
     (number_of_packet f p ∙ ap (λ b. if b then joined (p.bit f) (width_of f) else p.number f) lawful.0)

@@ -14,7 +14,7 @@ use Rattle.pq_store.specs.Diagram.{IsBefore, Ascends, Skips, SkipsBelow, counts,
 use Rattle.pq_store.proofs.Fresh.{IsNone, fresh}
 use Rattle.pq_store.proofs.Point.{Point, answer, leaf_at, InRange}
 use Rattle.pq_store.proofs.Order.{rank_injective, kinds_differ, before_side}
-use Rattle.pq_store.proofs.Points.{set_number, set_bit, number_is, IsTurned, number_turns, bit_turns}
+use Rattle.pq_store.proofs.Points.{set_number, number_is, no_point, IsTurned, number_turns, bit_turns}
 use Rattle.pq_store.proofs.Sides.{no_diagram}
 
 -- a number that is in neither of two lists is not in the first
@@ -111,35 +111,47 @@ module _ {L : Type 0} where
   past_skips (Equal f v) t lawful first d = rest_skips f v t lawful.0 first d
   past_skips (Bit f i) t lawful first d = tt
 
-  -- the trees and the test leave a number of the field
-  abbrev pub HasRoom : Test → Tree L → Tree L → Type 0
-  HasRoom (Equal f v) t u = suc (most f t + most f u) < 2 ^ width_of f
-  HasRoom (Bit f i) t u = Unit {0}
+  -- the trees, the test and some more leave a number of the field
+  abbrev pub LeavesNumber : ℕ → Test → Tree L → Tree L → Type 0
+  LeavesNumber more (Equal f v) t u = suc (more + (most f t + most f u)) < 2 ^ width_of f
+  LeavesNumber more (Bit f i) t u = Unit {0}
 
   -- where a test over one tree fits, and another tree fits, there is room
-  pub room : (s : Test) (y t u : Tree L) → Fits (Fork s y t) → Fits u → HasRoom s t u
+  pub room : (s : Test) (y t u : Tree L) → Fits (Fork s y t) → Fits u → LeavesNumber 0 s t u
   room (Equal f v) y t u fit other =
       let one : counts f (Equal f v) ≡ 1 = rw (eq-eqb (rank f) (rank f) refl) refl in
       omega (arith, fit f, other f, le-max_right (most f y) (most f t))
   room (Bit f i) y t u fit other = tt
 
+  -- the number answers no to the test, and to the tests of its field at the front of the trees
+  abbrev pub IsFree : Test → Tree L → Tree L → ℕ → Type 0
+  IsFree (Equal f v) t u k = (k < 2 ^ width_of f) × (k ≡ v → ⊥) × IsNone k (asked f t) × IsNone k (asked f u)
+  IsFree (Bit f i) t u k = Unit {0}
+
+  -- with room there is one that is none of some more
+  pub free_number : (s : Test) (t u : Tree L) (more : List ℕ) → LeavesNumber (length more) s t u → (k : ℕ) × IsFree s t u k × IsNone k more
+  free_number (Equal f v) t u more has_room =
+      let found = fresh (2 ^ width_of f) (v ∷ more ++ (asked f t ++ asked f u))
+      (omega (arith, length-append more (asked f t ++ asked f u), length-append (asked f t) (asked f u), asked_few f t, asked_few f u)) in
+      let none = none_right found.0 more (asked f t ++ asked f u) found.2.1 in
+      (found.0, (found.1, found.2.0, none_left found.0 (asked f t) (asked f u) none, none_right found.0 (asked f t) (asked f u) none), none_left found.0 more (asked f t ++ asked f u) found.2.1)
+  free_number (Bit f i) t u more has_room =
+      let found = fresh (suc (length more)) more (omega arith) in
+      (found.0, tt, found.2)
+
   -- a point alike but for the test, to which it says no, where both trees say what they say past it
-  pub record Misses (s : Test) (t u : Tree L) (p : Point) : Type 0 where
-    pub point : Point
+  pub record Misses (s : Test) (t u : Tree L) (p point : Point) : Type 0 where
     pub turned : IsTurned s false p point
     pub left : leaf_at t point ≡ leaf_at (past s t) point
     pub right : leaf_at u point ≡ leaf_at (past s u) point
 
-  -- with room for a number there is one
-  pub miss : (s : Test) (t u : Tree L) (p : Point) → HasRoom s t u → InRange p → Misses s t u p
-  miss (Equal f v) t u p has_room range =
-      let found = fresh (2 ^ width_of f) (v ∷ asked f t ++ asked f u) (omega (arith, length-append (asked f t) (asked f u), asked_few f t, asked_few f u)) in
-      let q : Point = set_number f found.0 p in
-      let is : q.number f ≡ found.0 = number_is f found.0 p in
+  -- a free number makes one
+  pub miss : (s : Test) (t u : Tree L) (k : ℕ) (p : Point) → IsFree s t u k → InRange p → Misses s t u p (no_point s k p)
+  miss (Equal f v) t u k p free range =
+      let is : (set_number f k p).number f ≡ k = number_is f k p in
       record {
-        point = q;
-        turned = number_turns f v found.0 false p found.1 (ne_eqb found.0 v found.2.0) range;
-        left = asked_none f t q (subst (λ k. IsNone k (asked f t)) (sym is) (none_left found.0 (asked f t) (asked f u) found.2.1));
-        right = asked_none f u q (subst (λ k. IsNone k (asked f u)) (sym is) (none_right found.0 (asked f t) (asked f u) found.2.1));
+        turned = number_turns f v k false p free.0 (ne_eqb k v free.1) range;
+        left = asked_none f t (set_number f k p) (subst (λ m. IsNone m (asked f t)) (sym is) free.2);
+        right = asked_none f u (set_number f k p) (subst (λ m. IsNone m (asked f u)) (sym is) free.3);
       }
-  miss (Bit f i) t u p has_room range = record { point = set_bit f i false p; turned = bit_turns f i false p range; left = refl; right = refl }
+  miss (Bit f i) t u k p free range = record { turned = bit_turns f i false p range; left = refl; right = refl }

@@ -1,5 +1,5 @@
 -- Points that differ in what one test asks.
-use Rattle.std.proofs.Common.{◌≡◌, ℕ, ◌^◌, ◌<◌, Bool, true, refl, ◌∙◌, ap, subst, inl, inr, eq-eqb, arith}
+use Rattle.std.proofs.Common.{◌≡◌, ℕ, ◌^◌, ◌<◌, Bool, true, false, refl, ◌∙◌, ap, subst, inl, inr, eq-eqb, arith}
 use Rattle.std.specs.Prelude.{◌==◌, ◌&&◌, if◌then◌else◌}
 use Rattle.std.proofs.lemmas.Bool.Decides.{eqb_tells}
 use Rattle.pq_fields.specs.declared.field.Field.{Field}
@@ -83,14 +83,19 @@ abbrev pub yes_point : Test → Point → Point
 yes_point (Equal f v) p = set_number f v p
 yes_point (Bit f i) p = set_bit f i true p
 
--- it is alike but for the test
+-- the point with this number, or without the bit
+abbrev pub no_point : Test → ℕ → Point → Point
+no_point (Equal f v) k p = set_number f k p
+no_point (Bit f i) k p = set_bit f i false p
+
+-- a point that passes the test is alike but for the test
 pub yes_turns : (s : Test) (p : Point) → IsLawful s → InRange p → IsTurned s true p (yes_point s p)
 yes_turns (Equal f v) p lawful range = number_turns f v v true p lawful.1 (eq-eqb v v refl) range
 yes_turns (Bit f i) p lawful range = bit_turns f i true p range
 
 module _ {L : Type 0} where
   -- a test is apart from those behind it that ask for another field's number, or for another bit
-  apart : (s t : Test) (y n : Tree L) → Precedes s t → SkipsBelow s (Fork t y n) → IsApart s t
+  pub apart : (s t : Test) (y n : Tree L) → Precedes s t → SkipsBelow s (Fork t y n) → IsApart s t
   apart (Equal f v) (Equal g w) y n first skips = skips.0
   apart (Equal f v) (Bit g j) y n first skips = tt
   apart (Bit f i) (Equal g w) y n first skips = tt
@@ -98,13 +103,13 @@ module _ {L : Type 0} where
   apart (Bit f i) (Bit g j) y n (inr less) skips = λ same place. omega arith
 
   -- what skips the field, skips it in the yes side
-  skips_yes : (s t : Test) (y n : Tree L) → SkipsBelow s (Fork t y n) → SkipsBelow s y
+  pub skips_yes : (s t : Test) (y n : Tree L) → SkipsBelow s (Fork t y n) → SkipsBelow s y
   skips_yes (Equal f v) (Equal g w) y n skips = skips.1
   skips_yes (Equal f v) (Bit g j) y n skips = skips.0
   skips_yes (Bit f i) t y n skips = tt
 
   -- what skips the field, skips it in the no side
-  skips_no : (s t : Test) (y n : Tree L) → SkipsBelow s (Fork t y n) → SkipsBelow s n
+  pub skips_no : (s t : Test) (y n : Tree L) → SkipsBelow s (Fork t y n) → SkipsBelow s n
   skips_no (Equal f v) (Equal g w) y n skips = skips.2
   skips_no (Equal f v) (Bit g j) y n skips = skips.1
   skips_no (Bit f i) t y n skips = tt

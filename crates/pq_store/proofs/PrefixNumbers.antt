@@ -1,11 +1,11 @@
 -- The numbers of a packet, one field changed, and the order of packets.
-use Rattle.std.proofs.Common.{◌≡◌, ℕ, zero, suc, ◌<◌, ◌≤◌, ◌⊎◌, inl, inr, true, false, ◌==◌, ◌&&◌, ◌||◌, List, [], ◌∷◌, length, get_or, set, refl, sym, ap, subst, ◌∙◌, true≢false, lt_trans, lt_of_lt_of_le, ◌^◌, arith}
+use Rattle.std.proofs.Common.{◌≡◌, ℕ, zero, suc, ◌<◌, ◌≤◌, ◌⊎◌, inl, inr, true, false, ◌==◌, ◌&&◌, ◌||◌, List, [], ◌∷◌, length, get_or, set, refl, sym, ap, subst, ◌∙◌, true≢false, lt_trans, lt_of_lt_of_le, arith}
 use Rattle.std.proofs.lemmas.List.{get_or-set_same, get_or-set_other}
 use Rattle.std.proofs.lemmas.Bool.{cases_order, cases_lt}
 use Rattle.std.proofs.lemmas.Bool.Decides.{nat_tests, leb_tells, eqb_tells}
 use Rattle.pq_fields.specs.declared.field.Field.{Field}
 use Rattle.pq_fields.specs.declared.field.Field.TheVariants.{Switch, Port, EthType, IpProto, EthSrc, EthDst, Ipv4Src, Ipv4Dst, TcpSrc, TcpDst, UdpSrc, UdpDst, Ipv6Src, Ipv6Dst}
-use Rattle.pq_fields.specs.Packet.{Numbers, Fit, numbers, number_in, with_number, rank, width_of, is_wide, is_before, zero_packet}
+use Rattle.pq_fields.specs.Packet.{Numbers, numbers, number_in, with_number, rank, width_of, is_wide, is_before, zero_packet}
 use Rattle.pq_store.specs.Least.{precedes}
 use Rattle.pq_store.specs.Search.{Agrees, IsClear}
 use Rattle.pq_store.proofs.Order.{rank_injective}
@@ -120,23 +120,6 @@ zero_number UdpSrc = refl
 zero_number UdpDst = refl
 zero_number Ipv6Src = refl
 zero_number Ipv6Dst = refl
-
--- a packet's numbers fit their fields
-pub number_fits : (f : Field) (x : Numbers) → Fit x → number_in f x < 2 ^ width_of f
-number_fits Switch x fit = fit.switch
-number_fits Port x fit = fit.port
-number_fits EthType x fit = fit.eth_type
-number_fits IpProto x fit = fit.ip_proto
-number_fits EthSrc x fit = fit.eth_src
-number_fits EthDst x fit = fit.eth_dst
-number_fits Ipv4Src x fit = fit.ipv4_src
-number_fits Ipv4Dst x fit = fit.ipv4_dst
-number_fits TcpSrc x fit = fit.tcp_src
-number_fits TcpDst x fit = fit.tcp_dst
-number_fits UdpSrc x fit = fit.udp_src
-number_fits UdpDst x fit = fit.udp_dst
-number_fits Ipv6Src x fit = fit.ipv6_src
-number_fits Ipv6Dst x fit = fit.ipv6_dst
 
 -- no number is below 0
 below_zero : {n : ℕ} → n < 0 → ⊥

@@ -1,5 +1,5 @@
 -- Two diagrams that say the same at every point are one tree.
-use Rattle.std.proofs.Common.{◌≡◌, ℕ, zero, suc, ◌+◌, ◌<◌, Bool, true, false, refl, sym, ◌∙◌, ap, ap₂, subst, inl, inr, pow_pos, arith}
+use Rattle.std.proofs.Common.{◌≡◌, ℕ, zero, suc, ◌+◌, ◌<◌, Bool, true, false, [], refl, sym, ◌∙◌, ap, ap₂, subst, inl, inr, pow_pos, arith}
 use Rattle.std.specs.Prelude.{if◌then◌else◌}
 use Rattle.pq_fields.specs.Packet.{width_of}
 use Rattle.pq_store.specs.declared.test.Test.{Test}
@@ -9,9 +9,9 @@ use Rattle.pq_store.specs.Tree.Tree.{Tip, Fork}
 use Rattle.pq_store.specs.Diagram.{IsBefore, IsDiagram}
 use Rattle.pq_store.proofs.Point.{Point, answer, leaf_at, InRange}
 use Rattle.pq_store.proofs.Order.{compared}
-use Rattle.pq_store.proofs.Points.{AreAlike, IsTurned, yes_point, yes_turns, says_same}
+use Rattle.pq_store.proofs.Points.{AreAlike, IsTurned, no_point, yes_point, yes_turns, says_same}
 use Rattle.pq_store.proofs.Sides.{size, yes_diagram, no_diagram, past_diagram, past_before, past_size}
-use Rattle.pq_store.proofs.Past.{hit, past_skips, room, Misses, miss}
+use Rattle.pq_store.proofs.Past.{hit, past_skips, room, free_number, Misses, miss}
 
 -- the trees say the same at every point in range
 abbrev pub Agree : {L : Type 0} → Tree L → Tree L → Type 0
@@ -22,24 +22,25 @@ abbrev AreOneBelow : Type 0 → ℕ → Type 0
 AreOneBelow L k = (t u : Tree L) → size t + size u < k → IsDiagram t → IsDiagram u → Agree t u → t ≡ u
 
 -- the point whose numbers are 0
-abbrev zero_point : Point
+abbrev pub zero_point : Point
 zero_point = record { number = λ f. 0; bit = λ f i. false }
 
-zero_in_range : InRange zero_point
+-- it is in range
+pub zero_in_range : InRange zero_point
 zero_in_range f number = pow_pos (width_of f)
 
 module _ {L : Type 0} where
   -- a point's answer leads to a side
-  side : (s : Test) (y n : Tree L) (p : Point) (b : Bool) → answer s p ≡ b → leaf_at (Fork s y n) p ≡ (if b then leaf_at y p else leaf_at n p)
+  pub side : (s : Test) (y n : Tree L) (p : Point) (b : Bool) → answer s p ≡ b → leaf_at (Fork s y n) p ≡ (if b then leaf_at y p else leaf_at n p)
   side s y n p b is = ap (λ c. if c then leaf_at y p else leaf_at n p) is
 
   -- past a test that precedes it, a diagram says the same at points that are alike but for the test
-  past_same : (s : Test) (t : Tree L) (p q : Point) → AreAlike s p q → IsLawful s → IsBefore s t → IsDiagram t → leaf_at (past s t) p ≡ leaf_at (past s t) q
+  pub past_same : (s : Test) (t : Tree L) (p q : Point) → AreAlike s p q → IsLawful s → IsBefore s t → IsDiagram t → leaf_at (past s t) p ≡ leaf_at (past s t) q
   past_same s t p q alike lawful first d =
       says_same s (past s t) p q alike (past_before s s t first d) (past_diagram s t d).ascends (past_skips s t lawful first d)
 
   -- the yes side says what the whole says where the answer is yes
-  yes_same : (s : Test) (y n : Tree L) (p q : Point) → IsDiagram (Fork s y n) → IsTurned s true p q → leaf_at y p ≡ leaf_at (Fork s y n) q
+  pub yes_same : (s : Test) (y n : Tree L) (p q : Point) → IsDiagram (Fork s y n) → IsTurned s true p q → leaf_at y p ≡ leaf_at (Fork s y n) q
   yes_same s y n p q d turned = says_same s y p q turned.alike d.ascends.0 d.ascends.2 d.asks_once.0 ∙ sym (side s y n q true turned.answers)
 
   -- the sides of a fork that agrees with a diagram behind its test agree past it
@@ -48,17 +49,19 @@ module _ {L : Type 0} where
       let lawful = d.lawful.0 in
       let q : Point = yes_point s p in
       let turned : IsTurned s true p q = yes_turns s p lawful range in
-      let m : Misses s n u p = miss s n u p (room s y n u d.fits e.fits) range in
+      let free = free_number s n u [] (room s y n u d.fits e.fits) in
+      let r : Point = no_point s free.0 p in
+      let m : Misses s n u p r = miss s n u free.0 p free.1 range in
       yes_same s y n p q d turned
       ∙ agree q turned.in_range
       ∙ hit s u q turned.answers first e.ascends
       ∙ sym (past_same s u p q turned.alike lawful first e)
-      ∙ past_same s u p m.point m.turned.alike lawful first e
+      ∙ past_same s u p r m.turned.alike lawful first e
       ∙ sym m.right
-      ∙ sym (agree m.point m.turned.in_range)
-      ∙ side s y n m.point false m.turned.answers
+      ∙ sym (agree r m.turned.in_range)
+      ∙ side s y n r false m.turned.answers
       ∙ m.left
-      ∙ sym (past_same s n p m.point m.turned.alike lawful d.ascends.1 (no_diagram s y n d))
+      ∙ sym (past_same s n p r m.turned.alike lawful d.ascends.1 (no_diagram s y n d))
 
   -- the yes sides of forks of one test that agree
   yes_sides : (s : Test) (y n z m : Tree L) → IsDiagram (Fork s y n) → IsDiagram (Fork s z m) → Agree (Fork s y n) (Fork s z m) → Agree y z
@@ -81,13 +84,15 @@ module _ {L : Type 0} where
           let lawful = d.lawful.0 in
           let own = no_diagram s y n d in
           let other = no_diagram s z m e in
-          let missed : Misses s n m p = miss s n m p (room s y n m d.fits other.fits) range in
+          let free = free_number s n m [] (room s y n m d.fits other.fits) in
+          let r : Point = no_point s free.0 p in
+          let missed : Misses s n m p r = miss s n m free.0 p free.1 range in
           hit s n p is d.ascends.1 own.ascends
-          ∙ past_same s n p missed.point missed.turned.alike lawful d.ascends.1 own
+          ∙ past_same s n p r missed.turned.alike lawful d.ascends.1 own
           ∙ sym missed.left
-          ∙ no_where s y n z m missed.point missed.turned.answers (agree missed.point missed.turned.in_range)
+          ∙ no_where s y n z m r missed.turned.answers (agree r missed.turned.in_range)
           ∙ missed.right
-          ∙ sym (past_same s m p missed.point missed.turned.alike lawful e.ascends.1 other)
+          ∙ sym (past_same s m p r missed.turned.alike lawful e.ascends.1 other)
           ∙ sym (hit s m p is e.ascends.1 other.ascends)
 
   -- no fork agrees with a diagram behind its test

@@ -2,9 +2,11 @@ pub mod Arena
 pub mod Code
 pub mod Compaction
 pub mod Diagram
+pub mod Laws
 pub mod Least
 pub mod Moves
 pub mod Options
+pub mod Room
 pub mod Search
 pub mod Store
 pub mod Test

@@ -130,14 +130,14 @@ module _ {L : Type 0} where
   VisitsFrom ts t f gap p old before new after = (root : Tree L) (from : ℕ) → AsksFrom f from t → IsGap ts (rest f t) old gap from → IsSound ts root old before → IsReady ts root old (with_number f from p) → LeadsFrom root t f from p → IsSearched ts root t (λ x. Agrees f x p) old new after
 
   -- so many numbers were tested before, and there is room for those below
-  abbrev pub HasRoom : Field → Option ℕ → Tree L → Type 0
-  HasRoom f None t = Unit {0}
-  HasRoom f (Some free) t = free + most f t ≤ 2 ^ width_of f / 2 - 1
+  abbrev pub HasGapRoom : Field → Option ℕ → Tree L → Type 0
+  HasGapRoom f None t = Unit {0}
+  HasGapRoom f (Some free) t = free + most f t ≤ 2 ^ width_of f / 2 - 1
 
   -- what a visit of a tree whose numbers of a field go on asks
   pub record GoesOn (f : Field) (gap : Option ℕ) (t : Tree L) : Type 0 where
     pub asks : AsksFrom f 0 t
-    pub room : HasRoom f gap t
+    pub room : HasGapRoom f gap t
 
   -- the tree begins with a test of the field's numbers
   abbrev pub begins : Field → Tree L → Bool

@@ -8,6 +8,10 @@ use Rattle.pq_store.specs.Tree.{Tree, value, past}
 use Rattle.pq_store.specs.Tree.Tree.{Fork}
 use Rattle.pq_store.specs.Diagram.{IsBefore, SkipsBelow, Fits, HasEqualSides, IsDiagram}
 
+-- the tree at a place is such
+abbrev pub HasAt : {L : Type 0} → (Tree L → Type 0) → List (Tree L) → ℕ → Type 0
+HasAt {L} P ts k = (t : Tree L) × (slice_get ts k ≡ Some t) × P t
+
 module _ {L : Type 0} where
   -- the value on a packet of the tree at a place
   abbrev pub value_at : List (Tree L) → ℕ → Numbers → Option L
@@ -52,7 +56,7 @@ module _ {L : Type 0} where
 
   -- a new id joins the trees of two old ones
   abbrev pub JoinsAt : List (Tree L) → Test → ℕ → ℕ → List (Tree L) → ℕ → Type 0
-  JoinsAt old test i j new k = (y n : Tree L) → slice_get old i ≡ Some y → slice_get old j ≡ Some n → (joined : Tree L) × (slice_get new k ≡ Some joined) × IsJoin test y n joined
+  JoinsAt old test i j new k = (y n : Tree L) → slice_get old i ≡ Some y → slice_get old j ≡ Some n → HasAt (IsJoin test y n) new k
 
   -- an id whose tree is what another says past the test
   abbrev pub IsPastAt : List (Tree L) → Test → ℕ → ℕ → Type 0

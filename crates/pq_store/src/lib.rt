@@ -3,6 +3,7 @@
 
 mod cell;
 mod compaction;
+mod laws;
 mod leaf;
 mod least;
 mod node_id;
@@ -12,6 +13,7 @@ mod test;
 mod tests;
 mod view;
 
+pub use laws::{ignored_fields_are_untested, one_diagram, prerequisites_stand_first};
 pub use leaf::Leaf;
 pub use least::Least;
 pub use node_id::NodeId;

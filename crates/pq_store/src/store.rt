@@ -94,7 +94,7 @@ impl<L: Leaf> Store<L> {
         ensures err { OnErr result (self.new ≡ self.old) }
         ensures canonical { IsCanonical self.new }
     {
-        // Opens the store: what holds of its cells is needed on both paths.
+        // Brings the store's invariant into the proof, on both paths.
         let _ = &self.cells;
         let past = self.past(test, no);
         if yes == past {
@@ -132,6 +132,15 @@ impl<L: Leaf> Store<L> {
             Cell::Leaf(leaf) => View::Leaf(leaf),
             Cell::Branch(branch) => View::Node(branch.test, branch.yes, branch.no),
         }
+    }
+
+    /// Law: each id has a diagram, and ids with equal values on every packet are equal.
+    pub fn has_diagrams(&self)
+        ensures diagrams { AreDiagrams self.now }
+        ensures canonical { IsCanonical self.now }
+    {
+        // Brings the store's invariant into the proof.
+        let _ = &self.cells;
     }
 
     /// The leaf that the packet reaches.
