@@ -8,7 +8,8 @@ use Rattle.pq_model.specs.Topology.{Switch}
 use Rattle.pq_model.specs.Install.{IsLawfulSwitch, IsLawfulLink}
 use Rattle.pq_topo.specs.Named.{IsNamedTopology}
 use Rattle.pq_policy.specs.Policy.{PolicyTree}
-use Rattle.pq_apply.specs.Together.{IsAmong}
+use Rattle.pq_store.specs.Room.{IsAmong}
+use Rattle.pq_store.proofs.RoomLemmas.{room_for}
 use Rattle.pq_forward.specs.Examples.{IsExamplePolicy}
 use Rattle.pq_forward.specs.Forward.{FitAsForward}
 use Rattle.pq_forward.proofs.Examples.{example_fits}
@@ -34,10 +35,4 @@ nowhere_is_named = record {
 -- it states no numbers
 pub fits_nowhere : (p : PolicyTree) → IsExamplePolicy p → FitAsForward nowhere p
 fits_nowhere p example =
-    let fit = example_fits p example in
-    record {
-      numbers = fit.numbers;
-      few = fit.few;
-      topology = All-nil (λ (s : Switch). IsAmong s.datapath (fit.numbers SwitchField) × All (λ q. IsAmong q (fit.numbers Port)) s.ports);
-      policies = fit.policies;
-    }
+    room_for (λ ns (topology, within). (All-nil (λ (s : Switch). IsAmong s.datapath (ns SwitchField) × All (λ q. IsAmong q (ns Port)) s.ports), within)) (example_fits p example)

@@ -5,7 +5,7 @@ use Rattle.std.proofs.lemmas.List.{map-append}
 use Rattle.pq_fields.specs.declared.field.Field.TheVariants.{Ipv4Dst}
 use Rattle.pq_policy.specs.declared.policy.Policy.{Policy}
 use Rattle.pq_policy.specs.Policy.{AreLawfulPolicies, Policies, PolicyTop, PolicyTree, none, policies, policy_tree, put}
-use Rattle.pq_apply.specs.Together.{IsAmong}
+use Rattle.pq_store.specs.Room.{IsAmong}
 use Rattle.pq_apply.specs.Predicates.{NeedsAmong}
 use Rattle.pq_apply.proofs.Examples.{found_among}
 use Rattle.pq_apply.proofs.Required.{needs_among}
@@ -18,7 +18,7 @@ pub one_more : (ps all : List Policy) (p : Policy) (ts : List PolicyTree) (t : P
 one_more ps all p ts t pushed before last = ap (map policy_tree) pushed ∙ (map-append policy_tree ps (p ∷ []) ∙ ap₂ (λ us u. us ++ u ∷ []) before last)
 
 -- a policy and others are not none
-some_are : (top : PolicyTop) (below rest : Policies) → put top below rest ≢ none
+pub some_are : (top : PolicyTop) (below rest : Policies) → put top below rest ≢ none
 some_are top below rest is = let e : suc (number_of rest) ≡ 0 = ap number_of is in absurd (omega (arith, e))
 
 -- One route.

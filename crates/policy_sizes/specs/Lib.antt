@@ -1,2 +1,3 @@
+pub mod Broadcasts
 pub mod Routes
 pub mod Sizes

@@ -4,9 +4,10 @@ use Rattle.pq_fields.specs.Pred.{PredTree, holds}
 use Rattle.pq_fields.specs.Writes.{Written}
 use Rattle.pq_store.specs.declared.test.Test.TheVariants.{Equal}
 use Rattle.pq_store.specs.Tree.{Tree, value}
+use Rattle.pq_store.specs.Store.{HasAt}
 use Rattle.pq_apply.specs.Choice.{ChoosesAt, FitAsChoiceAt}
 use Rattle.pq_apply.specs.Predicates.{FitsAsNode, HoldsAt, IsPredTree}
-use Rattle.pq_rewrite.specs.Calls.{HasAt, IsKeeping, KeepsWhereAt}
+use Rattle.pq_rewrite.specs.Calls.{IsKeeping, KeepsWhereAt}
 use Rattle.pq_rewrite.specs.Choices.{ChoosesByAt, FitByAt}
 use Rattle.pq_rewrite.proofs.Choosing.{IsCondition, chooses_by, fit_by, fits_node, predicate_condition}
 use Rattle.pq_rewrite.proofs.Turns.{giving_as}

@@ -7,7 +7,7 @@ use Rattle.pq_fields.specs.declared.field.Field.{Field}
 use Rattle.pq_fields.specs.declared.pred.Pred.TheVariants as pred
 use Rattle.pq_fields.specs.declared.pred.Pred.TheOpen.{Pred-F}
 use Rattle.pq_fields.specs.declared.pred.Pred.TheFolds.{fold-roll-Pred}
-use Rattle.pq_fields.specs.Packet.{is_wide, width_of}
+use Rattle.pq_fields.specs.Packet.{width_of}
 use Rattle.pq_fields.specs.Pred.{IsLawfulPred, PredTree, pred_step, pred_tree, leaf as pred_leaf}
 use Rattle.pq_fields.specs.Pred.PredTop.{Equals}
 use Rattle.pq_model.specs.MatchFields.{IsPortNumber}
@@ -17,10 +17,10 @@ use Rattle.pq_topo.specs.Named.{IsNamedTopology}
 use Rattle.pq_policy.specs.declared.policy.Policy.TheVariants as policy
 use Rattle.pq_policy.specs.declared.policy.Policy.TheOpen.{Policy-F}
 use Rattle.pq_policy.specs.declared.policy.Policy.TheFolds.{fold-roll-Policy}
-use Rattle.pq_policy.specs.Policy.{Forward, IsLawfulTop, Only, PolicyTop, PolicyTree, Write, is_writable, leaf, none, policy_step, policy_tree}
-use Rattle.pq_apply.specs.Together.{AreFew, IsAmong}
+use Rattle.pq_policy.specs.Policy.{Forward, IsLawfulTop, PolicyTop, PolicyTree, Write, is_writable, leaf, none, policy_step, policy_tree}
+use Rattle.pq_store.specs.Room.{AreFew, IsAmong}
+use Rattle.pq_store.proofs.RoomLemmas.{roomy}
 use Rattle.pq_apply.specs.Predicates.{IsPredWithin, NeedsAmong}
-use Rattle.pq_apply.proofs.AtomTrees.{roomy}
 use Rattle.pq_apply.proofs.Examples.{found_among}
 use Rattle.pq_apply.proofs.Required.{needs_among}
 use Rattle.pq_forward.specs.Forward.{FitAsForward, IsPolicyTopWithin, IsTopologyWithin}
@@ -58,7 +58,7 @@ topology_is_named = record {
 
 -- there are few
 few : AreFew (λ f. example_numbers)
-few f = omega (arith, roomy f)
+few f whole = omega (arith, roomy f)
 
 -- those in prerequisites are among them
 needs_known : (f : Field) → NeedsAmong (λ g. example_numbers) f
@@ -78,7 +78,7 @@ topology_within =
 
 -- so examples have diagrams
 pub example_fits : (p : PolicyTree) → IsExamplePolicy p → FitAsForward example_topology p
-example_fits p example = record { numbers = λ f. example_numbers; few = few; topology = topology_within; policies = example.within }
+example_fits p example = record { numbers = λ f. example_numbers; few = few; within = (topology_within, example.within) }
 
 -- The policies.
 
@@ -97,38 +97,30 @@ module _ (n : ℕ) (known : list_any (λ m. n == m) example_numbers ≡ true) wh
   module _ (f : Field) (fits : n < 2 ^ width_of f) where
     -- the write of a number
     pub write_example : is_writable f ≡ true → IsExamplePolicy (policy_tree (policy.Mod f n))
-    write_example writable = subst IsExamplePolicy (sym is) (leaf_example (Write f n) (writable, fits) (found_among n example_numbers known, needs_known f))
+    write_example writable = subst IsExamplePolicy (sym is) (leaf_example (Write f n) (writable, fits) (λ whole. found_among n example_numbers known, needs_known f))
       where
         is : policy_tree (policy.Mod f n) ≡ leaf (Write f n)
         is = ap policy_tree (sym (policy.rolls-Mod f n)) ∙ fold-roll-Policy PolicyTree policy_step (Policy-F.Mod f n)
 
-    module _ (narrow : is_wide f ≡ false) where
-      -- the test of a number
-      abbrev pub equal : PredTree
-      equal = pred_tree (pred.Equal f n)
+    -- the test of a number
+    abbrev pub equal : PredTree
+    equal = pred_tree (pred.Equal f n)
 
-      equal_is : equal ≡ pred_leaf (Equals f n)
-      equal_is = ap pred_tree (sym (pred.rolls-Equal f n)) ∙ fold-roll-Pred PredTree pred_step (Pred-F.Equal f n)
+    equal_is : equal ≡ pred_leaf (Equals f n)
+    equal_is = ap pred_tree (sym (pred.rolls-Equal f n)) ∙ fold-roll-Pred PredTree pred_step (Pred-F.Equal f n)
 
-      equal_lawful : IsLawfulPred equal
-      equal_lawful = subst IsLawfulPred (sym equal_is) ((narrow, fits), tt, tt)
+    equal_lawful : IsLawfulPred equal
+    equal_lawful = subst IsLawfulPred (sym equal_is) (fits, tt, tt)
 
-      equal_within : IsPredWithin (λ g. example_numbers) equal
-      equal_within = subst (IsPredWithin (λ g. example_numbers)) (sym equal_is) ((found_among n example_numbers known, needs_known f), tt, tt)
+    equal_within : IsPredWithin (λ g. example_numbers) equal
+    equal_within = subst (IsPredWithin (λ g. example_numbers)) (sym equal_is) ((λ whole. found_among n example_numbers known, needs_known f), tt, tt)
 
-      -- the packets that have a number
-      pub only_example : IsExamplePolicy (policy_tree (policy.Filter (pred.Equal f n)))
-      only_example = subst IsExamplePolicy (sym is) (leaf_example (Only equal) equal_lawful equal_within)
-        where
-          is : policy_tree (policy.Filter (pred.Equal f n)) ≡ leaf (Only equal)
-          is = ap policy_tree (sym (policy.rolls-Filter (pred.Equal f n))) ∙ fold-roll-Policy PolicyTree policy_step (Policy-F.Filter (pred.Equal f n))
-
-      -- a choice by a number
-      pub choice_example : (p q : PolicyTree) → IsExamplePolicy p → IsExamplePolicy q → IsExamplePolicy (choice_of equal p q)
-      choice_example p q first second =
-          let p_lawful = first.lawful in
-          let p_within = first.within in
-          record {
-            lawful = (equal_lawful, (p_lawful.0, p_lawful.1, second.lawful), tt);
-            within = (equal_within, (p_within.0, p_within.1, second.within), tt);
-          }
+    -- a choice by a number
+    pub choice_example : (p q : PolicyTree) → IsExamplePolicy p → IsExamplePolicy q → IsExamplePolicy (choice_of equal p q)
+    choice_example p q first second =
+        let p_lawful = first.lawful in
+        let p_within = first.within in
+        record {
+          lawful = (equal_lawful, (p_lawful.0, p_lawful.1, second.lawful), tt);
+          within = (equal_within, (p_within.0, p_within.1, second.within), tt);
+        }

@@ -15,20 +15,20 @@ use Rattle.pq_model.specs.Topology.{Switch as SwitchValue, Topology, ports_in}
 use Rattle.pq_topo.specs.Named.{IsNamedTopology}
 use Rattle.pq_store.specs.declared.test.Test.{Test}
 use Rattle.pq_store.specs.declared.test.Test.TheVariants.{Equal, Bit}
-use Rattle.pq_store.specs.Diagram.{Ascends, IsBefore, Skips}
+use Rattle.pq_store.specs.Diagram.{AllLawful, Ascends, IsBefore, Skips}
 use Rattle.pq_store.specs.Test.{field_of}
 use Rattle.pq_store.specs.Tree.{Tree, IsTested, value}
 use Rattle.pq_store.specs.Tree.Tree.{Tip, Fork}
-use Rattle.pq_store.specs.Store.{IsJoin, IsJoinable, JoinsAt, Keeps}
-use Rattle.pq_apply.specs.Together.{IsAmong, Within}
+use Rattle.pq_store.specs.Store.{HasAt, IsJoin, IsJoinable, JoinsAt, Keeps}
+use Rattle.pq_store.specs.Room.{IsAmong, Within}
+use Rattle.pq_store.proofs.RoomLemmas.{fork_within}
 use Rattle.pq_apply.proofs.Few.{few_fit}
 use Rattle.pq_apply.proofs.Kept.{sides_join}
-use Rattle.pq_rewrite.specs.Calls.{HasAt}
 use Rattle.pq_rewrite.specs.Rewriting.{Covers, IsGiven, IsToWrite}
 use Rattle.pq_rewrite.proofs.Given.{any_of}
 use Rattle.pq_rewrite.proofs.Sets.{any_none, given_none}
 use Rattle.pq_forward.specs.Flood.{IsFlood, IsSpread}
-use Rattle.pq_forward.proofs.Joined.{fork_within, join_ascends, join_first, join_tests, join_value, numbers_few, numbers_of}
+use Rattle.pq_forward.proofs.Joined.{join_ascends, join_first, join_lawful, join_tests, join_value, numbers_few, numbers_of}
 use Rattle.pq_forward.proofs.Ports.{without_second}
 use Rattle.pq_forward.proofs.Spreads.{AtOthers}
 use Rattle.pq_forward.proofs.Switches.{AreLawful, contains_first, contains_later, contains_none, datapath_among, datapaths, lawful_there, port_among, ports, ports_count}
@@ -63,6 +63,7 @@ skips_switches (Fork (Bit g i) y n) only = (skips_switches y (λ s tested. only 
 -- the tree floods at the switches met so far
 pub record IsFloodOver (met : List SwitchValue) (t : Tree (List Written)) : Type 0 where
   pub flood : IsFlood met t
+  pub lawful : AllLawful t
   pub ascends : Ascends t
   pub first : (d : ℕ) → Rises (d ∷ datapaths met) → IsBefore (Equal Switch d) t
 
@@ -76,6 +77,7 @@ flood_none = record {
       writes = λ f n written. absurd (any_none (λ w. written_in f w ≡ Some n) written.2);
     };
   };
+  lawful = tt;
   ascends = tt;
   first = λ d up. tt;
 }
@@ -92,6 +94,10 @@ module _ (s : SwitchValue) (met : List SwitchValue) (y n : Tree (List Written)) 
   -- it stands before the trees over its ports and over the other switches
   fork_ascends : Ascends (Fork here y n)
   fork_ascends = (before_ports s.datapath y (of_ports s.ports y spread), over.first s.datapath lawful.rise, spread.ascends, over.ascends)
+
+  -- the tests are lawful
+  fork_lawful : AllLawful (Fork here y n)
+  fork_lawful = ((refl, lawful.switch.0), spread.lawful, over.lawful)
 
   -- the number tested and those tested below are of the switches
   fork_in : (ns : Field → List ℕ) → AreWithin ns (s ∷ met) → Within ns (Fork here y n)
@@ -114,7 +120,7 @@ module _ (s : SwitchValue) (met : List SwitchValue) (y n : Tree (List Written)) 
               any_of (λ d. r.datapath ≡ d) (datapaths (s ∷ met)) r.datapath (datapath_among (s ∷ met) r there) refl,
               λ p port. any_of (λ q. p ≡ q) (ports (s ∷ met)) p (port_among (s ∷ met) r p there port) refl,
             )))
-            fork_ascends;
+            fork_lawful fork_ascends;
       }
 
   module _ (r : Tree (List Written)) (join : IsJoin here y n r) where
@@ -155,6 +161,7 @@ module _ (s : SwitchValue) (met : List SwitchValue) (y n : Tree (List Written)) 
     flood_more : IsFloodOver (s ∷ met) r
     flood_more = record {
       flood = record { giving = more_giving; covers = more_covers };
+      lawful = join_lawful here y n r join fork_lawful;
       ascends = join_ascends here y n r join fork_ascends;
       first = λ d more. join_first (Equal Switch d) here y n r join (inr (refl, more.0)) (over.first d (without_second d s.datapath (datapaths met) more));
     }

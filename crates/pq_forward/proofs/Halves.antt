@@ -7,6 +7,7 @@ use Rattle.pq_fields.specs.Packet.{Numbers}
 use Rattle.pq_model.specs.Topology.{Topology}
 use Rattle.pq_policy.specs.declared.policy.Policy.{Policy}
 use Rattle.pq_policy.specs.Policy.{AnyOne, AreLawfulPolicies, Chained, Policies, PolicyTree, Yields, none, policies, policy_tree, policy_trees, put, yields}
+use Rattle.pq_store.proofs.RoomLemmas.{room_for}
 use Rattle.pq_forward.specs.Forward.{ArePoliciesWithin, FitAsForwards, number_of, work_of, works}
 
 -- the policies of a list are those of its halves
@@ -74,11 +75,10 @@ lawful_halves (p ∷ ps) qs lawful = let rest = lawful_halves ps qs lawful.2 in 
 
 -- so the first fit where all do, and those behind them
 pub fit_halves : (T : Topology) (ps qs : List PolicyTree) → FitAsForwards T (policies (ps ++ qs)) → FitAsForwards T (policies ps) × FitAsForwards T (policies qs)
-fit_halves T ps qs fit =
-    let within = within_halves fit.numbers ps qs fit.policies in (
-      record { numbers = fit.numbers; few = fit.few; topology = fit.topology; policies = within.0 },
-      record { numbers = fit.numbers; few = fit.few; topology = fit.topology; policies = within.1 },
-    )
+fit_halves T ps qs fit = (
+  room_for (λ ns (topology, within). (topology, (within_halves ns ps qs within).0)) fit,
+  room_for (λ ns (topology, within). (topology, (within_halves ns ps qs within).1)) fit,
+)
 
 -- Steps.
 

@@ -1,3 +1,4 @@
+use Rattle.pq_store.specs.Room.{AreFew}
 -- Trees that a store joins: their tests and values, and how many numbers they may test.
 use Rattle.std.proofs.Common.{ℕ, ◌-◌, ◌/◌, ◌^◌, ◌≤◌, ◌≡◌, ◌∙◌, Bool, true, false, List, [], length, ◌==◌, if◌then◌else◌, inl, inr, refl, sym, ap, subst, arith}
 use Rattle.std.proofs.lemmas.Bool.Decides.{eqb_tells}
@@ -5,15 +6,13 @@ use Rattle.pq_fields.specs.declared.field.Field.{Field}
 use Rattle.pq_fields.specs.declared.field.Field.TheVariants.{Switch, Port}
 use Rattle.pq_fields.specs.Packet.{Numbers, rank, width_of}
 use Rattle.pq_store.specs.declared.test.Test.{Test}
-use Rattle.pq_store.specs.Diagram.{Ascends, IsBefore}
+use Rattle.pq_store.specs.Diagram.{AllLawful, Ascends, IsBefore}
 use Rattle.pq_store.specs.Test.{passes}
 use Rattle.pq_store.specs.Tree.{Tree, IsTested, value}
 use Rattle.pq_store.specs.Tree.Tree.{Fork}
 use Rattle.pq_store.specs.Store.{IsJoin}
 use Rattle.pq_store.proofs.Joins.{past_value}
 use Rattle.pq_store.proofs.Order.{rank_injective}
-use Rattle.pq_apply.specs.Together.{AreFew, Within}
-use Rattle.pq_rewrite.specs.Choices.{IsTestWithin}
 
 module _ {L : Type 0} where
   -- a joined tree tests what its test and its sides do
@@ -25,6 +24,11 @@ module _ {L : Type 0} where
   pub join_ascends : (s : Test) (y n r : Tree L) → IsJoin s y n r → Ascends (Fork s y n) → Ascends r
   join_ascends s y n r (inl same) up = subst Ascends (sym same.1) up.3
   join_ascends s y n r (inr fork) up = subst Ascends (sym fork.1) up
+
+  -- its tests are lawful where those are
+  pub join_lawful : (s : Test) (y n r : Tree L) → IsJoin s y n r → AllLawful (Fork s y n) → AllLawful r
+  join_lawful s y n r (inl same) lawful = subst AllLawful (sym same.1) lawful.2
+  join_lawful s y n r (inr fork) lawful = subst AllLawful (sym fork.1) lawful
 
   -- a test stands before it that stands before its test and its no side
   pub join_first : (q s : Test) (y n r : Tree L) → IsJoin s y n r → IsBefore q (Fork s y n) → IsBefore q n → IsBefore q r
@@ -40,19 +44,13 @@ module _ {L : Type 0} where
       by false fail = refl
   join_value s y n r x (inr fork) first up = ap (λ t. value t x) fork.1
 
-  -- it tests these numbers where its test and its sides do
-  pub fork_within : (ns : Field → List ℕ) (s : Test) (y n : Tree L) → IsTestWithin ns s → Within ns y → Within ns n → Within ns (Fork s y n)
-  fork_within ns s y n here y_in n_in f v (inl is) = subst (IsTestWithin ns) (sym is) here
-  fork_within ns s y n here y_in n_in f v (inr (inl in_yes)) = y_in f v in_yes
-  fork_within ns s y n here y_in n_in f v (inr (inr in_no)) = n_in f v in_no
-
 -- the numbers of switches, and those of ports
 abbrev pub numbers_of : List ℕ → List ℕ → Field → List ℕ
 numbers_of ds ps f = if rank f == 0 then ds else if rank f == 1 then ps else []
 
 -- they are few, where there are no more of them than a topology may have
 pub numbers_few : (ds ps : List ℕ) → length ds ≤ 256 → length ps ≤ 4096 → AreFew (numbers_of ds ps)
-numbers_few ds ps few_switches few_ports f = elim (eqb_tells (rank f) 0) [
+numbers_few ds ps few_switches few_ports f whole = elim (eqb_tells (rank f) 0) [
   | inl switch ↦ rw switch.0 (subst (λ g. length ds ≤ 2 ^ width_of g / 2 - 1) (sym (rank_injective f Switch switch.1)) (omega (arith, few_switches)))
   | inr other ↦ elim (eqb_tells (rank f) 1) [
     | inl port ↦ rw (other.0, port.0) (subst (λ g. length ps ≤ 2 ^ width_of g / 2 - 1) (sym (rank_injective f Port port.1)) (omega (arith, few_ports)))

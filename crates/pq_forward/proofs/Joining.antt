@@ -8,9 +8,10 @@ use Rattle.pq_model.specs.Topology.{Topology}
 use Rattle.pq_policy.specs.declared.policy.Policy.{Policy}
 use Rattle.pq_policy.specs.Policy.{AnyOne, Chained, Joint, Policies, PolicyTree, Yields, policies, policy_tree, policy_trees}
 use Rattle.pq_store.specs.Tree.{Tree}
-use Rattle.pq_store.specs.Store.{Keeps}
+use Rattle.pq_store.specs.Store.{HasAt, Keeps}
+use Rattle.pq_store.proofs.RoomLemmas.{room_for}
 use Rattle.pq_apply.specs.Product.{FitTogetherAt}
-use Rattle.pq_rewrite.specs.Calls.{FitInSequenceAt, HasAt, IsIdleFreeAt, IsSequence, IsUnion, SequencesAt, UnitesAt}
+use Rattle.pq_rewrite.specs.Calls.{FitInSequenceAt, IsIdleFreeAt, IsSequence, IsUnion, SequencesAt, UnitesAt}
 use Rattle.pq_rewrite.specs.Rewriting.{Gives, IsGiving}
 use Rattle.pq_rewrite.proofs.InSequence.{on_fits}
 use Rattle.pq_rewrite.proofs.Standing.{has_still, has_there, has_within}
@@ -119,21 +120,14 @@ module _ {T : Topology} {J : Joint} {ps : List Policy} {ts : List (Tree (List Wr
         let fit = subst (FitAsForwards T) halves.all fits in
         let left : IsForwards T J (policies halves.first) t = has_there (IsForwards T J (policies halves.first)) ts i t halves.front t_is in
         let right : IsForwards T J (policies halves.behind) u = has_there (IsForwards T J (policies halves.behind)) ts j u halves.back u_is in
-        let parts = within_halves fit.numbers halves.first halves.behind fit.policies in
-        record {
-          numbers = fit.numbers;
-          few = fit.few;
-          first = left.covers fit.numbers fit.topology parts.0;
-          second = right.covers fit.numbers fit.topology parts.1;
-        }
+        room_for (λ ns (topology, within).
+        let parts = within_halves ns halves.first halves.behind within in
+        (left.covers ns topology parts.0, right.covers ns topology parts.1)) fit
 
     -- and together
     pub halves_together : FitTogetherAt ts i ts j
     halves_together t u t_is u_is =
-        let both = halves_in_sequence t u t_is u_is in
-        let first = both.first in
-        let second = both.second in
-        record { numbers = both.numbers; few = both.few; left = first.tests; right = second.tests }
+        room_for (λ ns covers. let first = covers.0 in let second = covers.1 in (first.tests, second.tests)) (halves_in_sequence t u t_is u_is)
 
 module _ (T : Topology) (ps : List Policy) (ts : List (Tree (List Written))) (i j : ℕ) (new : List (Tree (List Written))) (id : ℕ) where
   -- the union of both halves is that of all

@@ -15,22 +15,20 @@ use Rattle.pq_model.specs.Lawful.{Ascends as Rises}
 use Rattle.pq_model.specs.MatchFields.{IsPortNumber}
 use Rattle.pq_store.specs.declared.test.Test.{Test}
 use Rattle.pq_store.specs.declared.test.Test.TheVariants.{Equal}
-use Rattle.pq_store.specs.Diagram.{Ascends, IsBefore}
+use Rattle.pq_store.specs.Diagram.{AllLawful, Ascends, IsBefore}
 use Rattle.pq_store.specs.Tree.{Tree, IsTested, value}
 use Rattle.pq_store.specs.Tree.Tree.{Tip, Fork}
-use Rattle.pq_store.specs.Store.{IsJoin, IsJoinable, JoinsAt, Keeps}
+use Rattle.pq_store.specs.Store.{HasAt, IsJoin, IsJoinable, JoinsAt, Keeps}
+use Rattle.pq_store.specs.Room.{IsAmong, IsCounted, IsTestWithin, Within}
 use Rattle.pq_apply.specs.Predicates.{NeedsAmong}
-use Rattle.pq_apply.specs.Together.{IsAmong, Within}
 use Rattle.pq_apply.proofs.Few.{few_fit}
 use Rattle.pq_apply.proofs.Kept.{sides_join}
-use Rattle.pq_rewrite.specs.Calls.{HasAt}
-use Rattle.pq_rewrite.specs.Choices.{IsTestWithin}
 use Rattle.pq_rewrite.specs.Rewriting.{ChangesAll, IsGiven, IsToWrite, IsWrittenBy}
 use Rattle.pq_rewrite.proofs.Numbers.{stays}
 use Rattle.pq_rewrite.proofs.Single.{alone}
 use Rattle.pq_rewrite.proofs.Sets.{any_first, any_later, any_none}
 use Rattle.pq_forward.specs.Flood.{AreFewPorts, IsSpread, at_others, at_port}
-use Rattle.pq_forward.proofs.Joined.{join_ascends, join_first, join_tests, join_value, numbers_few, numbers_of}
+use Rattle.pq_forward.proofs.Joined.{join_ascends, join_first, join_lawful, join_tests, join_value, numbers_few, numbers_of}
 use Rattle.pq_forward.proofs.Ports.{all_last, all_others, any_of_others, has, last_ascend, others_ascend, others_of, others_of_any, without_second}
 
 -- the port of the packet where it is one of those met so far
@@ -40,13 +38,14 @@ own_port met n = if has met n then n else 0
 -- the tree tells the ports met so far from all others
 pub record IsSpreadOver (met ps : List ℕ) (t : Tree (List Written)) : Type 0 where
   pub value : (x : Numbers) → value t x ≡ at_others (own_port met x.port) ps
+  pub lawful : AllLawful t
   pub ascends : Ascends t
   pub first : (q : ℕ) → Rises (q ∷ met) → IsBefore (Equal Port q) t
   pub tests : (s : Test) → IsTested s t → Any (λ p. s ≡ Equal Port p) met
 
 -- a leaf tells none
 spread_none : (ps : List ℕ) → IsSpreadOver [] ps (Tip (at_others 0 ps))
-spread_none ps = record { value = λ x. refl; ascends = tt; first = λ q up. tt; tests = λ s tested. absurd tested }
+spread_none ps = record { value = λ x. refl; lawful = tt; ascends = tt; first = λ q up. tt; tests = λ s tested. absurd tested }
 
 -- a tree that tests only these ports tests no others
 ports_within : (ns : Field → List ℕ) (ps : List ℕ) (t : Tree (List Written)) → ((s : Test) → IsTested s t → Any (λ p. s ≡ Equal Port p) ps)
@@ -59,6 +58,10 @@ module _ (p : ℕ) (met ps : List ℕ) (n : Tree (List Written)) (up : Rises (p 
   -- the test of one more port, with its leaf, ascends before them
   fork_ascends : Ascends (Fork (Equal Port p) (Tip (at_others p ps)) n)
   fork_ascends = (tt, spread.first p up, tt, spread.ascends)
+
+  -- the tests are lawful
+  fork_lawful : IsPortNumber p → AllLawful (Fork (Equal Port p) (Tip (at_others p ps)) n)
+  fork_lawful number = ((refl, omega (arith, number.1)), tt, spread.lawful)
 
   -- it tests the ports met and this one
   fork_tests : (s : Test) → IsTested s (Fork (Equal Port p) (Tip (at_others p ps)) n) → Any (λ q. s ≡ Equal Port q) (p ∷ met)
@@ -76,12 +79,13 @@ module _ (p : ℕ) (met ps : List ℕ) (n : Tree (List Written)) (up : Rises (p 
         before_no = spread.first p up;
         once = tt;
         fits = few_fit ns (Fork (Equal Port p) (Tip (at_others p ps)) n) (numbers_few [] (p ∷ met) (omega arith) few)
-            (ports_within ns (p ∷ met) (Fork (Equal Port p) (Tip (at_others p ps)) n) fork_tests (λ q among. among)) fork_ascends;
+            (ports_within ns (p ∷ met) (Fork (Equal Port p) (Tip (at_others p ps)) n) fork_tests (λ q among. among)) (fork_lawful number) fork_ascends;
       }
 
   -- joined it tells them from all others
-  spread_more : (r : Tree (List Written)) → IsJoin (Equal Port p) (Tip (at_others p ps)) n r → IsSpreadOver (p ∷ met) ps r
-  spread_more r join = record {
+  spread_more : (r : Tree (List Written)) → IsPortNumber p → IsJoin (Equal Port p) (Tip (at_others p ps)) n r → IsSpreadOver (p ∷ met) ps r
+  spread_more r number join = record {
+    lawful = join_lawful (Equal Port p) (Tip (at_others p ps)) n r join (fork_lawful number);
     value = λ x. join_value (Equal Port p) (Tip (at_others p ps)) n r x join (spread.first p up) spread.ascends ∙ told x;
     ascends = join_ascends (Equal Port p) (Tip (at_others p ps)) n r join fork_ascends;
     first = λ q more. join_first (Equal Port q) (Equal Port p) (Tip (at_others p ps)) n r join (inr (refl, more.0)) (spread.first q (without_second q p met more));
@@ -128,6 +132,10 @@ module _ (front : List ℕ) (p : ℕ) (ps : List ℕ) (ts : List (Tree (List Wri
   more_rise : Rises (p ∷ behind.met)
   more_rise = last_ascend front (p ∷ behind.met) (subst Rises parts up)
 
+  -- it is the number of a port
+  number_there : All IsPortNumber ps → IsPortNumber p
+  number_there numbers = All-head IsPortNumber p behind.met (all_last IsPortNumber front (p ∷ behind.met) (subst (All IsPortNumber) parts numbers))
+
   -- its test may stand before the tree
   pub behind_joins : All IsPortNumber ps → AreFewPorts ps
       → (y n : Tree (List Written)) → slice_get ts i ≡ Some y → slice_get ts k ≡ Some n → IsJoinable (Equal Port p) y n
@@ -135,20 +143,17 @@ module _ (front : List ℕ) (p : ℕ) (ps : List ℕ) (ts : List (Tree (List Wri
       sides_join ts (Equal Port p) i k (Tip (at_others p ps)) behind.has.0 leaf behind.has.1
       (spread_joins p behind.met ps behind.has.0 more_rise behind.has.2 (number_there numbers) (few_there few))
     where
-      number_there : All IsPortNumber ps → IsPortNumber p
-      number_there numbers = All-head IsPortNumber p behind.met (all_last IsPortNumber front (p ∷ behind.met) (subst (All IsPortNumber) parts numbers))
-
       few_there : AreFewPorts ps → length (p ∷ behind.met) ≤ 4096
       few_there few = omega (arith, few, ap length parts, length-append front (p ∷ behind.met))
 
   -- and joined it tells this port too
-  pub behind_more : (new : List (Tree (List Written))) (id : ℕ) → JoinsAt ts (Equal Port p) i k new id → IsSpreadBehind front ps new id
-  behind_more new id joins =
+  pub behind_more : All IsPortNumber ps → (new : List (Tree (List Written))) (id : ℕ) → JoinsAt ts (Equal Port p) i k new id → IsSpreadBehind front ps new id
+  behind_more numbers new id joins =
       let made = joins (Tip (at_others p ps)) behind.has.0 leaf behind.has.1 in
       record {
         met = p ∷ behind.met;
         all = parts;
-        has = (made.0, made.1, spread_more p behind.met ps behind.has.0 more_rise behind.has.2 made.0 made.2);
+        has = (made.0, made.1, spread_more p behind.met ps behind.has.0 more_rise behind.has.2 made.0 (number_there numbers) made.2);
       }
 
 -- What the tree gives once all ports are met.
@@ -210,17 +215,18 @@ module _ (ps : List ℕ) (t : Tree (List Written)) (spread : IsSpreadOver ps ps 
   spread_value x = spread.value x ∙ others_of x.port ps numbers
 
   -- it writes the ports alone
-  spread_writes : (ns : Field → List ℕ) → ((p : ℕ) → Contains ps p → IsAmong p (ns Port)) → (f : Field) (n : ℕ) → IsToWrite f n t → IsAmong n (ns f) × NeedsAmong ns f
+  spread_writes : (ns : Field → List ℕ) → ((p : ℕ) → Contains ps p → IsAmong p (ns Port)) → (f : Field) (n : ℕ) → IsToWrite f n t → IsCounted ns f n × NeedsAmong ns f
   spread_writes ns into f n (x, fit, any) =
       let (k, p, within, at, both) = any_of_others (λ w. written_in f w ≡ Some n) x.port ps (subst (Any (λ w. written_in f w ≡ Some n)) (spread_value x) any) in
       let only = alone Port f p n both.1 in (
-        subst (λ g. IsAmong n (ns g)) (sym only.0) (subst (λ m. IsAmong m (ns Port)) (sym only.1) (into p (k, within, at))),
+        subst (λ g. IsCounted ns g n) (sym only.0) (λ whole. subst (λ m. IsAmong m (ns Port)) (sym only.1) (into p (k, within, at))),
         subst (NeedsAmong ns) (sym only.0) (port_needs ns),
       )
 
   -- so it is the tree over these ports
   spread_whole : IsSpread ps t
   spread_whole = record {
+    lawful = spread.lawful;
     ascends = spread.ascends;
     tests = spread.tests;
     giving = λ x fit. subst (IsGiven x (AtOthers ps x)) (sym (spread_value x)) (others_given ps x up numbers);

@@ -15,9 +15,11 @@ use Rattle.pq_model.specs.Topology.{Topology}
 use Rattle.pq_policy.specs.Policy.{AnyOne, Chained, Choose, Either, First, Forward, InTurn, Only, Pass, PolicyTree, Second, Spread, Write, Yields, leaf, none, policies, written, yields, is_writable as may_write}
 use Rattle.pq_store.specs.Tree.{Tree, value}
 use Rattle.pq_store.specs.Tree.Tree.{Tip}
+use Rattle.pq_store.specs.Store.{HasAt}
+use Rattle.pq_store.specs.Room.{IsAmong, IsCounted}
+use Rattle.pq_store.proofs.RoomLemmas.{room_for}
 use Rattle.pq_apply.specs.Predicates.{NeedsAmong}
-use Rattle.pq_apply.specs.Together.{IsAmong}
-use Rattle.pq_rewrite.specs.Calls.{HasAt, IsWriting}
+use Rattle.pq_rewrite.specs.Calls.{IsWriting}
 use Rattle.pq_rewrite.specs.Rewriting.{Covers, IsGiven, IsToWrite}
 use Rattle.pq_rewrite.proofs.Diffs.{on_none}
 use Rattle.pq_rewrite.proofs.Sets.{any_none, given_none}
@@ -44,7 +46,7 @@ module _ (P Q : Tree (List Written) → Type 0) (follows : (t : Tree (List Writt
 leaf_covers : (ns : Field → List ℕ) (b : Bool) → Covers ns (Tip (kept_where b))
 leaf_covers ns b = record { tests = λ f v none. absurd none; writes = writes }
   where
-    writes : (f : Field) (n : ℕ) → IsToWrite f n (Tip (kept_where b)) → IsAmong n (ns f) × NeedsAmong ns f
+    writes : (f : Field) (n : ℕ) → IsToWrite f n (Tip (kept_where b)) → IsCounted ns f n × NeedsAmong ns f
     writes f n (x, fit, written) = absurd (kept_unwritten f n b written)
 
 -- so it is the tree of no policies
@@ -139,13 +141,13 @@ one_write f n x writable = one_number f n x writable ∙ (ap (with_number f (if 
 
 module _ (f : Field) (n : ℕ) (t : Tree (List Written)) (writing : IsWriting f n t) where
   -- a tree that writes a number tests and writes that alone, and what the field needs
-  writing_covers : (ns : Field → List ℕ) → IsAmong n (ns f) → NeedsAmong ns f → Covers ns t
+  writing_covers : (ns : Field → List ℕ) → IsCounted ns f n → NeedsAmong ns f → Covers ns t
   writing_covers ns number needs = record { tests = writing.tests ns number needs; writes = writes }
     where
-      writes : (g : Field) (m : ℕ) → IsToWrite g m t → IsAmong m (ns g) × NeedsAmong ns g
+      writes : (g : Field) (m : ℕ) → IsToWrite g m t → IsCounted ns g m × NeedsAmong ns g
       writes g m to_write =
           let only = writing.writes g m to_write in
-          subst (λ h. IsAmong m (ns h) × NeedsAmong ns h) (sym only.0) (subst (λ k. IsAmong k (ns f) × NeedsAmong ns f) (sym only.1) (number, needs))
+          subst (λ h. IsCounted ns h m × NeedsAmong ns h) (sym only.0) (subst (λ k. IsCounted ns f k × NeedsAmong ns f) (sym only.1) (number, needs))
 
   -- it gives what the policy that writes it gives
   writing_giving : is_writable f ≡ true → (x : Numbers) → IsGiven x (λ y. y ≡ on (with_write f n no_writes) x) (value t x) → IsGiven x (λ y. y ≡ written f n x) (value t x)
@@ -166,7 +168,7 @@ write_forward T f n t may writing = record {
 pub port_forward : (T : Topology) (n : ℕ) (t : Tree (List Written)) → IsWriting Port n t → IsForward T (leaf (Forward n)) t
 port_forward T n t writing = record {
   giving = λ x fit. writing_giving Port n t writing refl x (writing.giving x fit);
-  covers = λ ns topology within. writing_covers Port n t writing ns within.0
+  covers = λ ns topology within. writing_covers Port n t writing ns (λ whole. within.0)
       (record { types = λ v among. absurd (any_none (λ m. v ≡ m) among); protocols = λ v among. absurd (any_none (λ m. v ≡ m) among) });
 }
 
@@ -180,12 +182,11 @@ module _ (T : Topology) (p : PredTree) (a b : PolicyTree) where
   -- the trees of both may come together with the predicate
   pub sides_fit : FitAsForward T (choice_of p a b) → (ts : List (Tree (List Written))) (i j : ℕ) → HasAt (IsForward T a) ts i → HasAt (IsForward T b) ts j → FitByAt (pred_needs p) ts i j
   sides_fit fit ts i j first second y n y_is n_is =
-      let ns = fit.numbers in
-      let all = fit.policies in
+      room_for (λ ns (topology, all).
       let sides : ArePoliciesWithin ns (policies (a ∷ b ∷ [])) = all.1 in
-      let left = (has_there (IsForward T a) ts i y first y_is).covers ns fit.topology (sides.0, sides.1, tt) in
-      let right = (has_there (IsForward T b) ts j n second n_is).covers ns fit.topology sides.2 in
-      record { numbers = ns; few = fit.few; needs = all.0; left = left.tests; right = right.tests }
+      let left = (has_there (IsForward T a) ts i y first y_is).covers ns topology (sides.0, sides.1, tt) in
+      let right = (has_there (IsForward T b) ts j n second n_is).covers ns topology sides.2 in
+      (all.0, left.tests, right.tests)) fit
 
   module _ (y n r : Tree (List Written)) (left : IsForward T a y) (right : IsForward T b n) (chosen : IsChoiceBy (holds p) (pred_needs p) y n r) where
     -- what the chosen tree has on a packet is given by the policy chosen
@@ -195,10 +196,10 @@ module _ (T : Topology) (p : PredTree) (a b : PolicyTree) where
     choice_given x first second false is = subst (IsGiven x (yields T b x)) (sym is) second
 
     -- it writes what one of the two writes
-    choice_writes : (ns : Field → List ℕ) → Covers ns y → Covers ns n → (f : Field) (m : ℕ) → IsToWrite f m r → IsAmong m (ns f) × NeedsAmong ns f
+    choice_writes : (ns : Field → List ℕ) → Covers ns y → Covers ns n → (f : Field) (m : ℕ) → IsToWrite f m r → IsCounted ns f m × NeedsAmong ns f
     choice_writes ns first second f m (x, fit, writes) = by (holds p x) (subst (Any (λ w. written_in f w ≡ Some m)) (chosen.gives x fit) writes)
       where
-        by : (c : Bool) → Any (λ w. written_in f w ≡ Some m) (if c then value y x else value n x) → IsAmong m (ns f) × NeedsAmong ns f
+        by : (c : Bool) → Any (λ w. written_in f w ≡ Some m) (if c then value y x else value n x) → IsCounted ns f m × NeedsAmong ns f
         by true in_y = first.writes f m (x, fit, in_y)
         by false in_n = second.writes f m (x, fit, in_n)
 

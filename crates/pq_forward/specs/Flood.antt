@@ -7,9 +7,9 @@ use Rattle.pq_fields.specs.Writes.{Written, no_writes, with_write}
 use Rattle.pq_model.specs.Topology.{Switch as SwitchValue, ports_in}
 use Rattle.pq_store.specs.declared.test.Test.{Test}
 use Rattle.pq_store.specs.declared.test.Test.TheVariants.{Equal}
-use Rattle.pq_store.specs.Diagram.{Ascends}
+use Rattle.pq_store.specs.Diagram.{AllLawful, Ascends}
 use Rattle.pq_store.specs.Tree.{Tree, IsTested}
-use Rattle.pq_apply.specs.Together.{IsAmong}
+use Rattle.pq_store.specs.Room.{IsAmong}
 use Rattle.pq_rewrite.specs.Rewriting.{Covers, IsGiving}
 
 -- the port is written
@@ -27,6 +27,7 @@ AreFewPorts ps = length ps ≤ 4096
 
 -- the tree gives the packet at each of the ports but its own, and tests and writes these ports alone
 pub record IsSpread (ps : List ℕ) (t : Tree (List Written)) : Type 0 where
+  pub lawful : AllLawful t
   pub ascends : Ascends t
   pub tests : (s : Test) → IsTested s t → Any (λ p. s ≡ Equal Port p) ps
   pub giving : IsGiving (λ x y. (p : ℕ) × Contains ps p × (p ≢ x.port) × (y ≡ record x { port = p })) t

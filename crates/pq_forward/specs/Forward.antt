@@ -7,8 +7,8 @@ use Rattle.pq_fields.specs.Writes.{Written}
 use Rattle.pq_model.specs.Topology.{Topology}
 use Rattle.pq_policy.specs.Policy.{PolicyTop, Pass, Discard, Spread, Only, Write, Forward, Choose, Either, InTurn, Policies, none, put, PolicyTree, policies, Joint, AnyOne, Chained, Yields, yields}
 use Rattle.pq_store.specs.Tree.{Tree}
+use Rattle.pq_store.specs.Room.{HasRoom, IsAmong, IsCounted}
 use Rattle.pq_apply.specs.Predicates.{IsPredWithin, NeedsAmong}
-use Rattle.pq_apply.specs.Together.{AreFew, IsAmong}
 use Rattle.pq_rewrite.specs.Rewriting.{Covers, IsGiving}
 
 -- Numbers.
@@ -23,7 +23,7 @@ IsPolicyTopWithin ns Pass = Unit {0}
 IsPolicyTopWithin ns Discard = Unit {0}
 IsPolicyTopWithin ns Spread = Unit {0}
 IsPolicyTopWithin ns (Only p) = IsPredWithin ns p
-IsPolicyTopWithin ns (Write f n) = IsAmong n (ns f) × NeedsAmong ns f
+IsPolicyTopWithin ns (Write f n) = IsCounted ns f n × NeedsAmong ns f
 IsPolicyTopWithin ns (Forward n) = IsAmong n (ns Port)
 IsPolicyTopWithin ns (Choose p) = IsPredWithin ns p
 IsPolicyTopWithin ns Either = Unit {0}
@@ -37,12 +37,9 @@ ArePoliciesWithin ns (put top below rest) = IsPolicyTopWithin ns top × ArePolic
 abbrev pub IsPolicyWithin : (Field → List ℕ) → PolicyTree → Type 0
 IsPolicyWithin ns p = ArePoliciesWithin ns (policies (p ∷ []))
 
--- the numbers of the policies and of the topology are at most half of each field's less one
-pub record FitAsForwards (T : Topology) (ps : Policies) : Type 0 where
-  pub numbers : Field → List ℕ
-  pub few : AreFew numbers
-  pub topology : IsTopologyWithin numbers T
-  pub policies : ArePoliciesWithin numbers ps
+-- the policies may be one diagram: there is room for their numbers and those of the topology
+abbrev pub FitAsForwards : Topology → Policies → Type 0
+FitAsForwards T ps = HasRoom (λ ns. IsTopologyWithin ns T × ArePoliciesWithin ns ps)
 
 abbrev pub FitAsForward : Topology → PolicyTree → Type 0
 FitAsForward T p = FitAsForwards T (policies (p ∷ []))

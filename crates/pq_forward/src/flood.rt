@@ -3,8 +3,7 @@ ghost use Rattle.std.specs.Prelude.{◌≡◌, All, Some, slice_get, IfOk};
 ghost use Rattle.pq_model.specs.Lawful.{Ascends};
 ghost use Rattle.pq_model.specs.MatchFields.{IsPortNumber};
 ghost use Rattle.pq_store.specs.Tree.Tree.{Tip};
-ghost use Rattle.pq_store.specs.Store.{Keeps};
-ghost use Rattle.pq_rewrite.specs.Calls.{HasAt};
+ghost use Rattle.pq_store.specs.Store.{HasAt, Keeps};
 ghost use Rattle.pq_forward.specs.Flood.{AreFewPorts, IsFlood, IsSpread, at_others};
 
 use crate::leaves::nothing;

@@ -9,9 +9,8 @@ ghost use Rattle.pq_policy.specs.Policy.{
   policy_trees,
 };
 ghost use Rattle.pq_store.specs.Tree.Tree.{Tip};
-ghost use Rattle.pq_store.specs.Store.{Keeps};
+ghost use Rattle.pq_store.specs.Store.{HasAt, Keeps};
 ghost use Rattle.pq_apply.specs.Predicates.{FitsAsNode};
-ghost use Rattle.pq_rewrite.specs.Calls.{HasAt};
 ghost use Rattle.pq_rewrite.specs.Choices.{ChoosesByAt, FitByAt};
 ghost use Rattle.pq_rewrite.specs.Rewriting.{IsCanonicalRewriting};
 ghost use Rattle.pq_forward.specs.Forward.{
@@ -40,9 +39,9 @@ use std::sync::ledger::Ledger;
 
 /// The diagram that gives on each packet the packets that the policy gives on it, by writes that change the packet.
 ///
-/// The numbers of each field that the policy and the topology state, with those in prerequisites, are at most half of the
-/// field's numbers less one. The diagram tests and writes no others. A union or a sequence of m operands takes m - 1 steps and
-/// those of its operands, an `if` those of both sides, and any other policy none. Conditions are built in `tests`.
+/// The policy is lawful, and there is room for the numbers that it and the topology state, and those in prerequisites. The
+/// diagram tests and writes no others. A union or a sequence of m operands takes m - 1 steps and those of its operands, an `if`
+/// those of both sides, and any other policy none. Conditions are built in `tests`.
 pub fn forward<L: Ledger>(
     tests: &mut Store<bool>,
     store: &mut Store<WriteSet>,

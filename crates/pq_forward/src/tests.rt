@@ -1,7 +1,7 @@
 //! Diagrams of forwarding policies, worked out by hand.
-ghost use Rattle.std.specs.Prelude.{◌≡◌, ◌<◌, ◌≤◌, ◌^◌, ◌==◌, false, length, true, IfOk};
+ghost use Rattle.std.specs.Prelude.{◌≡◌, ◌<◌, ◌≤◌, ◌^◌, ◌==◌, length, true, IfOk};
 ghost use Rattle.std.specs.List.{list_any};
-ghost use Rattle.pq_fields.specs.Packet.{is_wide, width_of};
+ghost use Rattle.pq_fields.specs.Packet.{width_of};
 ghost use Rattle.pq_term.specs.Names.{is_name};
 ghost use Rattle.pq_policy.specs.Policy.{is_writable, policy_tree};
 ghost use Rattle.pq_forward.specs.Examples.{IsExamplePolicy, example_numbers, example_topology};
@@ -19,14 +19,6 @@ use std::marker::Brand;
 use std::sync::ledger::{Blank, Ledger};
 use std::test::Fail;
 
-/// The type of IPv4.
-const IPV4: u64 = 0x0800;
-/// The type of ARP.
-const ARP: u64 = 0x0806;
-/// The protocol number of TCP.
-const TCP: u64 = 6;
-/// The protocol number of UDP.
-const UDP: u64 = 17;
 /// The address 00:00:00:00:00:0a.
 const ADDRESS: u64 = 0x0a;
 
@@ -74,16 +66,6 @@ fn write(field: Field, value: u64) -> Policy
     Policy::Mod(field, value)
 }
 
-/// The packets that have the field with this number.
-fn only(field: Field, value: u64) -> Policy
-    requires narrow { is_wide field ≡ false }
-    requires fits { value < 2 ^ width_of field }
-    requires known { list_any (λ n. value == n) example_numbers ≡ true }
-    ensures { IsExamplePolicy (policy_tree result) }
-{
-    Policy::Filter(Pred::Equal(field, value))
-}
-
 /// The first policy for packets that have the field with this number, and the second for others.
 fn choice(
     alloc: Global,
@@ -92,7 +74,6 @@ fn choice(
     yes: Policy,
     no: Policy,
 ) -> Result<Policy, AllocError>
-    requires narrow { is_wide field ≡ false }
     requires fits { value < 2 ^ width_of field }
     requires known { list_any (λ n. value == n) example_numbers ≡ true }
     requires yes { IsExamplePolicy (policy_tree yes) }
@@ -172,15 +153,6 @@ fn at(switch: u64, port: u32) -> Packet {
         .with(Field::Port, u64::from(port))
 }
 
-/// An IPv4 packet of this protocol at port 1.
-fn over_ipv4(protocol: u64) -> Packet
-    requires { protocol < 256 }
-{
-    at(1, 1)
-        .with(Field::EthType, IPV4)
-        .with(Field::IpProto, protocol)
-}
-
 #[test]
 fn simple_policies_give_a_packet_or_none(rt: HostRuntime) -> Result<(), Fail> {
     let alloc = rt.alloc();
@@ -214,76 +186,11 @@ fn floods_reach_the_other_ports_of_the_switch(rt: HostRuntime) -> Result<(), Fai
 }
 
 #[test]
-fn absent_fields_are_not_met(rt: HostRuntime) -> Result<(), Fail> {
-    let alloc = rt.alloc();
-    let policy = in_turn(alloc, only(Field::TcpDst, 80), fwd(2))?;
-    let web = over_ipv4(TCP).with(Field::TcpDst, 80);
-    let udp = over_ipv4(UDP).with(Field::UdpDst, 80);
-    assert!(rt; gives(alloc, &policy, web, &[web.with(Field::Port, 2)])?);
-    assert!(rt; gives(alloc, &policy, over_ipv4(TCP), &[])?);
-    assert!(rt; gives(alloc, &policy, udp, &[])?);
-    assert!(rt; gives(alloc, &policy, at(1, 1).with(Field::EthType, ARP), &[])?);
-    Ok(())
-}
-
-#[test]
-fn absent_fields_are_not_written(rt: HostRuntime) -> Result<(), Fail> {
-    let alloc = rt.alloc();
-    let policy = in_turn(alloc, write(Field::TcpDst, 80), fwd(2))?;
-    let arp = at(1, 1).with(Field::EthType, ARP);
-    let web = over_ipv4(TCP).with(Field::Port, 2).with(Field::TcpDst, 80);
-    assert!(rt; gives(alloc, &policy, arp, &[arp.with(Field::Port, 2)])?);
-    assert!(rt;
-        gives(
-            alloc,
-            &policy,
-            over_ipv4(TCP).with(Field::TcpDst, 8080),
-            &[web]
-        )?
-    );
-    assert!(rt;
-        gives(
-            alloc,
-            &policy,
-            over_ipv4(TCP).with(Field::TcpDst, 80),
-            &[web]
-        )?
-    );
-    Ok(())
-}
-
-#[test]
 fn a_choice_follows_its_condition(rt: HostRuntime) -> Result<(), Fail> {
     let alloc = rt.alloc();
     let policy = choice(alloc, Field::Port, 1, fwd(2), fwd(1))?;
     assert!(rt; gives(alloc, &policy, at(1, 1), &[at(1, 2)])?);
     assert!(rt; gives(alloc, &policy, at(1, 2), &[at(1, 1)])?);
     assert!(rt; gives(alloc, &policy, at(1, 3), &[at(1, 1)])?);
-    Ok(())
-}
-
-#[test]
-fn a_union_of_equal_policies_is_one(rt: HostRuntime) -> Result<(), Fail> {
-    let alloc = rt.alloc();
-    let twice = either(alloc, fwd(1), fwd(1))?;
-    let mut store = Store::new(alloc);
-    let id = diagram(&mut store, &fwd(1))?;
-    assert!(rt; diagram(&mut store, &twice)? == id);
-    assert!(rt; diagram(&mut store, &fwd(2))? != id);
-    Ok(())
-}
-
-#[test]
-fn the_last_write_of_a_field_stays(rt: HostRuntime) -> Result<(), Fail> {
-    let alloc = rt.alloc();
-    let both = in_turn(
-        alloc,
-        write(Field::EthDst, ADDRESS),
-        write(Field::EthDst, 3),
-    )?;
-    let mut store = Store::new(alloc);
-    let id = diagram(&mut store, &write(Field::EthDst, 3))?;
-    assert!(rt; diagram(&mut store, &both)? == id);
-    assert!(rt; diagram(&mut store, &write(Field::EthDst, ADDRESS))? != id);
     Ok(())
 }

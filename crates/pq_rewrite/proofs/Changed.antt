@@ -9,12 +9,12 @@ use Rattle.pq_fields.specs.Packet.{Numbers, has_field, number_in}
 use Rattle.pq_fields.specs.Pred.{PredTree, holds, leaf, pred_step, pred_tree}
 use Rattle.pq_fields.specs.Pred.PredTop.{Equals}
 use Rattle.pq_store.specs.Tree.{Tree, value}
-use Rattle.pq_store.specs.Store.{Keeps}
+use Rattle.pq_store.specs.Store.{HasAt, Keeps}
 use Rattle.pq_store.proofs.Elements.{at_place}
+use Rattle.pq_store.specs.Room.{Within}
+use Rattle.pq_store.proofs.RoomLemmas.{room_for}
 use Rattle.pq_apply.specs.Predicates.{HoldsAt, IsPredWithin}
-use Rattle.pq_apply.specs.Together.{Within}
 use Rattle.pq_apply.proofs.Kept.{tree_before}
-use Rattle.pq_rewrite.specs.Calls.{HasAt}
 use Rattle.pq_rewrite.specs.Choices.{ChoosesByAt, FitByAt, IsChoiceBy, change_needs, differs, field_needs}
 use Rattle.pq_rewrite.proofs.Choosing.{IsCondition, predicate_condition}
 
@@ -49,9 +49,7 @@ two_choices false same a b = refl
 module _ {L : Type 0} where
   -- trees that may come together may do so the other way round
   pub fit_swapped : (Needs : (Field → List ℕ) → Type 0) (ts : List (Tree L)) (i j : ℕ) → FitByAt Needs ts i j → FitByAt Needs ts j i
-  fit_swapped Needs ts i j fits n y n_is y_is =
-      let fit = fits y n y_is n_is in
-      record { numbers = fit.numbers; few = fit.few; needs = fit.needs; left = fit.right; right = fit.left }
+  fit_swapped Needs ts i j fits n y n_is y_is = room_for (λ ns within. (within.0, within.2, within.1)) (fits y n y_is n_is)
 
   -- a choice has only such numbers as may come together with those of the second tree
   pub choice_fits : (f : Field) (n : ℕ) (old new : List (Tree L)) (i j id : ℕ) → i < length old → j < length old → Keeps old new
@@ -59,18 +57,11 @@ module _ {L : Type 0} where
   choice_fits f n old new i j id i_within j_within keeps fits chooses chosen other chosen_is other_is =
       let first = at_place old i i_within in
       let was : slice_get old j ≡ Some other = tree_before old new j other keeps j_within other_is in
-      let fit = fits first.0 other first.1 was in
       let made = chooses other first.0 was first.1 in
       let choice = made.2 in
       let there = made.1 in
       let is : made.0 ≡ chosen = cc in
-      record {
-        numbers = fit.numbers;
-        few = fit.few;
-        needs = fit.needs.1;
-        left = subst (Within fit.numbers) is (choice.tests fit.numbers fit.needs fit.right fit.left);
-        right = fit.right;
-      }
+      room_for (λ ns within. (within.0.1, subst (Within ns) is (choice.tests ns within.0 within.2 within.1), within.2)) (fits first.0 other first.1 was)
 
   -- where packets have the field and not this number the first tree is chosen, else the second
   choices_joined : (f : Field) (n : ℕ) (y o m r : Tree L) → IsChoiceBy (has_number f n) (change_needs f n) o y m → IsChoiceBy (has_field f) (field_needs f) m o r

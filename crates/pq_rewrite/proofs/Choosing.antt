@@ -6,10 +6,11 @@ use Rattle.pq_fields.specs.Pred.{PredTree, holds}
 use Rattle.pq_store.specs.declared.test.Test.TheVariants.{Equal}
 use Rattle.pq_store.specs.Tree.{Tree, value}
 use Rattle.pq_store.proofs.Elements.{at_place}
+use Rattle.pq_store.specs.Store.{HasAt}
+use Rattle.pq_store.specs.Room.{Within}
+use Rattle.pq_store.proofs.RoomLemmas.{room_for}
 use Rattle.pq_apply.specs.Choice.{ChoosesAt, FitAsChoiceAt, IsChoice}
 use Rattle.pq_apply.specs.Predicates.{FitsAsNode, HoldsAt, IsPredWithin}
-use Rattle.pq_apply.specs.Together.{Within}
-use Rattle.pq_rewrite.specs.Calls.{HasAt}
 use Rattle.pq_rewrite.specs.Choices.{ChoosesByAt, FitByAt, IsChoiceBy}
 
 -- the tree says whether this holds of a packet, and tests only what has to be
@@ -48,16 +49,9 @@ module _ {L : Type 0} (c : Numbers → Bool) (Needs : (Field → List ℕ) → T
       → HasAt (IsCondition c Needs) cs k → FitByAt Needs old i j → FitAsChoiceAt cs k old i j
   fit_by cs k old i j condition fits t y n t_is y_is n_is =
       let there = condition.1 in
-      let fit = fits y n y_is n_is in
       let is : condition.0 ≡ t = cc in
       let told = condition.2 in
-      record {
-        numbers = fit.numbers;
-        few = fit.few;
-        condition = subst (Within fit.numbers) is (told.tests fit.numbers fit.needs);
-        left = fit.left;
-        right = fit.right;
-      }
+      room_for (λ ns within. (subst (Within ns) is (told.tests ns within.0), within.1, within.2)) (fits y n y_is n_is)
 
   -- choices by what is the same of each packet are the same
   pub chooses_same : (d : Numbers → Bool) (old new : List (Tree L)) (i j id : ℕ)
@@ -80,5 +74,4 @@ module _ {L : Type 0} (Needs : (Field → List ℕ) → Type 0) where
   fits_node p ts i j within i_within j_within fits =
       let y = at_place ts i i_within in
       let n = at_place ts j j_within in
-      let fit = fits y.0 n.0 y.1 n.1 in
-      record { numbers = fit.numbers; few = fit.few; within = within fit.numbers fit.needs }
+      room_for (λ ns needs. within ns needs.0) (fits y.0 n.0 y.1 n.1)

@@ -5,15 +5,16 @@ use Rattle.std.specs.List.{list_any}
 use Rattle.pq_fields.specs.declared.field.Field.{Field}
 use Rattle.pq_fields.specs.Writes.{Written}
 use Rattle.pq_store.specs.declared.test.Test.TheVariants.{Equal}
-use Rattle.pq_store.specs.Store.{Keeps}
+use Rattle.pq_store.specs.Store.{HasAt, Keeps}
 use Rattle.pq_store.specs.Tree.{Tree}
 use Rattle.pq_store.specs.Tree.Tree.{Tip}
+use Rattle.pq_store.specs.Room.{IsAmong, IsCounted, Within}
+use Rattle.pq_store.proofs.RoomLemmas.{tip_within}
 use Rattle.pq_apply.specs.Examples.{IsExampleAt, example_numbers}
 use Rattle.pq_apply.specs.Predicates.{NeedsAmong}
 use Rattle.pq_apply.specs.Product.{FitTogetherAt}
-use Rattle.pq_apply.specs.Together.{IsAmong, Within}
 use Rattle.pq_apply.proofs.Examples.{examples_few, found_among, needs_known}
-use Rattle.pq_rewrite.specs.Calls.{FitInSequenceAt, FitsAfterAt, HasAt, IsIdleFreeAt, IsKeeping, IsSequence, IsUnion, IsWriting, KeepsWhereAt, SequencesAt, UnitesAt}
+use Rattle.pq_rewrite.specs.Calls.{FitInSequenceAt, FitsAfterAt, IsIdleFreeAt, IsKeeping, IsSequence, IsUnion, IsWriting, KeepsWhereAt, SequencesAt, UnitesAt}
 use Rattle.pq_rewrite.specs.Examples.{IsExampleRewriting, IsExampleRewritingAt, KeepsExamples}
 use Rattle.pq_rewrite.specs.Rewriting.{IsToWrite}
 use Rattle.pq_rewrite.proofs.Standing.{has_still, has_there}
@@ -24,14 +25,14 @@ pub example_after : (w : Written) (ts : List (Tree Bool)) (id : ℕ) → IsExamp
 example_after w ts id (u, is, within) t t_is =
     let same : u ≡ t = cc in
     let ns : Field → List ℕ = λ f. example_numbers in
-    record { numbers = ns; few = examples_few; tree = subst (Within ns) same within; needs = λ f n written. needs_known f }
+    record { numbers = ns; few = examples_few; within = (subst (Within ns) same within, λ f n written. needs_known f) }
 
 -- and so does a leaf
 pub leaf_after : {M : Type 0} (w : Written) (ts : List (Tree M)) (k : ℕ) (l : M) → slice_get ts k ≡ Some (Tip l) → FitsAfterAt w ts k
 leaf_after w ts k l is t t_is =
     let same : Tip l ≡ t = cc in
     let ns : Field → List ℕ = λ f. example_numbers in
-    record { numbers = ns; few = examples_few; tree = subst (Within ns) same (λ f v tested. absurd tested); needs = λ f n written. needs_known f }
+    record { numbers = ns; few = examples_few; within = (subst (Within ns) same (tip_within ns l), λ f n written. needs_known f) }
 
 -- a diagram that writes a number of examples is an example
 pub writing_example : (f : Field) (n : ℕ) (ts : List (Tree (List Written))) (id : ℕ) → list_any (λ m. n == m) example_numbers ≡ true → HasAt (IsWriting f n) ts id → IsExampleRewritingAt ts id
@@ -40,15 +41,15 @@ writing_example f n ts id known (t, is, writing) = (
   is,
   record {
     idle_free = giving_idle_free _ t writing.giving;
-    covers = record { tests = writing.tests (λ g. example_numbers) among (needs_known f); writes = writes };
+    covers = record { tests = writing.tests (λ g. example_numbers) (λ whole. among) (needs_known f); writes = writes };
   },
 )
   where
     among : IsAmong n example_numbers
     among = found_among n example_numbers known
 
-    writes : (g : Field) (m : ℕ) → IsToWrite g m t → IsAmong m example_numbers × NeedsAmong (λ h. example_numbers) g
-    writes g m written = (subst (λ k. IsAmong k example_numbers) (sym (writing.writes g m written).1) among, needs_known g)
+    writes : (g : Field) (m : ℕ) → IsToWrite g m t → IsCounted (λ h. example_numbers) g m × NeedsAmong (λ h. example_numbers) g
+    writes g m written = (λ whole. subst (λ k. IsAmong k example_numbers) (sym (writing.writes g m written).1) among, needs_known g)
 
 -- so is one that keeps packets by an example
 pub keeping_example : (cs : List (Tree Bool)) (k : ℕ) (ts : List (Tree (List Written))) (id : ℕ) → IsExampleAt cs k → KeepsWhereAt cs k ts id → IsExampleRewritingAt ts id
@@ -70,17 +71,17 @@ module _ (ts : List (Tree (List Written))) (i j : ℕ) (first : IsExampleRewriti
   examples_fit t u t_is u_is =
       let left = has_there IsExampleRewriting ts i t first t_is in
       let right = has_there IsExampleRewriting ts j u second u_is in
-      record { numbers = λ f. example_numbers; few = examples_few; left = left.covers.tests; right = right.covers.tests }
+      record { numbers = λ f. example_numbers; few = examples_few; within = (left.covers.tests, right.covers.tests) }
 
   -- and be put in sequence
   pub examples_in_sequence : FitInSequenceAt ts i j
   examples_in_sequence t u t_is u_is =
       let left = has_there IsExampleRewriting ts i t first t_is in
       let right = has_there IsExampleRewriting ts j u second u_is in
-      record { numbers = λ f. example_numbers; few = examples_few; first = left.covers; second = right.covers }
+      record { numbers = λ f. example_numbers; few = examples_few; within = (left.covers, right.covers) }
 
   -- what one of them writes is covered
-  either_covered : (f : Field) (n : ℕ) → IsToWrite f n first.0 ⊎ IsToWrite f n second.0 → IsAmong n example_numbers × NeedsAmong (λ g. example_numbers) f
+  either_covered : (f : Field) (n : ℕ) → IsToWrite f n first.0 ⊎ IsToWrite f n second.0 → IsCounted (λ g. example_numbers) f n × NeedsAmong (λ g. example_numbers) f
   either_covered f n (inl left) = first.2.covers.writes f n left
   either_covered f n (inr right) = second.2.covers.writes f n right
 

@@ -5,11 +5,12 @@ use Rattle.std.specs.List.{All, Any}
 use Rattle.std.proofs.lemmas.List.Elements.{All-head}
 use Rattle.pq_fields.specs.declared.field.Field.{Field}
 use Rattle.pq_fields.specs.Packet.{Numbers}
-use Rattle.pq_fields.specs.Writes.{Written, AllFit, on}
+use Rattle.pq_fields.specs.Writes.{Written, on}
 use Rattle.pq_store.specs.Tree.{Tree, value}
 use Rattle.pq_store.specs.Tree.Tree.{Tip}
 use Rattle.pq_store.specs.Store.{Keeps}
 use Rattle.pq_store.proofs.Elements.{at_place}
+use Rattle.pq_store.proofs.RoomLemmas.{room_for}
 use Rattle.pq_apply.specs.Product.{FitTogetherAt}
 use Rattle.pq_apply.proofs.Kept.{tree_before}
 use Rattle.pq_rewrite.specs.Merged.{IsMerge, MergesAt}
@@ -34,9 +35,7 @@ none_followed old new k id is u u_is = (
 
 -- each of one write may come before a tree where that may
 pub one_before : (w : Written) (ts : List (Tree (List Written))) (k : ℕ) → FitAsFollowedEachAt (w ∷ []) ts k → FitAsFollowedAt w ts k
-one_before w ts k fits u u_is =
-    let fit = fits u u_is in
-    record { numbers = fit.numbers; few = fit.few; first = All-head (CoversWrites fit.numbers) w [] fit.first; second = fit.second }
+one_before w ts k fits u u_is = room_for (λ ns within. (All-head (CoversWrites ns) w [] within.0, within.1)) (fits u u_is)
 
 -- and what follows it follows each
 pub one_followed : (w : Written) (old new : List (Tree (List Written))) (k id : ℕ) → Keeps old new → IsFollowedAt w new k id → FollowsEachAt (w ∷ []) old k new id
@@ -68,12 +67,10 @@ module _ (front back : List Written) where
 
   -- both halves may come before a tree where all may
   halves_fit : (u : Tree (List Written)) → FitAsFollowedEach (front ++ back) u → FitAsFollowedEach front u × FitAsFollowedEach back u
-  halves_fit u fit =
-      let fits = all_halves AllFit front back fit.fit in
-      let numbers = all_halves (CoversWrites fit.numbers) front back fit.first in (
-        record { numbers = fit.numbers; few = fit.few; fit = fits.0; first = numbers.0; second = fit.second },
-        record { numbers = fit.numbers; few = fit.few; fit = fits.1; first = numbers.1; second = fit.second },
-      )
+  halves_fit u fit = (
+    room_for (λ ns within. ((all_halves (CoversWrites ns) front back within.0).0, within.1)) fit,
+    room_for (λ ns within. ((all_halves (CoversWrites ns) front back within.0).1, within.1)) fit,
+  )
 
   module _ (old mid : List (Tree (List Written))) (k : ℕ) (inside : k < length old) (keeps : Keeps old mid) where
     -- so they may in a store that has grown
@@ -94,12 +91,9 @@ module _ (front back : List Written) where
     pub halves_meet : FitAsFollowedEachAt (front ++ back) old k → FitTogetherAt mid i mid j
     halves_meet fits t s t_is s_is =
         let u = at_place old k inside in
-        let fit = fits u.0 u.1 in
-        let ns = fit.numbers in
-        let parts = all_halves (CoversWrites ns) front back fit.first in
         let first = has_there (IsFollowedEach front u.0) mid i t (left u.0 u.1) t_is in
         let second = has_there (IsFollowedEach back u.0) mid j s (right u.0 u.1) s_is in
-        record { numbers = ns; few = fit.few; left = first.tests ns parts.0 fit.second; right = second.tests ns parts.1 fit.second }
+        room_for (λ ns within. let parts = all_halves (CoversWrites ns) front back within.0 in (first.tests ns parts.0 within.1, second.tests ns parts.1 within.1)) (fits u.0 u.1)
 
     -- and what is merged of them is the tree of all
     pub each_merged : (new : List (Tree (List Written))) (id : ℕ) → MergesAt mid i j new id → FollowsEachAt (front ++ back) old k new id

@@ -2,6 +2,7 @@
 use Rattle.std.proofs.Common.{ℕ, ◌<◌, ◌≡◌, ◌∙◌, Bool, true, false, List, Some, if◌then◌else◌, inl, inr, refl, sym, ap, subst, eqb-true, arith}
 use Rattle.std.specs.Prelude.{◌==◌, slice_get}
 use Rattle.std.specs.Cmp.{first_so, second_so}
+use Rattle.std.specs.List.{All}
 use Rattle.std.proofs.lemmas.List.Elements.{All-weaker}
 use Rattle.indexmap.specs.IndexMap.{IndexMap, Updates}
 use Rattle.pq_fields.specs.declared.field.Field.{Field}
@@ -10,20 +11,19 @@ use Rattle.pq_fields.specs.Packet.{Numbers}
 use Rattle.pq_fields.specs.Writes.{Written, AllFit, no_writes, on}
 use Rattle.pq_fields.proofs.Places.{same_writes}
 use Rattle.pq_store.specs.declared.test.Test.{Test}
-use Rattle.pq_store.specs.declared.test.Test.TheVariants.{Equal, Bit}
 use Rattle.pq_store.specs.Test.{field_of}
 use Rattle.pq_store.specs.Tree.{Tree, value}
 use Rattle.pq_store.specs.Tree.Tree.{Fork, Tip}
-use Rattle.pq_store.specs.Store.{Keeps, ShowsBranch}
+use Rattle.pq_store.specs.Store.{HasAt, Keeps, ShowsBranch}
+use Rattle.pq_store.proofs.RoomLemmas.{room_for}
 use Rattle.pq_apply.specs.Memo.{Remembers}
-use Rattle.pq_apply.specs.Together.{Within}
 use Rattle.pq_apply.proofs.Remembered.{remembers_more, remembers_still}
 use Rattle.pq_rewrite.specs.declared.written.Step.TheVariants.{Side}
-use Rattle.pq_rewrite.specs.Calls.{HasAt}
-use Rattle.pq_rewrite.specs.Choices.{ChoosesByAt, FitByAt, IsChoiceBy, IsStepAt, IsTestWithin, passes_after, test_needs}
+use Rattle.pq_rewrite.specs.Choices.{ChoosesByAt, FitByAt, IsChoiceBy, IsStepAt, passes_after, test_needs}
 use Rattle.pq_rewrite.specs.Rewriting.{CoversWrites, Gives, IsGiven, IsWrittenBy}
 use Rattle.pq_rewrite.specs.Sequence.{AreReady, CoversLeaves, FitAsFollowed, FitAsFollowedAt, FitInTurn, IsFollowed, IsFollowedAt, IsInTurn, same_move}
 use Rattle.pq_rewrite.proofs.Diffs.{on_none}
+use Rattle.pq_rewrite.proofs.Told.{test_within}
 
 -- what holds of both sides holds of one
 pub either_side : {A : Type 0} (P : A → Type 0) (b : Bool) (y n : A) → P y → P n → P (if b then y else n)
@@ -38,14 +38,9 @@ covers_yes ns s y n covers = record { tests = λ f v tested. covers.tests f v (i
 pub covers_no : (ns : Field → List ℕ) (s : Test) (y n : Tree (List Written)) → CoversLeaves ns (Fork s y n) → CoversLeaves ns n
 covers_no ns s y n covers = record { tests = λ f v tested. covers.tests f v (inr (inr tested)); leaves = λ l part. covers.leaves l (inr (inr part)) }
 
--- and the number that its root tests
-pub root_within : (ns : Field → List ℕ) (s : Test) (y n : Tree (List Written)) → Within ns (Fork s y n) → IsTestWithin ns s
-root_within ns (Equal f v) y n within = within f v (inl refl)
-root_within ns (Bit f i) y n within = tt
-
 -- with the numbers of writes that come first, it covers what a choice by the root needs
 pub root_needs : (ns : Field → List ℕ) (w : Written) (s : Test) (y n : Tree (List Written)) → CoversWrites ns w → CoversLeaves ns (Fork s y n) → test_needs w s ns
-root_needs ns w s y n first covers = (root_within ns s y n covers.tests, λ m is. (first (field_of s) m is).1)
+root_needs ns w s y n first covers = (test_within ns s y n covers.tests, λ m is. (first (field_of s) m is).1)
 
 -- what is given by one of two lists where one of two is to be given, and is ready
 pub chosen_given : (x : Numbers) (R : List Written → Type 0) (F : List Written → Numbers → Type 0) (b : Bool) (ws vs us others : List Written)
@@ -82,10 +77,10 @@ side_followed w s y n r false answers followed = record {
 
 -- writes may come before both sides of a fork where they may come before the fork
 yes_fits : (w : Written) (s : Test) (y n : Tree (List Written)) → FitAsFollowed w (Fork s y n) → FitAsFollowed w y
-yes_fits w s y n fit = record { numbers = fit.numbers; few = fit.few; first = fit.first; second = covers_yes fit.numbers s y n fit.second }
+yes_fits w s y n = room_for (λ ns within. (within.0, covers_yes ns s y n within.1))
 
 no_fits : (w : Written) (s : Test) (y n : Tree (List Written)) → FitAsFollowed w (Fork s y n) → FitAsFollowed w n
-no_fits w s y n fit = record { numbers = fit.numbers; few = fit.few; first = fit.first; second = covers_no fit.numbers s y n fit.second }
+no_fits w s y n = room_for (λ ns within. (within.0, covers_no ns s y n within.1))
 
 -- the one side of a node that packets reach once they are written
 pub record IsSideReached (w : Written) (ts : List (Tree (List Written))) (k next : ℕ) : Type 0 where
@@ -167,18 +162,18 @@ followed_still w old new k id keeps made = record {
   follows = made.follows;
 }
 
--- writes at a leaf may come in turn
-pub leaf_fits : (w : Written) (ts : List (Tree (List Written))) (k : ℕ) (ws : List Written) → slice_get ts k ≡ Some (Tip ws) → FitAsFollowedAt w ts k → FitInTurn w ws
+-- the numbers of the writes at a leaf are among those that cover it
+pub leaf_numbers : (ns : Field → List ℕ) (ws : List Written) → CoversLeaves ns (Tip ws) → All (CoversWrites ns) ws
+leaf_numbers ns ws covers = All-weaker (λ v. AllFit v × CoversWrites ns v) (CoversWrites ns) (λ v both. both.1) ws (covers.leaves ws refl)
+
+-- so these may come in turn
+pub leaf_fits : (w : Written) (ts : List (Tree (List Written))) (k : ℕ) (ws : List Written) → slice_get ts k ≡ Some (Tip ws) → FitAsFollowedAt w ts k → FitInTurn ws
 leaf_fits w ts k ws is fits =
     let fit = fits (Tip ws) is in
-    let covers = fit.second in
-    let all = covers.leaves ws refl in
-    record {
-      numbers = fit.numbers;
-      few = fit.few;
-      fit = All-weaker (λ v. AllFit v × CoversWrites fit.numbers v) AllFit (λ v both. both.0) ws all;
-      second = All-weaker (λ v. AllFit v × CoversWrites fit.numbers v) (CoversWrites fit.numbers) (λ v both. both.1) ws all;
-    }
+    let covers = fit.within.1 in (
+      All-weaker (λ v. AllFit v × CoversWrites fit.numbers v) AllFit (λ v both. both.0) ws (covers.leaves ws refl),
+      room_for (λ ns within. leaf_numbers ns ws within.1) fit,
+    )
 
 -- and in turn they follow
 pub leaf_followed : (w : Written) (old new : List (Tree (List Written))) (k id : ℕ) (ws : List Written) → Keeps old new → slice_get old k ≡ Some (Tip ws) → HasAt (IsInTurn w ws) new id
@@ -192,7 +187,7 @@ leaf_followed w old new k id ws keeps is made =
       followed_is = made.1;
       follows = record {
         giving = λ x fit ready. turn.giving x fit ready.first ready.next.idle_free;
-        tests = λ ns first covers. turn.tests ns (All-weaker (λ v. AllFit v × CoversWrites ns v) (CoversWrites ns) (λ v both. both.1) ws (covers.leaves ws refl));
+        tests = λ ns first covers. turn.tests ns (leaf_numbers ns ws covers);
       };
     }
 
@@ -232,17 +227,13 @@ module _ (w : Written) (old mid : List (Tree (List Written))) (k i j a b : ℕ) 
   both_fit fits u v u_is v_is =
       let y = shows.yes_tree in
       let n = shows.no_tree in
-      let fit = fits (Fork s y n) shows.is in
-      let ns = fit.numbers in
       let left = followed_there w mid i a y u yes_made (keeps i y shows.yes_is) u_is in
       let right = followed_there w mid j b n v no_made (keeps j n shows.no_is) v_is in
-      record {
-        numbers = ns;
-        few = fit.few;
-        needs = root_needs ns w s y n fit.first fit.second;
-        left = left.tests ns fit.first (covers_yes ns s y n fit.second);
-        right = right.tests ns fit.first (covers_no ns s y n fit.second);
-      }
+      room_for (λ ns within. (
+        root_needs ns w s y n within.0 within.1,
+        left.tests ns within.0 (covers_yes ns s y n within.1),
+        right.tests ns within.0 (covers_no ns s y n within.1),
+      )) (fits (Fork s y n) shows.is)
 
   -- and their choice follows on the whole
   pub chosen_followed : (new : List (Tree (List Written))) (id : ℕ) → Keeps mid new → ChoosesByAt (passes_after w s) (test_needs w s) mid a b new id → IsFollowedAt w new k id

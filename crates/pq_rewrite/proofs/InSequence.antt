@@ -9,6 +9,7 @@ use Rattle.pq_fields.specs.Writes.{Written, AllFit, FitsWidth, on, written_in}
 use Rattle.pq_store.specs.Tree.{Tree, value}
 use Rattle.pq_store.specs.Diagram.{IsDiagram}
 use Rattle.pq_store.specs.Store.{AreDiagrams, Keeps}
+use Rattle.pq_store.proofs.RoomLemmas.{room_for}
 use Rattle.pq_rewrite.specs.Calls.{FitInSequenceAt, IsIdleFreeAt, IsSequence, SequencesAt}
 use Rattle.pq_rewrite.specs.Rewriting.{ChangesAll, Gives, IsGiven, IsIdleFree, IsToWrite, IsWrittenBy}
 use Rattle.pq_rewrite.specs.Sequence.{AllReady, FitAsSequenceAt, IsInSequence, IsSequencedAt}
@@ -108,13 +109,7 @@ module _ (ts : List (Tree (List Written))) (i j : ℕ) (diagrams : AreDiagrams t
   -- idle-free diagrams whose numbers are few may come in sequence
   pub sequence_fits : FitInSequenceAt ts i j → FitAsSequenceAt ts i j
   sequence_fits fits t u t_is u_is =
-      let fit = fits t u t_is u_is in
-      record {
-        numbers = fit.numbers;
-        few = fit.few;
-        first = covers_leaves t (diagrams i t t_is) (first t t_is) fit.numbers fit.first;
-        second = covers_leaves u (diagrams j u u_is) (second u u_is) fit.numbers fit.second;
-      }
+      room_for (λ ns within. (covers_leaves t (diagrams i t t_is) (first t t_is) ns within.0, covers_leaves u (diagrams j u u_is) (second u u_is) ns within.1)) (fits t u t_is u_is)
 
   -- and what stands at a place in a store that has grown is their sequence
   pub sequences : (new : List (Tree (List Written))) (id : ℕ) → Keeps ts new → IsSequencedAt new i j id → SequencesAt ts i j new id

@@ -18,7 +18,7 @@ use Rattle.pq_fields.specs.Writes.{Written, written_in}
 use Rattle.pq_fields.proofs.Places.{same_writes}
 use Rattle.pq_store.specs.declared.test.Test.TheVariants.{Equal}
 use Rattle.pq_store.specs.Tree.{Tree, value}
-use Rattle.pq_apply.specs.Together.{Within}
+use Rattle.pq_store.specs.Room.{Within}
 use Rattle.pq_rewrite.specs.Calls.{IsIdleFreeAt, IsUnion, UnitesAt}
 use Rattle.pq_rewrite.specs.Merged.{IsMerge, IsMerged, MergesAt}
 use Rattle.pq_rewrite.specs.Rewriting.{Ascend, Gives, IsGiven, IsIdleFree}

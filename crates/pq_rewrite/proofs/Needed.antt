@@ -2,8 +2,8 @@
 use Rattle.std.proofs.Common.{ℕ, ◌≤◌, ◌≡◌, List, [], ◌∷◌, length, Option, None, Some, refl, arith}
 use Rattle.pq_fields.specs.declared.field.Field.{Field}
 use Rattle.pq_fields.specs.Writes.{Written, written_in}
-use Rattle.pq_apply.specs.Together.{AreFew, IsAmong}
-use Rattle.pq_apply.proofs.AtomTrees.{roomy}
+use Rattle.pq_store.specs.Room.{AreFew, IsAmong}
+use Rattle.pq_store.proofs.RoomLemmas.{roomy}
 use Rattle.pq_apply.proofs.Required.{needs_among}
 use Rattle.pq_rewrite.specs.Rewriting.{CoversWrites}
 
@@ -28,7 +28,7 @@ written_among (Some m) n is = (0, m, omega arith, refl, cc)
 -- and so are those in prerequisites
 pub numbers_cover : (w : Written) → CoversWrites (numbers_of w) w
 numbers_cover w f n is = (
-  written_among (written_in f w) n is,
+  λ whole. written_among (written_in f w) n is,
   needs_among (numbers_of w) (0, 0x0800, omega arith, refl, refl) (1, 0x86dd, omega arith, refl, refl) (2, 6, omega arith, refl, refl) (3, 17, omega arith, refl, refl) f,
 )
 
@@ -39,4 +39,4 @@ few_each (Some n) = omega arith
 
 -- so there are few of each field
 pub numbers_few : (w : Written) → AreFew (numbers_of w)
-numbers_few w f = omega (arith, few_each (written_in f w), roomy f)
+numbers_few w f whole = omega (arith, few_each (written_in f w), roomy f)

@@ -1,5 +1,5 @@
 -- Choices by a test of packets that are written first.
-use Rattle.std.proofs.Common.{ℕ, ◌≡◌, ◌∙◌, ◌<◌, Bool, true, false, List, None, Some, length, if◌then◌else◌, refl, sym, ap, subst, inl, inr, arith}
+use Rattle.std.proofs.Common.{ℕ, ◌≡◌, ◌∙◌, ◌<◌, Bool, true, false, List, None, Some, length, if◌then◌else◌, refl, sym, ap, subst, arith}
 use Rattle.std.specs.Prelude.{slice_get}
 use Rattle.std.proofs.lemmas.Option.{slice_get_within}
 use Rattle.pq_fields.specs.declared.field.Field.{Field}
@@ -11,13 +11,13 @@ use Rattle.pq_store.specs.Test.{IsLawful, field_of, passes}
 use Rattle.pq_store.specs.Tree.{Tree, value}
 use Rattle.pq_store.specs.Tree.Tree.{Fork, Tip}
 use Rattle.pq_store.specs.Diagram.{HasEqualSides, SkipsBelow}
-use Rattle.pq_store.specs.Store.{IsJoinable, Keeps}
+use Rattle.pq_store.specs.Store.{HasAt, IsJoinable, Keeps}
 use Rattle.pq_store.proofs.Elements.{at_place}
+use Rattle.pq_store.specs.Room.{Within}
+use Rattle.pq_store.proofs.RoomLemmas.{fork_within, room_for, roomy, tip_within}
 use Rattle.pq_apply.specs.Restricting.{decides}
-use Rattle.pq_apply.specs.Together.{Within}
-use Rattle.pq_apply.proofs.AtomTrees.{counts_one, roomy}
-use Rattle.pq_rewrite.specs.Calls.{HasAt}
-use Rattle.pq_rewrite.specs.Choices.{ChoosesByAt, FitByAt, IsTestWithin, field_needs, passes_after, test_needs}
+use Rattle.pq_apply.proofs.AtomTrees.{counts_one}
+use Rattle.pq_rewrite.specs.Choices.{ChoosesByAt, FitByAt, field_needs, passes_after, test_needs}
 use Rattle.pq_rewrite.proofs.Choosing.{IsCondition, chooses_same}
 use Rattle.pq_rewrite.proofs.Numbers.{passes_unwritten, passes_written}
 
@@ -46,16 +46,18 @@ leaves_differ (Bit f i) same = absurd cc
 
 -- the diagram of a test says whether a packet passes it, and tests nothing else
 pub passing_condition : (w : Written) (t : Test) (cs : List (Tree Bool)) (k : ℕ) → slice_get cs k ≡ Some (test_tree t) → HasAt (IsCondition (passes t) (test_needs w t)) cs k
-passing_condition w t cs k is = (test_tree t, is, record { tells = λ x fit. same (passes t x); tests = λ ns needs f v tested. only ns needs.0 f v tested })
+passing_condition w t cs k is = (
+  test_tree t,
+  is,
+  record {
+    tells = λ x fit. same (passes t x);
+    tests = λ ns needs. fork_within ns t (Tip true) (Tip false) needs.0 (tip_within ns true) (tip_within ns false);
+  },
+)
   where
     same : (b : Bool) → (if b then true else false) ≡ b
     same true = refl
     same false = refl
-
-    only : (ns : Field → List ℕ) → IsTestWithin ns t → Within ns (test_tree t)
-    only ns within f v (inl is) = subst (IsTestWithin ns) (sym is) within
-    only ns within f v (inr (inl none)) = absurd none
-    only ns within f v (inr (inr none)) = absurd none
 
 module _ {L : Type 0} where
   -- the tree at the place of one of two sides
@@ -107,20 +109,17 @@ module _ {L : Type 0} (w : Written) (t : Test) (n : ℕ) (written : written_in (
   passed_fit old mid i j side unwritten is keeps i_within j_within fits chooses u r u_is r_is =
       let left_at = at_place old i i_within in
       let right_at = at_place old j j_within in
-      let fit = fits left_at.0 right_at.0 left_at.1 right_at.1 in
       let chosen = chooses left_at.0 right_at.0 left_at.1 right_at.1 in
       let there = chosen.1 in
       let choice = chosen.2 in
       let here = side_is (decides t n) mid i j side left_at.0 right_at.0 (keeps i left_at.0 left_at.1) (keeps j right_at.0 right_at.1) is in
       let u_same : (if decides t n then left_at.0 else right_at.0) ≡ u = cc in
       let r_same : chosen.0 ≡ r = cc in
-      record {
-        numbers = fit.numbers;
-        few = fit.few;
-        needs = fit.needs.1 n written;
-        left = subst (Within fit.numbers) u_same (side_within (decides t n) fit.numbers left_at.0 right_at.0 fit.left fit.right);
-        right = subst (Within fit.numbers) r_same (choice.tests fit.numbers fit.needs fit.left fit.right);
-      }
+      room_for (λ ns within. (
+        within.0.1 n written,
+        subst (Within ns) u_same (side_within (decides t n) ns left_at.0 right_at.0 within.1 within.2),
+        subst (Within ns) r_same (choice.tests ns within.0 within.1 within.2),
+      )) (fits left_at.0 right_at.0 left_at.1 right_at.1)
 
   -- and the choice of them by presence is that by the test of packets that are written first
   pub passed_chosen : (old mid new : List (Tree L)) (i j side unwritten id : ℕ) → side ≡ (if decides t n then i else j) → Keeps old mid

@@ -1,5 +1,5 @@
 -- Each leaf of a diagram is reached by a packet, so what is known of a tree's values is known of its leaves.
-use Rattle.std.proofs.Common.{◌≡◌, ◌∙◌, ℕ, Bool, true, false, List, refl, sym, ap, subst, inl, inr, pow_pos}
+use Rattle.std.proofs.Common.{◌≡◌, ◌∙◌, ℕ, Bool, true, false, List, [], refl, sym, ap, subst, inl, inr, pow_pos}
 use Rattle.std.specs.Prelude.{if◌then◌else◌, slice_index_or}
 use Rattle.std.specs.List.{All}
 use Rattle.std.proofs.lemmas.List.Elements.{All-contains_itself}
@@ -11,9 +11,9 @@ use Rattle.pq_store.specs.Tree.{Tree, value, past, IsPartOf}
 use Rattle.pq_store.specs.Tree.Tree.{Tip, Fork}
 use Rattle.pq_store.specs.Diagram.{IsDiagram}
 use Rattle.pq_store.proofs.Point.{Point, answer, leaf_at, InRange}
-use Rattle.pq_store.proofs.Points.{IsTurned, yes_point, yes_turns, says_same}
+use Rattle.pq_store.proofs.Points.{IsTurned, no_point, says_same, yes_point, yes_turns}
 use Rattle.pq_store.proofs.Packets.{packet_of, packet_fits, value_packet_of}
-use Rattle.pq_store.proofs.Past.{hit, past_skips, room, Misses, miss}
+use Rattle.pq_store.proofs.Past.{Misses, free_number, hit, miss, past_skips, room}
 use Rattle.pq_store.proofs.Sides.{yes_diagram, no_diagram, past_diagram, past_before}
 use Rattle.pq_rewrite.specs.Rewriting.{IsIdleFree, Covers, CoversWrites}
 use Rattle.pq_rewrite.specs.Sequence.{CoversLeaves}
@@ -53,8 +53,9 @@ module _ {L : Type 0} where
   no_turned : (s : Test) (y n : Tree L) (p : Point) → IsDiagram (Fork s y n) → InRange p → answer s p ≡ true → IsReached (Fork s y n) (leaf_at n p)
   no_turned s y n p d range passed =
       let own : IsDiagram n = no_diagram s y n d in
-      let missed : Misses s n n p = miss s n n p (room s y n n d.fits own.fits) range in
-      let q : Point = missed.point in
+      let free = free_number s n n [] (room s y n n d.fits own.fits) in
+      let q : Point = no_point s free.0 p in
+      let missed : Misses s n n p q = miss s n n free.0 p free.1 range in
       let same = says_same s (past s n) p q missed.turned.alike (past_before s s n d.ascends.1 own) (past_diagram s n own).ascends (past_skips s n d.lawful.0 d.ascends.1 own) in
       record {
         point = q;

@@ -2,16 +2,16 @@
 use Rattle.std.proofs.Common.{ℕ, ◌<◌, ◌≡◌, ◌∙◌, List, length, Some, if◌then◌else◌, refl, sym, ap, subst, eqb-true}
 use Rattle.std.specs.Prelude.{◌==◌, slice_get}
 use Rattle.std.specs.List.{Any}
-use Rattle.std.proofs.lemmas.List.Elements.{All-weaker}
 use Rattle.indexmap.specs.IndexMap.{IndexMap, Updates}
 use Rattle.pq_fields.specs.declared.field.Field.{Field}
-use Rattle.pq_fields.specs.Writes.{Written, AllFit, no_writes, on}
+use Rattle.pq_fields.specs.Writes.{Written, no_writes, on}
 use Rattle.pq_store.specs.declared.test.Test.{Test}
 use Rattle.pq_store.specs.Test.{passes}
 use Rattle.pq_store.specs.Tree.{Tree, value}
 use Rattle.pq_store.specs.Tree.Tree.{Fork, Tip}
 use Rattle.pq_store.specs.Store.{Keeps, ShowsBranch}
 use Rattle.pq_store.proofs.Elements.{at_place}
+use Rattle.pq_store.proofs.RoomLemmas.{room_for}
 use Rattle.pq_apply.specs.Memo.{Remembers}
 use Rattle.pq_apply.proofs.Kept.{tree_before}
 use Rattle.pq_apply.proofs.Remembered.{remembers_more, remembers_still}
@@ -19,7 +19,7 @@ use Rattle.pq_rewrite.specs.Choices.{ChoosesByAt, FitByAt, IsChoiceBy, passes_af
 use Rattle.pq_rewrite.specs.Rewriting.{CoversWrites, Gives, IsGiven}
 use Rattle.pq_rewrite.specs.Sequence.{AllReady, FitAsFollowedEachAt, FitAsSequence, FitAsSequenceAt, FollowsEachAt, IsInSequence, IsSequencedAt}
 use Rattle.pq_rewrite.proofs.Diffs.{none_written, on_none}
-use Rattle.pq_rewrite.proofs.Following.{chosen_given, covers_no, covers_yes, root_needs}
+use Rattle.pq_rewrite.proofs.Following.{chosen_given, covers_no, covers_yes, leaf_numbers, root_needs}
 
 -- any numbers cover no writes
 none_covered : (ns : Field → List ℕ) → CoversWrites ns no_writes
@@ -40,10 +40,10 @@ both_sequenced s y n u a b r left right choice = record {
 
 -- a tree may come behind both sides of a fork where it may come behind the fork
 yes_fits : (s : Test) (y n u : Tree (List Written)) → FitAsSequence (Fork s y n) u → FitAsSequence y u
-yes_fits s y n u fit = record { numbers = fit.numbers; few = fit.few; first = covers_yes fit.numbers s y n fit.first; second = fit.second }
+yes_fits s y n u = room_for (λ ns within. (covers_yes ns s y n within.0, within.1))
 
 no_fits : (s : Test) (y n u : Tree (List Written)) → FitAsSequence (Fork s y n) u → FitAsSequence n u
-no_fits s y n u fit = record { numbers = fit.numbers; few = fit.few; first = covers_no fit.numbers s y n fit.first; second = fit.second }
+no_fits s y n u = room_for (λ ns within. (covers_no ns s y n within.0, within.1))
 
 module _ (old mid : List (Tree (List Written))) (k i j l : ℕ) (s : Test) (inside : l < length old) (keeps : Keeps old mid) (shows : ShowsBranch old k s i j)
     (fits : FitAsSequenceAt old k l) where
@@ -90,17 +90,7 @@ sequenced_still old new k l id keeps made = record {
 
 -- each of the writes at a leaf may come before the second tree
 pub leaf_before : (ts : List (Tree (List Written))) (k l : ℕ) (ws : List Written) → slice_get ts k ≡ Some (Tip ws) → FitAsSequenceAt ts k l → FitAsFollowedEachAt ws ts l
-leaf_before ts k l ws is fits u u_is =
-    let fit = fits (Tip ws) u is u_is in
-    let covers = fit.first in
-    let all = covers.leaves ws refl in
-    record {
-      numbers = fit.numbers;
-      few = fit.few;
-      fit = All-weaker (λ v. AllFit v × CoversWrites fit.numbers v) AllFit (λ v both. both.0) ws all;
-      first = All-weaker (λ v. AllFit v × CoversWrites fit.numbers v) (CoversWrites fit.numbers) (λ v both. both.1) ws all;
-      second = fit.second;
-    }
+leaf_before ts k l ws is fits u u_is = room_for (λ ns within. (leaf_numbers ns ws within.0, within.1)) (fits (Tip ws) u is u_is)
 
 -- and what follows each is in sequence
 pub leaf_sequenced : (old new : List (Tree (List Written))) (k l id : ℕ) (ws : List Written) → l < length old → Keeps old new → slice_get old k ≡ Some (Tip ws) → FollowsEachAt ws old l new id
@@ -118,7 +108,7 @@ leaf_sequenced old new k l id ws inside keeps is each =
       sequenced_is = made.1;
       sequence = record {
         giving = followed.giving;
-        tests = λ ns first second. followed.tests ns (All-weaker (λ v. AllFit v × CoversWrites ns v) (CoversWrites ns) (λ v both. both.1) ws (first.leaves ws refl)) second;
+        tests = λ ns first second. followed.tests ns (leaf_numbers ns ws first) second;
       };
     }
 
@@ -131,17 +121,13 @@ module _ (old mid : List (Tree (List Written))) (k i j l a b : ℕ) (s : Test) (
       let n = shows.no_tree in
       let u = at_place old l inside in
       let u_there = keeps l u.0 u.1 in
-      let fit = fits (Fork s y n) u.0 shows.is u.1 in
-      let ns = fit.numbers in
       let left = sequenced_there mid i l a y u.0 v yes_made (keeps i y shows.yes_is) u_there v_is in
       let right = sequenced_there mid j l b n u.0 w no_made (keeps j n shows.no_is) u_there w_is in
-      record {
-        numbers = ns;
-        few = fit.few;
-        needs = root_needs ns no_writes s y n (none_covered ns) fit.first;
-        left = left.tests ns (covers_yes ns s y n fit.first) fit.second;
-        right = right.tests ns (covers_no ns s y n fit.first) fit.second;
-      }
+      room_for (λ ns within. (
+        root_needs ns no_writes s y n (none_covered ns) within.0,
+        left.tests ns (covers_yes ns s y n within.0) within.1,
+        right.tests ns (covers_no ns s y n within.0) within.1,
+      )) (fits (Fork s y n) u.0 shows.is u.1)
 
   -- and their choice is the sequence of the whole
   pub chosen_sequenced : (new : List (Tree (List Written))) (id : ℕ) → Keeps mid new → ChoosesByAt (passes_after no_writes s) (test_needs no_writes s) mid a b new id → IsSequencedAt new k l id

@@ -6,7 +6,7 @@ use Rattle.pq_fields.specs.declared.field.Field.TheVariants.{Switch, Port, EthTy
 use Rattle.pq_fields.specs.Packet.{Numbers}
 use Rattle.pq_fields.specs.Writes.{Written, AllFit, is_writable, no_writes, on, with_write, written_in}
 use Rattle.pq_store.specs.Tree.{Tree}
-use Rattle.pq_rewrite.specs.Calls.{HasAt}
+use Rattle.pq_store.specs.Store.{HasAt}
 use Rattle.pq_rewrite.specs.Choices.{ChoosesByAt, FitByAt, IsChoiceBy, change_needs, differs}
 use Rattle.pq_rewrite.specs.Rewriting.{IsGiven}
 use Rattle.pq_rewrite.specs.Settled.{IsSettled, IsSettledFrom, with_change, with_changes}
@@ -26,7 +26,7 @@ module _ (f : Field) (n : ℕ) (fs : List Field) (w done : Written) (is : writte
       let ns = numbers_of w in
       let left = has_there (IsSettledFrom fs w (with_write f n done)) ts i y first y_is in
       let right = has_there (IsSettledFrom fs w done) ts j m second m_is in
-      record { numbers = ns; few = numbers_few w; needs = numbers_cover w f n is; left = left.tests ns (numbers_cover w); right = right.tests ns (numbers_cover w) }
+      record { numbers = ns; few = numbers_few w; within = (numbers_cover w f n is, left.tests ns (numbers_cover w), right.tests ns (numbers_cover w)) }
 
   -- the choice writes the field too, where it changes
   settled_joined : (y m r : Tree (List Written)) → IsSettledFrom fs w (with_write f n done) y → IsSettledFrom fs w done m → IsChoiceBy (differs f n) (change_needs f n) y m r

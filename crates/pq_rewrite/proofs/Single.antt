@@ -8,8 +8,8 @@ use Rattle.pq_fields.specs.Packet.{Numbers, number_in, rank}
 use Rattle.pq_fields.specs.Writes.{Written, no_writes, number_after, on, with_write, written_in}
 use Rattle.pq_store.specs.Tree.{Tree, value}
 use Rattle.pq_store.proofs.Order.{rank_injective}
+use Rattle.pq_store.specs.Room.{IsCounted}
 use Rattle.pq_apply.specs.Predicates.{NeedsAmong}
-use Rattle.pq_apply.specs.Together.{IsAmong}
 use Rattle.pq_rewrite.specs.Calls.{IsWriting}
 use Rattle.pq_rewrite.specs.Rewriting.{ChangesAll, CoversWrites, IsGiven, IsToWrite}
 use Rattle.pq_rewrite.specs.Settled.{IsSettled}
@@ -44,10 +44,10 @@ written_given x w ws given g m (k, u, within, at, is) =
 pub is_writing : (f : Field) (n : ℕ) (t : Tree (List Written)) → IsSettled (with_write f n no_writes) t → IsWriting f n t
 is_writing f n t settled = record { giving = settled.giving; tests = λ ns number needs. settled.tests ns (covers ns number needs); writes = writes }
   where
-    covers : (ns : Field → List ℕ) → IsAmong n (ns f) → NeedsAmong ns f → CoversWrites ns (with_write f n no_writes)
+    covers : (ns : Field → List ℕ) → IsCounted ns f n → NeedsAmong ns f → CoversWrites ns (with_write f n no_writes)
     covers ns number needs g m is =
         let only = alone f g n m is in
-        (subst (λ h. IsAmong m (ns h)) (sym only.0) (subst (λ k. IsAmong k (ns f)) (sym only.1) number), subst (NeedsAmong ns) (sym only.0) needs)
+        (subst (λ h. IsCounted ns h m) (sym only.0) (subst (IsCounted ns f) (sym only.1) number), subst (NeedsAmong ns) (sym only.0) needs)
 
     writes : (g : Field) (m : ℕ) → IsToWrite g m t → (g ≡ f) × (m ≡ n)
     writes g m (x, fit, written) = alone f g n m (written_given x (with_write f n no_writes) (value t x) (settled.giving x fit) g m written)

@@ -2,9 +2,8 @@
 use Rattle.std.proofs.Common.{ℕ, ◌<◌, ◌≡◌, List, length, Some, subst}
 use Rattle.std.specs.Prelude.{slice_get}
 use Rattle.std.proofs.lemmas.Option.{slice_get_within}
-use Rattle.pq_store.specs.Store.{Keeps}
+use Rattle.pq_store.specs.Store.{HasAt, Keeps}
 use Rattle.pq_store.specs.Tree.{Tree}
-use Rattle.pq_rewrite.specs.Calls.{HasAt}
 
 module _ {L : Type 0} (P : Tree L → Type 0) where
   -- a tree at a place stands within

@@ -11,12 +11,13 @@ use Rattle.pq_store.specs.Test.{field_of, passes}
 use Rattle.pq_store.specs.Tree.{Tree, value, IsTested}
 use Rattle.pq_store.specs.Tree.Tree.{Fork, Tip}
 use Rattle.pq_store.specs.Store.{Keeps, ShowsBranch}
+use Rattle.pq_store.specs.Room.{IsTestWithin, Within}
+use Rattle.pq_store.proofs.RoomLemmas.{room_for}
 use Rattle.pq_apply.specs.Memo.{Remembers}
-use Rattle.pq_apply.specs.Together.{Within}
 use Rattle.pq_apply.proofs.Remembered.{remembers_more, remembers_still}
 use Rattle.pq_apply.proofs.Restricted.{side_at, side_part}
 use Rattle.pq_rewrite.specs.Calls.{ComesAfterAt, FitsAfter, FitsAfterAt, IsAfter, NeedsOf}
-use Rattle.pq_rewrite.specs.Choices.{ChoosesByAt, FitByAt, IsStepAt, IsTestWithin, IsToldAt, passes_after, test_needs}
+use Rattle.pq_rewrite.specs.Choices.{ChoosesByAt, FitByAt, IsStepAt, IsToldAt, passes_after, test_needs}
 use Rattle.pq_rewrite.specs.declared.written.Step.TheVariants.{Side}
 
 module _ {L : Type 0} where
@@ -79,7 +80,7 @@ module _ {L : Type 0} where
 
   -- trees of the tests of one that fits fit too
   part_fits : (w : Written) (t u : Tree L) → ((s : Test) → IsTested s u → IsTested s t) → FitsAfter w t → FitsAfter w u
-  part_fits w t u part fit = record { numbers = fit.numbers; few = fit.few; tree = λ f v tested. fit.tree f v (part (Equal f v) tested); needs = fit.needs }
+  part_fits w t u part = room_for (λ ns within. (λ f v tested. within.0 f v (part (Equal f v) tested), within.1))
 
   -- so the side that is reached fits
   pub side_fits : (w : Written) (from : List (Tree L)) (k next : ℕ) → IsStepAt w from k (Side next) → FitsAfterAt w from k → FitsAfterAt w from next
@@ -128,7 +129,7 @@ module _ {L : Type 0} where
       }
 
   -- the numbers of a fork have those of its test
-  test_within : (ns : Field → List ℕ) (t : Test) (y n : Tree L) → Within ns (Fork t y n) → IsTestWithin ns t
+  pub test_within : (ns : Field → List ℕ) (t : Test) (y n : Tree L) → Within ns (Fork t y n) → IsTestWithin ns t
   test_within ns (Equal f v) y n within = within f v (inl refl)
   test_within ns (Bit f i) y n within = tt
 
@@ -150,17 +151,14 @@ module _ {L : Type 0} where
   told_fit w from into k i j a b t shows fits left right u v u_is v_is =
       let y = shows.yes_tree in
       let n = shows.no_tree in
-      let fit = fits (Fork t y n) shows.is in
       let sides = sides_told w from into k i j a b t u v shows left right u_is v_is in
       let yes_after = sides.left in
       let no_after = sides.right in
-      record {
-        numbers = fit.numbers;
-        few = fit.few;
-        needs = test_needed fit.numbers w t y n fit.tree fit.needs;
-        left = yes_after.tests fit.numbers (yes_within fit.numbers t y n fit.tree) fit.needs;
-        right = no_after.tests fit.numbers (no_within fit.numbers t y n fit.tree) fit.needs;
-      }
+      room_for (λ ns within. (
+        test_needed ns w t y n within.0 within.1,
+        yes_after.tests ns (yes_within ns t y n within.0) within.1,
+        no_after.tests ns (no_within ns t y n within.0) within.1,
+      )) (fits (Fork t y n) shows.is)
 
   -- the choice of them is told of the whole
   pub told_both : (w : Written) (from into new : List (Tree L)) (k i j a b id : ℕ) (t : Test) → ShowsBranch from k t i j

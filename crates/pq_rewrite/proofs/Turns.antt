@@ -8,9 +8,11 @@ use Rattle.pq_fields.specs.Writes.{Written, AllFit, on}
 use Rattle.pq_store.specs.declared.test.Test.TheVariants.{Equal}
 use Rattle.pq_store.specs.Tree.{Tree, value}
 use Rattle.pq_store.specs.Tree.Tree.{Tip}
+use Rattle.pq_store.specs.Store.{HasAt}
+use Rattle.pq_store.specs.Room.{Within}
+use Rattle.pq_store.proofs.RoomLemmas.{room_for}
 use Rattle.pq_apply.specs.Product.{FitTogetherAt}
-use Rattle.pq_apply.specs.Together.{Within}
-use Rattle.pq_rewrite.specs.Calls.{HasAt, IsIdleFreeAt, IsUnion}
+use Rattle.pq_rewrite.specs.Calls.{IsIdleFreeAt, IsUnion}
 use Rattle.pq_rewrite.specs.Merged.{IsMerge, MergesAt}
 use Rattle.pq_rewrite.specs.Rewriting.{ChangesAll, CoversWrites, Gives, IsGiving, IsIdleFree}
 use Rattle.pq_rewrite.specs.Sequence.{FitInTurn, IsInTurn}
@@ -56,6 +58,14 @@ none_in_turn w = record {
   tests = λ ns covers f v none. absurd none;
 }
 
+-- two halves of writes may come after others where all may
+pub turn_parts : (front back : List Written) → FitInTurn (front ++ back) → FitInTurn front × FitInTurn back
+turn_parts front back fit =
+    let fits = all_halves AllFit front back fit.0 in (
+      (fits.0, room_for (λ ns within. (all_halves (CoversWrites ns) front back within).0) fit.1),
+      (fits.1, room_for (λ ns within. (all_halves (CoversWrites ns) front back within).1) fit.1),
+    )
+
 module _ (w : Written) (front back : List Written) where
   -- the tree that is merged of those of two halves gives what is written by either
   halves_in_turn : (t u r : Tree (List Written)) → IsInTurn w front t → IsInTurn w back u → IsMerge t u r → IsInTurn w (front ++ back) r
@@ -70,24 +80,13 @@ module _ (w : Written) (front back : List Written) where
         merge_within t u r merge ns (left.tests ns parts.0) (right.tests ns parts.1);
   }
 
-  -- both halves may come in turn where all may
-  pub turn_parts : FitInTurn w (front ++ back) → FitInTurn w front × FitInTurn w back
-  turn_parts fit =
-      let fits = all_halves AllFit front back fit.fit in
-      let numbers = all_halves (CoversWrites fit.numbers) front back fit.second in (
-        record { numbers = fit.numbers; few = fit.few; fit = fits.0; second = numbers.0 },
-        record { numbers = fit.numbers; few = fit.few; fit = fits.1; second = numbers.1 },
-      )
-
   module _ (ts : List (Tree (List Written))) (i j : ℕ) (left : HasAt (IsInTurn w front) ts i) (right : HasAt (IsInTurn w back) ts j) where
     -- their trees may come together
-    pub turn_halves_fit : FitInTurn w (front ++ back) → FitTogetherAt ts i ts j
+    pub turn_halves_fit : FitInTurn (front ++ back) → FitTogetherAt ts i ts j
     turn_halves_fit fit t u t_is u_is =
-        let ns = fit.numbers in
-        let parts = all_halves (CoversWrites ns) front back fit.second in
         let first = has_there (IsInTurn w front) ts i t left t_is in
         let second = has_there (IsInTurn w back) ts j u right u_is in
-        record { numbers = ns; few = fit.few; left = first.tests ns parts.0; right = second.tests ns parts.1 }
+        room_for (λ ns within. let parts = all_halves (CoversWrites ns) front back within in (first.tests ns parts.0, second.tests ns parts.1)) fit.1
 
     -- and what is merged of them is the tree of all
     pub turn_merged : (new : List (Tree (List Written))) (id : ℕ) → MergesAt ts i j new id → HasAt (IsInTurn w (front ++ back)) new id

@@ -5,8 +5,9 @@ use Rattle.pq_fields.specs.Packet.{Numbers, Fit}
 use Rattle.pq_fields.specs.Writes.{Written, no_writes, on, with_write, written_in}
 use Rattle.pq_store.specs.declared.test.Test.{Test}
 use Rattle.pq_store.specs.Tree.{Tree, value, IsTested}
+use Rattle.pq_store.specs.Store.{HasAt}
+use Rattle.pq_store.specs.Room.{HasRoom, IsCounted, Within}
 use Rattle.pq_apply.specs.Predicates.{NeedsAmong}
-use Rattle.pq_apply.specs.Together.{AreFew, IsAmong, Within}
 use Rattle.pq_apply.specs.Junction.{FitTogetherAll}
 use Rattle.pq_rewrite.specs.Rewriting.{IsGiving, IsToWrite, IsIdleFree, Gives, Covers}
 
@@ -14,11 +15,7 @@ use Rattle.pq_rewrite.specs.Rewriting.{IsGiving, IsToWrite, IsIdleFree, Gives, C
 abbrev pub IsIdleFreeAt : List (Tree (List Written)) → ℕ → Type 0
 IsIdleFreeAt ts k = (t : Tree (List Written)) → slice_get ts k ≡ Some t → IsIdleFree t
 
--- the tree at a place has this
-abbrev pub HasAt : {L : Type 0} → (Tree L → Type 0) → List (Tree L) → ℕ → Type 0
-HasAt {L} P ts k = (t : Tree L) × (slice_get ts k ≡ Some t) × P t
-
--- the numbers that a tree tests are at most half of each field's less one
+-- there is room for the numbers that a tree tests
 abbrev pub FitsAloneAt : List (Tree Bool) → ℕ → Type 0
 FitsAloneAt cs k = (c : Tree Bool) → slice_get cs k ≡ Some c → FitTogetherAll (c ∷ [])
 
@@ -34,7 +31,7 @@ KeepsWhereAt cs k ts id = (c : Tree Bool) → slice_get cs k ≡ Some c → HasA
 -- the tree gives the packet with the number written into the field
 pub record IsWriting (f : Field) (n : ℕ) (t : Tree (List Written)) : Type 0 where
   pub giving : IsGiving (λ x y. y ≡ on (with_write f n no_writes) x) t
-  pub tests : (ns : Field → List ℕ) → IsAmong n (ns f) → NeedsAmong ns f → Within ns t
+  pub tests : (ns : Field → List ℕ) → IsCounted ns f n → NeedsAmong ns f → Within ns t
   pub writes : (g : Field) (m : ℕ) → IsToWrite g m t → (g ≡ f) × (m ≡ n)
 
 -- the tree gives what one of two trees gives
@@ -47,12 +44,9 @@ abbrev pub UnitesAt : List (Tree (List Written)) → ℕ → ℕ → List (Tree 
 UnitesAt old i j new id =
     (t u : Tree (List Written)) → slice_get old i ≡ Some t → slice_get old j ≡ Some u → HasAt (IsUnion t u) new id
 
--- the numbers of two trees in sequence are at most half of each field's less one
-pub record FitInSequence (t u : Tree (List Written)) : Type 0 where
-  pub numbers : Field → List ℕ
-  pub few : AreFew numbers
-  pub first : Covers numbers t
-  pub second : Covers numbers u
+-- two trees may come in sequence: there is room for what they test and write, and for the prerequisites of what they write
+abbrev pub FitInSequence : Tree (List Written) → Tree (List Written) → Type 0
+FitInSequence t u = HasRoom (λ ns. Covers ns t × Covers ns u)
 
 abbrev pub FitInSequenceAt : List (Tree (List Written)) → ℕ → ℕ → Type 0
 FitInSequenceAt ts i j = (t u : Tree (List Written)) → slice_get ts i ≡ Some t → slice_get ts j ≡ Some u → FitInSequence t u
@@ -72,12 +66,9 @@ abbrev pub NeedsOf : (Field → List ℕ) → Written → Type 0
 NeedsOf ns w = (f : Field) (n : ℕ) → written_in f w ≡ Some n → NeedsAmong ns f
 
 module _ {M : Type 0} where
-  -- the numbers that the tree tests, and those in prerequisites of the fields that are written, are at most half of each field's less one
-  pub record FitsAfter (w : Written) (t : Tree M) : Type 0 where
-    pub numbers : Field → List ℕ
-    pub few : AreFew numbers
-    pub tree : Within numbers t
-    pub needs : NeedsOf numbers w
+  -- a tree may come after writes: there is room for the numbers that it tests, and those in prerequisites of the fields that are written
+  abbrev pub FitsAfter : Written → Tree M → Type 0
+  FitsAfter w t = HasRoom (λ ns. Within ns t × NeedsOf ns w)
 
   abbrev pub FitsAfterAt : Written → List (Tree M) → ℕ → Type 0
   FitsAfterAt w ts k = (t : Tree M) → slice_get ts k ≡ Some t → FitsAfter w t

@@ -6,14 +6,13 @@ use Rattle.pq_fields.specs.Packet.{Numbers, Fit, has_field, number_in}
 use Rattle.pq_fields.specs.Pred.{IsLawfulPred, holds, pred_tree}
 use Rattle.pq_fields.specs.Writes.{Written, on, written_in}
 use Rattle.pq_store.specs.declared.test.Test.{Test}
-use Rattle.pq_store.specs.declared.test.Test.TheVariants.{Equal, Bit}
 use Rattle.pq_store.specs.Test.{field_of, passes}
 use Rattle.pq_store.specs.Tree.{Tree, value}
 use Rattle.pq_store.specs.Tree.Tree.{Tip}
-use Rattle.pq_store.specs.Store.{ShowsBranch}
+use Rattle.pq_store.specs.Store.{HasAt, ShowsBranch}
+use Rattle.pq_store.specs.Room.{HasRoom, IsCounted, IsTestWithin, Within}
 use Rattle.pq_apply.specs.Predicates.{IsPredWithin, NeedsAmong}
-use Rattle.pq_apply.specs.Together.{AreFew, IsAmong, Within}
-use Rattle.pq_rewrite.specs.Calls.{HasAt, IsAfter}
+use Rattle.pq_rewrite.specs.Calls.{IsAfter}
 use Rattle.pq_rewrite.specs.declared.written.Step.{Step}
 use Rattle.pq_rewrite.specs.declared.written.Step.TheVariants.{Leaf, Side, Both}
 
@@ -28,20 +27,16 @@ abbrev pub TellsPresence : Field → Option Pred → Type 0
 TellsPresence f None = (x : Numbers) → has_field f x ≡ true
 TellsPresence f (Some p) = IsPresence f p
 
--- what the numbers tested by a choice have to be among, and those that both trees test, are at most half of each field's less one
-pub record FitBy {L : Type 0} (Needs : (Field → List ℕ) → Type 0) (y n : Tree L) : Type 0 where
-  pub numbers : Field → List ℕ
-  pub few : AreFew numbers
-  pub needs : Needs numbers
-  pub left : Within numbers y
-  pub right : Within numbers n
-
 -- the tree has the value of the one where this holds of a packet, and of the other elsewhere
 pub record IsChoiceBy {L : Type 0} (c : Numbers → Bool) (Needs : (Field → List ℕ) → Type 0) (y n r : Tree L) : Type 0 where
   pub gives : (x : Numbers) → Fit x → value r x ≡ (if c x then value y x else value n x)
   pub tests : (ns : Field → List ℕ) → Needs ns → Within ns y → Within ns n → Within ns r
 
 module _ {L : Type 0} where
+  -- two trees may be chosen from: there is room for the numbers that the choice and they test
+  abbrev pub FitBy : ((Field → List ℕ) → Type 0) → Tree L → Tree L → Type 0
+  FitBy Needs y n = HasRoom (λ ns. Needs ns × Within ns y × Within ns n)
+
   abbrev pub FitByAt : ((Field → List ℕ) → Type 0) → List (Tree L) → ℕ → ℕ → Type 0
   FitByAt Needs ts i j = (y n : Tree L) → slice_get ts i ≡ Some y → slice_get ts j ≡ Some n → FitBy Needs y n
 
@@ -57,16 +52,11 @@ abbrev pub differs : Field → ℕ → Numbers → Bool
 differs f n x = has_field f x && not (number_in f x == n)
 
 abbrev pub change_needs : Field → ℕ → (Field → List ℕ) → Type 0
-change_needs f n ns = IsAmong n (ns f) × NeedsAmong ns f
+change_needs f n ns = IsCounted ns f n × NeedsAmong ns f
 
 -- by whether a packet passes the test once it is written
 abbrev pub passes_after : Written → Test → Numbers → Bool
 passes_after w t x = passes t (on w x)
-
--- the number that is tested is among these
-abbrev pub IsTestWithin : (Field → List ℕ) → Test → Type 0
-IsTestWithin ns (Equal f n) = IsAmong n (ns f)
-IsTestWithin ns (Bit f i) = Unit {0}
 
 abbrev pub test_needs : Written → Test → (Field → List ℕ) → Type 0
 test_needs w t ns = IsTestWithin ns t × ((n : ℕ) → written_in (field_of t) w ≡ Some n → NeedsAmong ns (field_of t))

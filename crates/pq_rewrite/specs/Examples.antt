@@ -2,8 +2,8 @@
 use Rattle.std.specs.Prelude.{ℕ, List}
 use Rattle.pq_fields.specs.Writes.{Written}
 use Rattle.pq_store.specs.Tree.{Tree}
+use Rattle.pq_store.specs.Store.{HasAt}
 use Rattle.pq_apply.specs.Examples.{example_numbers}
-use Rattle.pq_rewrite.specs.Calls.{HasAt}
 use Rattle.pq_rewrite.specs.Rewriting.{Covers, IsIdleFree}
 
 -- an idle-free tree that tests and writes only the numbers of examples

@@ -7,8 +7,8 @@ use Rattle.pq_fields.specs.Order.{writes_cmp}
 use Rattle.pq_fields.specs.Packet.{Numbers, Fit, has_field, number_in}
 use Rattle.pq_fields.specs.Writes.{Written, AllFit, on, written_in}
 use Rattle.pq_store.specs.Tree.{Tree, value}
+use Rattle.pq_store.specs.Room.{IsCounted, Within}
 use Rattle.pq_apply.specs.Predicates.{NeedsAmong}
-use Rattle.pq_apply.specs.Together.{IsAmong, Within}
 
 -- each stands before all behind it, so each stands once
 abbrev pub Ascend : List Written → Type 0
@@ -48,11 +48,11 @@ IsToWrite f n t = (x : Numbers) × Fit x × Any (λ w. written_in f w ≡ Some n
 -- the numbers that are tested, those that are written, and those in prerequisites of the fields so written, are among these
 pub record Covers (ns : Field → List ℕ) (t : Tree (List Written)) : Type 0 where
   pub tests : Within ns t
-  pub writes : (f : Field) (n : ℕ) → IsToWrite f n t → IsAmong n (ns f) × NeedsAmong ns f
+  pub writes : (f : Field) (n : ℕ) → IsToWrite f n t → IsCounted ns f n × NeedsAmong ns f
 
 -- the numbers of the writes, and those in prerequisites of their fields, are among these
 abbrev pub CoversWrites : (Field → List ℕ) → Written → Type 0
-CoversWrites ns w = (f : Field) (n : ℕ) → written_in f w ≡ Some n → IsAmong n (ns f) × NeedsAmong ns f
+CoversWrites ns w = (f : Field) (n : ℕ) → written_in f w ≡ Some n → IsCounted ns f n × NeedsAmong ns f
 
 -- idle-free trees that give the same packets everywhere have one id
 abbrev pub IsCanonicalRewriting : List (Tree (List Written)) → Type 0

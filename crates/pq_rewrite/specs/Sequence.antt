@@ -8,8 +8,8 @@ use Rattle.pq_fields.specs.Packet.{Numbers, Fit}
 use Rattle.pq_fields.specs.Writes.{Written, AllFit, on}
 use Rattle.pq_store.specs.Tree.{Tree, value, IsPartOf}
 use Rattle.pq_store.specs.Tree.Tree.{Tip}
-use Rattle.pq_apply.specs.Together.{AreFew, Within}
-use Rattle.pq_rewrite.specs.Calls.{HasAt}
+use Rattle.pq_store.specs.Store.{HasAt}
+use Rattle.pq_store.specs.Room.{HasRoom, Within}
 use Rattle.pq_rewrite.specs.Rewriting.{ChangesAll, CoversWrites, Gives, IsGiven, IsWrittenBy}
 
 -- the numbers of the second, and those of the first in the other fields
@@ -45,24 +45,18 @@ pub record CoversLeaves (ns : Field → List ℕ) (t : Tree (List Written)) : Ty
   pub tests : Within ns t
   pub leaves : (l : List Written) → IsPartOf (Tip l) t → All (λ w. AllFit w × CoversWrites ns w) l
 
--- writes one after another: the first, and then each of these.
-pub record FitInTurn (w : Written) (ws : List Written) : Type 0 where
-  pub numbers : Field → List ℕ
-  pub few : AreFew numbers
-  pub fit : All AllFit ws
-  pub second : All (CoversWrites numbers) ws
+-- writes may come after others: they fit, and there is room for their numbers and those in prerequisites.
+abbrev pub FitInTurn : List Written → Type 0
+FitInTurn ws = All AllFit ws × HasRoom (λ ns. All (CoversWrites ns) ws)
 
 -- where the writes change the packet, the tree gives the packet written by the first and by one of the others
 pub record IsInTurn (w : Written) (ws : List Written) (t : Tree (List Written)) : Type 0 where
   pub giving : (x : Numbers) → Fit x → ChangesAll x w → All (ChangesAll (on w x)) ws → IsGiven x (λ y. Any (λ v. y ≡ on v (on w x)) ws) (value t x)
   pub tests : (ns : Field → List ℕ) → All (CoversWrites ns) ws → Within ns t
 
--- writes, and then a tree.
-pub record FitAsFollowed (w : Written) (u : Tree (List Written)) : Type 0 where
-  pub numbers : Field → List ℕ
-  pub few : AreFew numbers
-  pub first : CoversWrites numbers w
-  pub second : CoversLeaves numbers u
+-- there is room for the numbers of writes and of a tree that follows.
+abbrev pub FitAsFollowed : Written → Tree (List Written) → Type 0
+FitAsFollowed w u = HasRoom (λ ns. CoversWrites ns w × CoversLeaves ns u)
 
 abbrev pub FitAsFollowedAt : Written → List (Tree (List Written)) → ℕ → Type 0
 FitAsFollowedAt w ts k = (u : Tree (List Written)) → slice_get ts k ≡ Some u → FitAsFollowed w u
@@ -79,13 +73,9 @@ pub record IsFollowedAt (w : Written) (ts : List (Tree (List Written))) (k id : 
   pub followed_is : slice_get ts id ≡ Some followed
   pub follows : IsFollowed w tree followed
 
--- each of these writes, and then a tree.
-pub record FitAsFollowedEach (ws : List Written) (u : Tree (List Written)) : Type 0 where
-  pub numbers : Field → List ℕ
-  pub few : AreFew numbers
-  pub fit : All AllFit ws
-  pub first : All (CoversWrites numbers) ws
-  pub second : CoversLeaves numbers u
+-- there is room for the numbers of each of these writes and of a tree that follows.
+abbrev pub FitAsFollowedEach : List Written → Tree (List Written) → Type 0
+FitAsFollowedEach ws u = HasRoom (λ ns. All (CoversWrites ns) ws × CoversLeaves ns u)
 
 abbrev pub FitAsFollowedEachAt : List Written → List (Tree (List Written)) → ℕ → Type 0
 FitAsFollowedEachAt ws ts k = (u : Tree (List Written)) → slice_get ts k ≡ Some u → FitAsFollowedEach ws u
@@ -98,12 +88,9 @@ pub record IsFollowedEach (ws : List Written) (u r : Tree (List Written)) : Type
 abbrev pub FollowsEachAt : List Written → List (Tree (List Written)) → ℕ → List (Tree (List Written)) → ℕ → Type 0
 FollowsEachAt ws old k new id = (u : Tree (List Written)) → slice_get old k ≡ Some u → HasAt (IsFollowedEach ws u) new id
 
--- a tree, and then a tree.
-pub record FitAsSequence (t u : Tree (List Written)) : Type 0 where
-  pub numbers : Field → List ℕ
-  pub few : AreFew numbers
-  pub first : CoversLeaves numbers t
-  pub second : CoversLeaves numbers u
+-- there is room for the numbers of a tree and of one that follows.
+abbrev pub FitAsSequence : Tree (List Written) → Tree (List Written) → Type 0
+FitAsSequence t u = HasRoom (λ ns. CoversLeaves ns t × CoversLeaves ns u)
 
 abbrev pub FitAsSequenceAt : List (Tree (List Written)) → ℕ → ℕ → Type 0
 FitAsSequenceAt ts i j = (t u : Tree (List Written)) → slice_get ts i ≡ Some t → slice_get ts j ≡ Some u → FitAsSequence t u

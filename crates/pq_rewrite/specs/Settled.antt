@@ -4,7 +4,7 @@ use Rattle.pq_fields.specs.declared.field.Field.{Field}
 use Rattle.pq_fields.specs.Packet.{Numbers, Fit}
 use Rattle.pq_fields.specs.Writes.{Written, on, with_write, written_in}
 use Rattle.pq_store.specs.Tree.{Tree, value}
-use Rattle.pq_apply.specs.Together.{Within}
+use Rattle.pq_store.specs.Room.{Within}
 use Rattle.pq_rewrite.specs.Choices.{differs}
 use Rattle.pq_rewrite.specs.Rewriting.{CoversWrites, IsGiving}
 

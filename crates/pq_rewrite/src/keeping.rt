@@ -10,7 +10,7 @@ use std::alloc::AllocError;
 
 /// The diagram that gives each packet of which the condition holds, and nothing of others.
 ///
-/// The numbers that the condition tests of a field are at most half of the field's less one. The result tests no others.
+/// There is room for the numbers that the condition tests. The result tests no others.
 pub fn keep(
     tests: &Store<bool>,
     cond: NodeId,

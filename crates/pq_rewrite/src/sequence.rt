@@ -2,9 +2,9 @@
 ghost use Rattle.std.specs.Prelude.{◌≡◌, ◌<◌, ◌+◌, ◌==◌, [], length, Some, slice_get, IfOk, OnOk};
 ghost use Rattle.pq_fields.specs.Writes.{AllFit};
 ghost use Rattle.pq_store.specs.Tree.Tree.{Tip};
-ghost use Rattle.pq_store.specs.Store.{Keeps};
+ghost use Rattle.pq_store.specs.Store.{HasAt, Keeps};
 ghost use Rattle.pq_apply.specs.Memo.{Remembers};
-ghost use Rattle.pq_rewrite.specs.Calls.{FitInSequenceAt, HasAt, IsIdleFreeAt, SequencesAt};
+ghost use Rattle.pq_rewrite.specs.Calls.{FitInSequenceAt, IsIdleFreeAt, SequencesAt};
 ghost use Rattle.pq_rewrite.specs.Rewriting.{IsCanonicalRewriting};
 ghost use Rattle.pq_rewrite.specs.Sequence.{
   FitAsFollowedAt,
@@ -35,8 +35,8 @@ use std::sync::ledger::Ledger;
 
 /// The diagram that gives what the second of two idle-free diagrams gives of the packets that the first gives. It counts one step.
 ///
-/// The numbers that both test and write, with those in prerequisites of the fields that they write, are at most half of each
-/// field's less one. The result tests no others, and writes only what they write.
+/// There is room for the numbers that both test and write, and those in prerequisites of the fields that they write. The result
+/// tests no others, and writes only what they write.
 pub fn then<L: Ledger>(
     store: &mut Store<WriteSet>,
     x: NodeId,
@@ -188,7 +188,7 @@ fn written_in_turn(
     first: &Writes,
     second: &[Writes],
 ) -> Result<NodeId, AllocError>
-    requires fit { FitInTurn first.now second.now }
+    requires fit { FitInTurn second.now }
     ensures in_turn { IfOk result (λ id. HasAt (IsInTurn first.now second.now) store.new id) }
     ensures keeps { Keeps store.old store.new }
 {

@@ -3,8 +3,8 @@ ghost use Rattle.std.specs.Prelude.{◌≡◌, ◌<◌, ◌^◌, [], ◌∷◌, 
 ghost use Rattle.pq_fields.specs.Packet.{width_of};
 ghost use Rattle.pq_fields.specs.Writes.{is_writable};
 ghost use Rattle.pq_store.specs.Tree.Tree.{Tip};
-ghost use Rattle.pq_store.specs.Store.{Keeps};
-ghost use Rattle.pq_rewrite.specs.Calls.{HasAt, IsWriting};
+ghost use Rattle.pq_store.specs.Store.{HasAt, Keeps};
+ghost use Rattle.pq_rewrite.specs.Calls.{IsWriting};
 ghost use Rattle.pq_rewrite.specs.Choices.{ChoosesByAt, FitByAt, change_needs, differs};
 ghost use Rattle.pq_rewrite.specs.Settled.{IsSettled, IsSettledFrom};
 

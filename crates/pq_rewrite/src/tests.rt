@@ -1,7 +1,7 @@
 //! Diagrams that write, and diagrams on packets that are written first, worked out by hand.
 ghost use Rattle.std.specs.Prelude.{◌≡◌, ◌<◌, ◌^◌, ◌==◌, false, true, IfOk};
 ghost use Rattle.std.specs.List.{list_any};
-ghost use Rattle.pq_fields.specs.Packet.{is_wide, width_of};
+ghost use Rattle.pq_fields.specs.Packet.{width_of};
 ghost use Rattle.pq_fields.specs.Writes.{is_writable};
 ghost use Rattle.pq_apply.specs.Examples.{IsExampleAt, example_numbers};
 ghost use Rattle.pq_rewrite.specs.Examples.{IsExampleRewritingAt, KeepsExamples};
@@ -18,7 +18,6 @@ use std::test::Fail;
 
 /// The diagram of the packets that have the field with this number.
 fn equal(store: &mut Store<bool>, field: Field, value: u64) -> Result<NodeId, AllocError>
-    requires narrow { is_wide field ≡ false }
     requires fits { value < 2 ^ width_of field }
     requires known { list_any (λ n. value == n) example_numbers ≡ true }
     ensures { IfOk result (λ id. IsExampleAt store.new id) }
@@ -86,7 +85,6 @@ fn keeping_equal(
     field: Field,
     value: u64,
 ) -> Result<NodeId, AllocError>
-    requires narrow { is_wide field ≡ false }
     requires fits { value < 2 ^ width_of field }
     requires known { list_any (λ n. value == n) example_numbers ≡ true }
     ensures example { IfOk result (λ id. IsExampleRewritingAt store.new id) }

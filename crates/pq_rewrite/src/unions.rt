@@ -15,7 +15,7 @@ use std::sync::ledger::Ledger;
 
 /// The diagram that gives on each packet what one or the other of two idle-free diagrams gives. It counts one step.
 ///
-/// The numbers that both test of a field are at most half of the field's less one. The result tests and writes only what they do.
+/// There is room for the numbers that both test. The result tests and writes only what they do.
 pub fn union<L: Ledger>(
     store: &mut Store<WriteSet>,
     x: NodeId,

@@ -24,8 +24,8 @@ use std::alloc::AllocError;
 
 /// The diagram that gives on each packet what another gives on the packet written.
 ///
-/// The numbers that it tests, with those in prerequisites of the fields that are written, are at most half of each field's
-/// less one. The result tests no others.
+/// There is room for the numbers that it tests, and those in prerequisites of the fields that are written. The result tests no
+/// others.
 pub fn after<M: Leaf + Clone>(
     by: &Writes,
     from: &Store<M>,

@@ -6,9 +6,8 @@ use Rattle.pq_fields.specs.declared.field.Field.TheVariants.{Switch}
 use Rattle.pq_fields.specs.Writes.{Written}
 use Rattle.pq_store.specs.declared.test.Test.TheVariants.{Equal}
 use Rattle.pq_store.specs.Tree.{Tree}
-use Rattle.pq_store.specs.Store.{IsJoinable, JoinsAt, Keeps}
+use Rattle.pq_store.specs.Store.{HasAt, IsJoinable, JoinsAt, Keeps}
 use Rattle.pq_apply.proofs.Kept.{keeps_on}
-use Rattle.pq_rewrite.specs.Calls.{HasAt}
 use Rattle.pq_forward.specs.Flood.{IsSpread}
 use Rattle.pq_forward.proofs.Floods.{IsFloodBehind, behind_all, behind_joins, behind_more, behind_none, behind_still, behind_within}
 use Rattle.pq_forward.proofs.flood.flood.Goals as goal

@@ -62,7 +62,7 @@ loop-port-preserved c =
     let at = (goal.at.loop-port-preserved c).In_ok-others in
     record {
       spread = behind_more c.next.new.self.iter.rest.now c.in-Some.port.now c.args.ports.now c.at_others-in-loop-port.new.store c.in_ok-others.others c.loop-port.id
-          (behind at) c.in_ok-others.ensures.leaf c.requires.ascend c.node.new.self c.in_ok-id-2.id
+          (behind at) c.in_ok-others.ensures.leaf c.requires.ascend c.requires.numbers c.node.new.self c.in_ok-id-2.id
           (subst (λ n. JoinsAt c.at_others-in-loop-port.new.store (Equal Port n) c.in_ok-others.others c.loop-port.id c.node.new.self c.in_ok-id-2.id) c.from.ensures c.in_ok-id-2.ensures.tree);
       keeps = keeps_on c.args.store.now c.at_others-in-loop-port.new.store c.node.new.self (kept at) c.node.ensures.keeps;
     }

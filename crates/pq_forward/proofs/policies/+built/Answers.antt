@@ -9,7 +9,8 @@ use Rattle.pq_policy.specs.declared.policy.Policy.TheOpen.{Policy-F}
 use Rattle.pq_policy.specs.declared.policy.Policy.TheVariants.{rolls-Identity, rolls-Flood, rolls-Filter, rolls-Mod, rolls-Fwd, rolls-If, rolls-Union, rolls-Seq}
 use Rattle.pq_policy.specs.Policy.{AnyOne, AreLawfulPolicies, Chained, Either, Forward, InTurn, IsLawfulPolicy, Only, Pass, PolicyTree, Spread, Write, leaf, none, policies, policy_step, policy_tree, policy_trees}
 use Rattle.pq_store.specs.Tree.Tree.{Tip}
-use Rattle.pq_rewrite.specs.Calls.{HasAt, IsWriting}
+use Rattle.pq_store.specs.Store.{HasAt}
+use Rattle.pq_rewrite.specs.Calls.{IsWriting}
 use Rattle.pq_rewrite.proofs.Standing.{has_still}
 use Rattle.pq_forward.specs.Flood.{IsFlood}
 use Rattle.pq_forward.specs.Forward.{FitAsForward, FitAsForwards, IsFiltered, IsForward, IsForwards, joint, work_of}

@@ -21,4 +21,4 @@ returns c =
     let first : IsExamplePolicy (policy_tree yes.value) = rw c.in_ok-yes.ensures.ok c.requires.yes in
     let second : IsExamplePolicy (policy_tree no.value) = rw c.in_ok-no.ensures.ok c.requires.no in
     subst IsExamplePolicy (sym is)
-    (choice_example n c.requires.known f c.requires.fits c.requires.narrow (policy_tree yes.value) (policy_tree no.value) first second)
+    (choice_example n c.requires.known f c.requires.fits (policy_tree yes.value) (policy_tree no.value) first second)

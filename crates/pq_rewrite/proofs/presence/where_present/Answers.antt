@@ -1,7 +1,7 @@
 use Rattle.std.proofs.lemmas.Option.{slice_get_within}
 use Rattle.pq_fields.specs.Packet.{has_field}
 use Rattle.pq_fields.specs.Pred.{pred_tree}
-use Rattle.pq_rewrite.specs.Calls.{HasAt}
+use Rattle.pq_store.specs.Store.{HasAt}
 use Rattle.pq_rewrite.specs.Choices.{field_needs}
 use Rattle.pq_rewrite.proofs.Choosing.{IsCondition, chooses_by, fit_by, fits_node, predicate_condition}
 use Rattle.pq_rewrite.proofs.presence.where_present.Given.{Over}

@@ -1,11 +1,10 @@
 use Rattle.std.proofs.Common.{◌≡◌, ◌∙◌, ℕ, subst, sym, arith}
 use Rattle.std.proofs.lemmas.Option.{slice_get_within}
 use Rattle.pq_fields.proofs.Places.{same_writes}
-use Rattle.pq_store.specs.Store.{Keeps}
+use Rattle.pq_store.specs.Store.{HasAt, Keeps}
 use Rattle.pq_store.specs.Tree.Tree.{Fork}
 use Rattle.pq_store.proofs.Elements.{at_place}
 use Rattle.pq_apply.proofs.Kept.{keeps_on}
-use Rattle.pq_rewrite.specs.Calls.{HasAt}
 use Rattle.pq_rewrite.specs.Sequence.{FitInTurn, IsFollowedAt, IsInTurn}
 use Rattle.pq_rewrite.proofs.Following.{IsSideReached, both_fit, chosen_followed, followed_still, itself_followed, leaf_fits, leaf_followed, moved_more, no_side_fits, reached, reached_followed, side_fits, yes_side_fits}
 use Rattle.pq_rewrite.proofs.sequence.+followed.Goals as goal
@@ -26,7 +25,7 @@ second t c = c.deref.ensures.value ∙ (c.in_ok-second-in-Leaf.ensures.items ∙
 
 pub written_in_turn-requires : goal.written_in_turn-requires
 written_in_turn-requires t c = record {
-  fit = subst (FitInTurn c.args.by.now) (sym (second t c)) (leaf_fits c.args.by.now c.args.store.now c.args.node c.in-Leaf.set.now c.in-Leaf.ensures.step c.requires.fit);
+  fit = subst FitInTurn (sym (second t c)) (leaf_fits c.args.by.now c.args.store.now c.args.node c.in-Leaf.set.now c.in-Leaf.ensures.step c.requires.fit);
 }
 
 -- the side that is reached

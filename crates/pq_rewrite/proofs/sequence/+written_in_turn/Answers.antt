@@ -1,5 +1,5 @@
 use Rattle.std.proofs.Common.{ℕ, ◌≡◌, ◌/◌, ◌++◌, length, subst, sym, arith}
-use Rattle.pq_rewrite.specs.Calls.{HasAt}
+use Rattle.pq_store.specs.Store.{HasAt}
 use Rattle.pq_rewrite.specs.Sequence.{FitInTurn, IsInTurn, twice}
 use Rattle.pq_rewrite.specs.Settled.{IsSettledFrom}
 use Rattle.pq_rewrite.proofs.Halves.{halves_there, none_there, one_there}
@@ -30,8 +30,8 @@ whole : (t : ℕ) (c : After-split_at t) → c.args.second.now ≡ c.split_at.re
 whole t c = halves_there c.args.second.now c.split_at.result.0.now c.split_at.result.1.now (length c.args.second.now / 2) c.split_at.ensures.front c.split_at.ensures.back
 
 -- they may come in turn
-parts : (t : ℕ) (c : After-split_at t) → FitInTurn c.args.first.now c.split_at.result.0.now × FitInTurn c.args.first.now c.split_at.result.1.now
-parts t c = turn_parts c.args.first.now c.split_at.result.0.now c.split_at.result.1.now (subst (FitInTurn c.args.first.now) (whole t c) c.requires.fit)
+parts : (t : ℕ) (c : After-split_at t) → FitInTurn c.split_at.result.0.now × FitInTurn c.split_at.result.1.now
+parts t c = turn_parts c.split_at.result.0.now c.split_at.result.1.now (subst FitInTurn (whole t c) c.requires.fit)
 
 pub written_in_turn-requires : goal.written_in_turn-requires
 written_in_turn-requires t c =
@@ -64,7 +64,7 @@ pub united-requires-clause-fit : goal.united-requires-clause-fit
 united-requires-clause-fit t c =
     let at = goal.at.united-requires-clause-fit t c in
     turn_halves_fit c.args.first.now c.split_at.result.0.now c.split_at.result.1.now c.written_in_turn-in_default.new.store c.in_ok-x-in_default.x c.in_ok-y-in_default.y
-    (left t at.In_ok-y-in_default) c.in_ok-y-in_default.ensures.in_turn (subst (FitInTurn c.args.first.now) (whole t at.After-split_at) c.requires.fit)
+    (left t at.In_ok-y-in_default) c.in_ok-y-in_default.ensures.in_turn (subst FitInTurn (whole t at.After-split_at) c.requires.fit)
 
 pub returns-in_ok-id-in_default-clause-in_turn : goal.returns-in_ok-id-in_default-clause-in_turn
 returns-in_ok-id-in_default-clause-in_turn t c =

@@ -2,7 +2,7 @@ use Rattle.std.proofs.Common.{ℕ, ◌-◌, ◌≡◌, ◌∙◌, List, length, 
 use Rattle.pq_fields.specs.declared.field.Field.{Field}
 use Rattle.pq_fields.specs.declared.field.Field.TheVariants.{Switch}
 use Rattle.pq_fields.specs.Writes.{with_write, written_in}
-use Rattle.pq_rewrite.specs.Calls.{HasAt}
+use Rattle.pq_store.specs.Store.{HasAt}
 use Rattle.pq_rewrite.specs.Settled.{IsSettledFrom}
 use Rattle.pq_rewrite.proofs.SettledTrees.{first_and_rest, settled_fit, settled_next}
 use Rattle.pq_rewrite.proofs.Standing.{has_still}

@@ -1,6 +1,6 @@
 use Rattle.std.proofs.Common.{subst}
 use Rattle.pq_fields.specs.Writes.{AllFit}
-use Rattle.pq_rewrite.specs.Calls.{HasAt}
+use Rattle.pq_store.specs.Store.{HasAt}
 use Rattle.pq_rewrite.specs.Settled.{IsSettledFrom}
 use Rattle.pq_rewrite.proofs.SettledTrees.{settled_whole, writable_fields}
 use Rattle.pq_rewrite.proofs.settled.settled.Goals as goal

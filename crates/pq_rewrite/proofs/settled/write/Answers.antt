@@ -1,6 +1,6 @@
 use Rattle.std.proofs.Common.{◌∙◌, ap, subst}
 use Rattle.pq_fields.specs.Writes.{with_write}
-use Rattle.pq_rewrite.specs.Calls.{HasAt}
+use Rattle.pq_store.specs.Store.{HasAt}
 use Rattle.pq_rewrite.specs.Settled.{IsSettled}
 use Rattle.pq_rewrite.proofs.Single.{is_writing}
 use Rattle.pq_rewrite.proofs.settled.write.Goals as goal
