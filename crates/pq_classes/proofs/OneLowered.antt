@@ -99,4 +99,4 @@ pub more_added : (qs : List QueryTree) (is : List Instance) (k : ℕ) (i : Insta
 more_added qs is k i q old new within at asked grown all =
     subst (All (IsAdded qs is)) (sym grown)
     (All-append (IsAdded qs is) old (added_preds q i.label) all
-      (All-weaker (Contains (added_preds q i.label)) (IsAdded qs is) (λ p contained. record { instance = i; listed = (k, within, sym at); query = q; asked = asked; added = contained }) (added_preds q i.label) (All-contains_itself (added_preds q i.label))))
+    (All-weaker (Contains (added_preds q i.label)) (IsAdded qs is) (λ p contained. record { instance = i; listed = (k, within, sym at); query = q; asked = asked; added = contained }) (added_preds q i.label) (All-contains_itself (added_preds q i.label))))

@@ -48,7 +48,7 @@ pub one_node : (old new : List (Tree Bool)) (ps : List Pred) (k : ℕ) (p : Pred
 one_node old new ps k p ids more id within at keeps pushed one all =
     let long : length (map pred_tree ps) ≡ length ps = length-map ps pred_tree in
     let front : take (k + 1) (map pred_tree ps) ≡ take k (map pred_tree ps) ++ pred_tree p ∷ [] =
-        take_more (map pred_tree ps) k (pred_tree p) (omega (arith, long, within)) ∙ ap (λ q. take k (map pred_tree ps) ++ q ∷ []) (get_or-map pred_tree ps k p ∙ ap pred_tree (sym at)) in
+    take_more (map pred_tree ps) k (pred_tree p) (omega (arith, long, within)) ∙ ap (λ q. take k (map pred_tree ps) ++ q ∷ []) (get_or-map pred_tree ps k p ∙ ap pred_tree (sym at)) in
     subst (λ qs. AreNodes new qs more) (sym front) (subst (AreNodes new (take k (map pred_tree ps) ++ pred_tree p ∷ [])) (sym pushed)
     (zip_push (λ p id. HoldsAt p new id) (take k (map pred_tree ps)) ids (pred_tree p) id (nodes_kept old new keeps (take k (map pred_tree ps)) ids all) one))
 

@@ -36,6 +36,6 @@ returns-clause-classes g c =
     let ps = map pred_tree c.deref.result.now in
     let es = map expr_tree c.deref-2.result.now in
     let lowered : AreLowered qs ps is es =
-        subst (λ ds. AreLowered qs (map pred_tree ds) is es) (sym c.deref.ensures.value)
-        (subst (λ ds. AreLowered qs (map pred_tree c.in_ok-lowered.lowered.preds.items) is (map expr_tree ds)) (sym c.deref-2.ensures.value) c.in_ok-lowered.ensures.lowered) in
+    subst (λ ds. AreLowered qs (map pred_tree ds) is es) (sym c.deref.ensures.value)
+    (subst (λ ds. AreLowered qs (map pred_tree c.in_ok-lowered.lowered.preds.items) is (map expr_tree ds)) (sym c.deref-2.ensures.value) c.in_ok-lowered.ensures.lowered) in
     joined qs ps is es c.in_ok-letters.letters c.in_ok-classes.classes (within_trees c.args.queries.now is c.requires.within) lowered c.count.ensures.lettered c.in_ok-letters.ensures.tells c.in_ok-classes.ensures
