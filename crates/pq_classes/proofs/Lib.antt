@@ -7,3 +7,4 @@ pub mod Values
 pub mod Whole
 pub mod OneLowered
 pub mod Signed
+mod Example
