@@ -1,6 +1,6 @@
 -- What is read whole of a known input, and when a command is done.
-use Rattle.std.proofs.Common.{◌≡◌, ℕ, refl, ◌≤◌, List, ◌++◌, length, ap, sym, ◌∙◌, subst, arith, length-append, append-nil, IfSome, Option, Some, None}
-use Rattle.std.specs.Prelude.{◌⊎◌, inl, inr}
+use Rattle.std.proofs.Common.{◌≡◌, ℕ, ◌≤◌, List, ◌++◌, length, ap, sym, ◌∙◌, subst, arith, length-append, append-nil, IfSome, Option, Some, None, inl, inr}
+use Rattle.std.proofs.lemmas.Option.{same_Some}
 use Rattle.std.specs.Io.KnownBytes.{Consumes, IsAtEnd}
 use Rattle.pq_io.specs.Faults.{Rose}
 use Rattle.pq_compile.proofs.OneDocument.{no_document_fault}
@@ -28,19 +28,19 @@ no_longer bytes text (Some rest) taken = let same = ap length taken in omega (ar
 -- where all was read, the property is one of the known bytes
 of_whole : (bytes : List ℕ) (now before after : Option (List ℕ)) (limit : ℕ) (P : List ℕ → Type 0)
     → ReadsWhole (record { left = Some bytes; rest = now; before = before; after = after }) limit P → P bytes
-of_whole bytes now before after limit P (text, taken, end, short, holds) = subst P (sym (whole_text bytes text now taken end)) holds
+of_whole bytes now before after limit P (text, taken, (end, short, holds)) = subst P (sym (whole_text bytes text now taken end)) holds
 
 -- no more is read than there is
 not_more : (bytes : List ℕ) (now before after : Option (List ℕ)) (limit : ℕ)
     → ReadsMore (record { left = Some bytes; rest = now; before = before; after = after }) limit → length bytes ≤ limit → ⊥
-not_more bytes now before after limit (text, taken, long, short) fits = let most = no_longer bytes text now taken in absurd (omega arith)
+not_more bytes now before after limit (text, taken, (long, short)) fits = let most = no_longer bytes text now taken in absurd (omega arith)
 
 -- what a command accepts is refused for want of memory alone
-pub Completes : Task → Type 0
+abbrev Completes : Task → Type 0
 Completes task = (o : Outcome) (bytes : List ℕ) → task.Accepts bytes → task.Refuses o bytes → IsDoneOrMemory o
 
 -- and then the command is done, where no read and no write failed
-pub is_done : (task : Task) → Completes task → (o : Outcome) (left now before after : Option (List ℕ)) (reads read writes written : ℕ)
+is_done : (task : Task) → Completes task → (o : Outcome) (left now before after : Option (List ℕ)) (reads read writes written : ℕ)
     → IsAnswer task o (record { left = left; rest = now; before = before; after = after }) → HasReadFaults o reads read → HasWriteFaults o writes written
     → (Rose reads read → ⊥) → (Rose writes written → ⊥)
     → IfSome left (λ bytes. length bytes ≤ task.limit → task.Accepts bytes → IsDoneOrMemory o)
@@ -72,7 +72,7 @@ memory : (o : Outcome) → o ≡ Memory → IsDoneOrMemory o
 memory o is = subst IsDoneOrMemory (sym is) tt
 
 -- each command completes
-pub completes : (command : Command) → Completes (task_of command)
+completes : (command : Command) → Completes (task_of command)
 completes Compile o bytes (document, form) (inl (f, is, fault)) = memory o (is ∙ ap document_outcome (no_document_fault bytes document.0 f document.1 fault))
 completes Compile o bytes (document, form) (inr (is, is_document, none)) = absurd (none form.0 form.1)
 completes Replay o bytes accepted (replay.Damaged at, is, fault) = absurd (not_damaged bytes at accepted fault)
@@ -81,3 +81,13 @@ completes Replay o bytes accepted (replay.Full, is, fault) = absurd (not_too_man
 completes Replay o bytes accepted (replay.Memory, is, fault) = memory o is
 completes Inspect o bytes accepted (install.Damaged at, is, fault) = absurd (not_spoiled bytes at accepted fault)
 completes Inspect o bytes accepted (install.Memory, is, fault) = memory o is
+
+-- a command that was asked for is done, where no read and no write failed
+pub completed : (asked command : Command) → Some asked ≡ Some command → (o : Outcome) (left now before after : Option (List ℕ)) (reads read writes written : ℕ)
+    → IsAnswer (task_of asked) o (record { left = left; rest = now; before = before; after = after }) → HasReadFaults o reads read → HasWriteFaults o writes written
+    → (Rose reads read → ⊥) → (Rose writes written → ⊥)
+    → IfSome left (λ bytes. length bytes ≤ (task_of command).limit → (task_of command).Accepts bytes → IsDoneOrMemory o)
+completed asked command same o left now before after reads read writes written answer read_faults write_faults no_read no_write =
+    let IsDone : Command → Type 0 = λ k. IfSome left (λ bytes. length bytes ≤ (task_of k).limit → (task_of k).Accepts bytes → IsDoneOrMemory o) in
+    subst IsDone (same_Some asked command same)
+    (is_done (task_of asked) (completes asked) o left now before after reads read writes written answer read_faults write_faults no_read no_write)

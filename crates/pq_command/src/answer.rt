@@ -1,5 +1,5 @@
 //! Commands that read to the end of input, and then write.
-ghost use Rattle.std.specs.Prelude.{◌≡◌, IfErr, IfOk};
+ghost use Rattle.std.specs.Prelude.{◌≡◌, ◌^◌, ◌<◌, IfErr, IfOk};
 ghost use Rattle.pq_command.specs.Answers.{HasReadFaults, HasWriteFaults, IsAnswer, IsOfText, OnRefusal, streams};
 ghost use Rattle.pq_command.specs.Tasks.{task_of};
 
@@ -20,7 +20,8 @@ const INSTALL_LIMIT: usize = 268_435_456;
 
 /// The most bytes that the command reads.
 fn limit_of(command: Command) -> usize
-    ensures { result ≡ (task_of command).limit }
+    ensures value { result ≡ (task_of command).limit }
+    ensures small { result < 2 ^ 32 }
 {
     match command {
         Command::Compile => DOCUMENT_LIMIT,
