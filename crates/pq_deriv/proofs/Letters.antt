@@ -1,17 +1,18 @@
 -- Rests and sets of rests after a half step, one more at a time.
-use Rattle.std.proofs.Common.{◌≡◌, ℕ, Bool, true, false, ◌&&◌, ◌||◌, ◌==◌, ◌<◌, List, [], ◌∷◌, ◌++◌, ◌-◌, rules, take, drop, length, refl, sym, ◌∙◌, arith}
+use Rattle.std.proofs.Common.{◌≡◌, ℕ, zero, suc, Bool, true, false, ◌&&◌, ◌||◌, ◌==◌, ◌<◌, ◌≤◌, ◌+◌, ◌⊎◌, inl, inr, List, [], ◌∷◌, ◌++◌, ◌-◌, rules, take, drop, length, refl, sym, subst, ◌∙◌, arith}
 use Rattle.std.proofs.Math.Bool.{or-true, or_comm}
 use Rattle.std.proofs.Math.Seq.{take-length, take-append_seam, drop-append_seam}
+use Rattle.std.proofs.lemmas.List.{drop-drop, length-drop}
 use Rattle.pq_expr.specs.Word.{HalfStep, Word}
 use Rattle.pq_expr.specs.declared.expr.Expr.{Expr}
 use Rattle.pq_expr.specs.Expr.{InTurn, Either, Both, ExprTree, Exprs, expr_tree, expr_trees}
 use Rattle.pq_expr.specs.Language.{Language, joined, in_turn, repeated, holds, languages}
 use Rattle.pq_expr.proofs.Cuts.{repeated_cons}
-use Rattle.pq_deriv.specs.Parts.{members, set_of, first_part, behind_part, first_set, behind_set, first_gap, behind_gap, spread, set_before}
+use Rattle.pq_deriv.specs.Parts.{members, set_of, first_part, behind_part, first_set, behind_set, first_gap, behind_gap, spread, set_before, wide}
 use Rattle.pq_deriv.specs.Left.{Left, left, lefts, set_left, turn_left, top_left, repeated_left}
 use Rattle.pq_deriv.specs.Stepped.{some_ends, stepped_left, IsSetStepped, AreStepped, AreSetsStepped}
 use Rattle.pq_deriv.proofs.Reading.{parts_front, members_read}
-use Rattle.pq_deriv.proofs.Spread.{first_read, behind_read, spread_gap}
+use Rattle.pq_deriv.proofs.Spread.{first_read, behind_read, spread_gap, first_idle, behind_none, wide_none, widened_wide, wide_wide}
 use Rattle.pq_deriv.proofs.Turns.{or_false, and_false, and_true, one_language, set_cons, set_ends, turn_stepped}
 
 -- a member more
@@ -55,6 +56,48 @@ sets_from l es begins old new steps w = rw (spread_gap (length (languages es)) o
 
 pub sets_whole : (l : HalfStep) (es : Exprs) (begins : Bool) (old new : List ℕ) → AreSetsStepped l es begins (first_gap old ∷ behind_gap old) new → AreSetsStepped l es begins old new
 sets_whole l es begins old new steps w = rw (← spread_gap (length (languages es)) old) (steps w)
+
+-- behind an empty set
+sets_behind : (l : HalfStep) (es : Exprs) (gap : ℕ) (left new : List ℕ) → (0 < gap) ⊎ (length left ≡ 0) → AreSetsStepped l es false ((gap - 1) ∷ left) new → AreSetsStepped l es false (behind_set (gap ∷ left)) new
+sets_behind l es gap left new (inl some) steps = rw (behind_none gap left some) steps
+sets_behind l es gap (n ∷ left) new (inr none) steps = absurd (omega (arith, none))
+sets_behind l es zero [] new (inr none) steps = sets_whole l es false [] new steps
+sets_behind l es (suc gap) [] new (inr none) steps = let less : suc gap - 1 ≡ gap = omega arith in rw (← less) steps
+
+-- operands that aren't begun, and don't begin
+pub sets_skipped : (l : HalfStep) (k gap : ℕ) (left more : List ℕ) (es : List Expr) → k ≤ length es → (k ≤ gap) ⊎ (length left ≡ 0) → AreSetsStepped l (expr_trees (drop k es)) false ((gap - k) ∷ left) more → AreSetsStepped l (expr_trees es) false (gap ∷ left) (wide k more)
+sets_skipped l zero gap left more es few idle steps = let all : gap - 0 ≡ gap = omega arith in rw (wide_none more) (rw all at steps)
+sets_skipped l (suc k) gap left more [] few idle steps = absurd (omega (arith, few))
+sets_skipped l (suc k) gap left more (e ∷ es) few idle steps =
+    let less : gap - suc k ≡ gap - 1 - k = omega arith in
+    let later : AreSetsStepped l (expr_trees es) false ((gap - 1) ∷ left) (wide k more) = sets_skipped l k (gap - 1) left more es (omega (arith, few)) (fewer idle) (rw less at steps) in
+    let none : first_set (gap ∷ left) ≡ [] = first_idle gap left (some idle) in
+    subst (AreSetsStepped l (expr_trees (e ∷ es)) false (gap ∷ left)) (widened_wide k more)
+    (turn_more l e es false (gap ∷ left) [] (wide k more) (rw none (λ P w. refl)) (rw none (sets_behind l (expr_trees es) gap left (wide k more) (some idle) later)))
+  where
+    some : (suc k ≤ gap) ⊎ (length left ≡ 0) → (0 < gap) ⊎ (length left ≡ 0)
+    some (inl h) = inl (omega (arith, h))
+    some (inr h) = inr h
+
+    fewer : (suc k ≤ gap) ⊎ (length left ≡ 0) → (k ≤ gap - 1) ⊎ (length left ≡ 0)
+    fewer (inl h) = inl (omega (arith, h))
+    fewer (inr h) = inr h
+
+-- where operands begin, none is passed over
+pub sets_idle : (l : HalfStep) (begins : Bool) (k gap : ℕ) (left more : List ℕ) (es : List Expr) → k ≤ length es → (begins ≡ true → k ≡ 0) → (k ≤ gap) ⊎ (length left ≡ 0) → AreSetsStepped l (expr_trees (drop k es)) begins ((gap - k) ∷ left) more → AreSetsStepped l (expr_trees es) begins (gap ∷ left) (wide k more)
+sets_idle l false k gap left more es few none idle steps = sets_skipped l k gap left more es few idle steps
+sets_idle l true k gap left more es few none idle steps =
+    let zero_is : k ≡ 0 = none refl in
+    let all : gap - 0 ≡ gap = omega arith in
+    rw (zero_is, wide_none more) (rw (zero_is, all) at steps)
+
+-- operands that are passed over, behind others
+pub idle_left : (l : HalfStep) (begins : Bool) (i k gap empties : ℕ) (left out : List ℕ) (es : List Expr) (W : List ℕ → Type 0) → k ≤ length es - i → (begins ≡ true → k ≡ 0) → (k ≤ gap) ⊎ (length left ≡ 0)
+    → ((more : List ℕ) → AreSetsStepped l (expr_trees (drop i es)) begins (gap ∷ left) more → W (out ++ wide empties more))
+    → (more : List ℕ) → AreSetsStepped l (expr_trees (drop (i + k) es)) begins ((gap - k) ∷ left) more → W (out ++ wide (empties + k) more)
+idle_left l begins i k gap empties left out es W few none idle before more steps =
+    let here : AreSetsStepped l (expr_trees (drop k (drop i es))) begins ((gap - k) ∷ left) more = rw (drop-drop k i es) steps in
+    subst (λ r. W (out ++ r)) (wide_wide empties k more) (before (wide k more) (sets_idle l begins k gap left more (drop i es) (omega (arith, few, length-drop i es)) none idle here))
 
 -- no operand is left
 pub turn_over : (l : HalfStep) (begins : Bool) (old new : List ℕ) → AreSetsStepped l (expr_trees []) begins old new

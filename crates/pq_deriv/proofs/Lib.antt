@@ -9,3 +9,4 @@ pub mod Ascending
 pub mod Rests
 pub mod Inserted
 pub mod Shaped
+pub mod Idle

@@ -1,14 +1,15 @@
 -- Numbers that are rests: in parts, and with sets.
-use Rattle.std.proofs.Common.{◌≡◌, ◌==◌, true, false, rules, ℕ, ◌<◌, inl, inr, List, [], ◌∷◌, ◌++◌, length, map, get_or, arith, refl, subst}
-use Rattle.std.proofs.lemmas.List.{append-nil}
+use Rattle.std.proofs.Common.{◌≡◌, ◌==◌, true, false, rules, ℕ, zero, suc, ◌<◌, ◌≤◌, ◌+◌, ◌-◌, inl, inr, List, [], ◌∷◌, ◌++◌, length, map, drop, get_or, arith, refl, subst}
+use Rattle.std.proofs.lemmas.List.{append-nil, drop-drop, length-drop}
 use Rattle.std.specs.List.Sorted.{IsStrictlySortedBy}
 use Rattle.pq_expr.specs.declared.expr.Expr.{Expr}
 use Rattle.pq_expr.specs.Expr.{InTurn, Repeated, expr_tree, expr_trees}
-use Rattle.pq_deriv.specs.Parts.{spelled, packed, set_before}
+use Rattle.pq_deriv.specs.Parts.{spelled, packed, set_before, wide}
 use Rattle.pq_deriv.specs.Choices.{IsOneOf, choices}
 use Rattle.pq_deriv.specs.Rests.{AreMembers, sets, first_rests, in_parts, in_sets, top_rests, rests, all_rests, IsRest}
 use Rattle.pq_deriv.proofs.Choices.{one_changed, one_before, one_behind, one_chosen}
 use Rattle.pq_deriv.proofs.Rests.{one_set}
+use Rattle.pq_deriv.proofs.Spread.{wide_none, wide_wide, widened_wide}
 
 -- one of the changed elements comes from an element
 from_changed : {A B : Type 0} (f : A → B) (xs : List A) (y : B) → IsOneOf (map f xs) y → (x : A) × IsOneOf xs x × (f x ≡ y)
@@ -46,6 +47,22 @@ set_more U Us r more one others =
 none_have : (Us : List (List (List ℕ))) → IsOneOf (in_sets (map sets Us)) []
 none_have [] = no_set
 none_have (U ∷ Us) = set_more (sets U) (map sets Us) [] [] (one_set U [] (no_members U)) (none_have Us)
+
+-- operands whose sets are empty
+pub sets_before : (k : ℕ) (es : List Expr) (more : List ℕ) → k ≤ length es → IsOneOf (in_sets (map sets (rests (expr_trees (drop k es))))) more → IsOneOf (in_sets (map sets (rests (expr_trees es)))) (wide k more)
+sets_before zero es more few one = rw (wide_none more) one
+sets_before (suc k) [] more few one = absurd (omega (arith, few))
+sets_before (suc k) (e ∷ es) more few one =
+    let U = all_rests (expr_tree e) in
+    subst (IsOneOf (in_sets (map sets (rests (expr_trees (e ∷ es)))))) (widened_wide k more)
+    (set_more (sets U) (map sets (rests (expr_trees es))) [] (wide k more) (one_set U [] (no_members U)) (sets_before k es more (omega (arith, few)) one))
+
+pub idle_before : (i k empties : ℕ) (out : List ℕ) (es : List Expr) (W : List ℕ → Type 0) → k ≤ length es - i
+    → ((more : List ℕ) → IsOneOf (in_sets (map sets (rests (expr_trees (drop i es))))) more → W (out ++ wide empties more))
+    → (more : List ℕ) → IsOneOf (in_sets (map sets (rests (expr_trees (drop (i + k) es))))) more → W (out ++ wide (empties + k) more)
+idle_before i k empties out es W few before more one =
+    let here : IsOneOf (in_sets (map sets (rests (expr_trees (drop k (drop i es)))))) more = rw (drop-drop k i es) one in
+    subst (λ r. W (out ++ r)) (wide_wide empties k more) (before (wide k more) (sets_before k (drop i es) more (omega (arith, few, length-drop i es)) here))
 
 -- operands of which the first is begun
 pub turn_shaped : (es : List Expr) (e : Expr) (r : List ℕ) → 0 < length es → e ≡ get_or es 0 e → IsRest (expr_tree e) r → IsOneOf (top_rests InTurn (rests (expr_trees es))) (0 ∷ length (1 ∷ length r ∷ r) ∷ 1 ∷ length r ∷ r)

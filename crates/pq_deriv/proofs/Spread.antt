@@ -1,5 +1,5 @@
 -- Sets of operands in turn, of which empty ones take no numbers.
-use Rattle.std.proofs.Common.{◌≡◌, ℕ, zero, suc, ◌+◌, ◌-◌, ◌<◌, List, [], ◌∷◌, ◌++◌, length, refl, ap, arith}
+use Rattle.std.proofs.Common.{◌≡◌, ℕ, zero, suc, ◌+◌, ◌-◌, ◌<◌, ◌⊎◌, inl, inr, List, [], ◌∷◌, ◌++◌, length, refl, ap, arith}
 use Rattle.std.proofs.Math.Seq.{take-append_seam, drop-append_seam}
 use Rattle.pq_deriv.specs.Parts.{first_set, behind_set, spread, widened, set_before, wide, first_gap, behind_gap}
 
@@ -49,3 +49,19 @@ wide_before k (n ∷ set) r some = ap (λ m. m ∷ length (n ∷ set) ∷ ((n �
 pub none_before : (set r : List ℕ) → length set ≡ 0 → set_before set r ≡ widened r
 none_before [] r none = refl
 none_before (n ∷ set) r none = absurd (omega (arith, none))
+
+-- empty sets before empty sets
+pub widened_wide : (k : ℕ) (r : List ℕ) → widened (wide k r) ≡ wide (suc k) r
+widened_wide k [] = refl
+widened_wide k (gap ∷ r) = ap (λ n. n ∷ r) (omega arith)
+
+pub wide_wide : (j k : ℕ) (r : List ℕ) → wide j (wide k r) ≡ wide (j + k) r
+wide_wide j k [] = refl
+wide_wide j k (gap ∷ r) = ap (λ n. n ∷ r) (omega arith)
+
+-- an empty set stands first where a number of them does, or where no set is left
+pub first_idle : (gap : ℕ) (left : List ℕ) → (0 < gap) ⊎ (length left ≡ 0) → first_set (gap ∷ left) ≡ []
+first_idle gap left (inl some) = none_first gap left some
+first_idle gap (n ∷ left) (inr none) = absurd (omega (arith, none))
+first_idle zero [] (inr none) = refl
+first_idle (suc gap) [] (inr none) = refl

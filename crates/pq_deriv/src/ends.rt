@@ -8,7 +8,7 @@ ghost use Rattle.pq_deriv.specs.Left.{left, lefts, top_left, each_left, repeated
 ghost use Rattle.pq_deriv.specs.Stepped.{some_ends};
 
 use crate::empties::holds_empty;
-use crate::parts::{first_number, split_gap, split_part, split_set};
+use crate::parts::{first_number, idle, split_gap, split_part, split_set};
 use pq_expr::Expr;
 
 /// Whether the rest of the expression accepts the empty word.
@@ -37,11 +37,18 @@ fn turn_ends(exprs: &[Expr], rest: &[u64]) -> bool
     }
     let (mut gap, mut left) = split_gap(rest);
     let mut begins = false;
-    for expr in exprs {
-        let (set, next_gap, after) = split_set(gap, left);
-        begins = passes(expr, set, begins);
+    let mut place = 0;
+    'operands: while place < exprs.len() {
+        let skip = idle(begins, gap, left, exprs.len() - place);
+        place += skip;
+        if place >= exprs.len() {
+            return begins;
+        }
+        let (set, next_gap, after) = split_set(gap.saturating_sub(skip as u64), left);
+        begins = passes(&exprs[place], set, begins);
         gap = next_gap;
         left = after;
+        place += 1;
     }
     begins
 }

@@ -1,5 +1,5 @@
 //! Lists of numbers in parts, each behind its length.
-ghost use Rattle.std.specs.Prelude.{◌≡◌, ◌<◌, ◌≤◌, ◌+◌, ◌^◌, ◌++◌, ℕ, List, [], ◌∷◌, length, IfOk, OnOk};
+ghost use Rattle.std.specs.Prelude.{◌≡◌, ◌⊎◌, true, ◌<◌, ◌≤◌, ◌+◌, ◌^◌, ◌++◌, ℕ, List, [], ◌∷◌, length, IfOk, OnOk};
 ghost use Rattle.std.proofs.Math.ListN.{get_or};
 ghost use Rattle.pq_deriv.specs.Parts.{first_part, behind_part, first_gap, behind_gap, first_set, behind_set, set_before, wide};
 
@@ -43,6 +43,21 @@ pub(crate) fn split_set(gap: u64, left: &[u64]) -> (&[u64], u64, &[u64])
     let (set, behind) = split_part(left);
     let (gap, behind) = split_gap(behind);
     (set, gap, behind)
+}
+
+/// How many of the operands from here on, of so many, have empty sets and can't begin: all where no set is left.
+pub(crate) fn idle(begins: bool, gap: u64, left: &[u64], operands: usize) -> usize
+    ensures few { result ≤ operands }
+    ensures begins { begins ≡ true → result ≡ 0 }
+    ensures empty { (result ≤ gap) ⊎ (length left.now ≡ 0) }
+{
+    if begins {
+        return 0;
+    }
+    if left.is_empty() {
+        return operands;
+    }
+    operands.min(gap as usize)
 }
 
 /// Appends the set behind so many empty ones, unless it is empty too. The answer is how many empty ones stand last then.

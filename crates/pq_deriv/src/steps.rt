@@ -11,7 +11,7 @@ ghost use Rattle.pq_deriv.specs.Stepped.{stepped_left, IsSetStepped, AreStepped,
 
 use crate::atoms::step_atom;
 use crate::ends::{passes, repetition_ends};
-use crate::parts::{one_number, push_part, push_set, split_gap, split_part, split_set};
+use crate::parts::{idle, one_number, push_part, push_set, split_gap, split_part, split_set};
 use crate::sets::{put, spell_set};
 use crate::starts::start_rest;
 use pq_expr::{Expr, Side};
@@ -83,7 +83,8 @@ fn step_turn(
     step_sets(alloc, exprs, rest, side, signature)
 }
 
-/// The sets of operands in turn after the half step. Where an operand can begin before the half step, it does.
+/// The sets of operands in turn after the half step. Where an operand can begin before the half step, it does. Operands that
+/// aren't begun, and can't begin, are passed over at once.
 #[cycle(steps)]
 fn step_sets(
     alloc: Global,
@@ -99,13 +100,21 @@ fn step_sets(
     let mut empties = 0;
     let (mut gap, mut left) = split_gap(rest);
     let mut begins = false;
-    for expr in exprs {
-        let (set, next_gap, after) = split_set(gap, left);
+    let mut place = 0;
+    'operands: while place < exprs.len() {
+        let skip = idle(begins, gap, left, exprs.len() - place);
+        place += skip;
+        if place >= exprs.len() {
+            return Ok(out);
+        }
+        let (set, next_gap, after) = split_set(gap.saturating_sub(skip as u64), left);
+        let expr = &exprs[place];
         let stepped = step_set(alloc, expr, set, begins, side, signature)?;
-        empties = push_set(&mut out, empties, &stepped)?;
+        empties = push_set(&mut out, empties + skip as u64, &stepped)?;
         begins = passes(expr, set, begins);
         gap = next_gap;
         left = after;
+        place += 1;
     }
     Ok(out)
 }

@@ -1,10 +1,11 @@
-use Rattle.std.proofs.Common.{◌+◌, [], ◌∷◌, length, drop, refl, ◌∙◌, arith}
+use Rattle.std.proofs.Common.{◌≡◌, ◌+◌, ◌-◌, [], ◌∷◌, length, drop, refl, sym, ◌∙◌, arith}
 use Rattle.pq_expr.specs.Expr.{expr_tree, expr_trees}
 use Rattle.pq_expr.proofs.Trees.{tree_Cat, tree_Or, tree_And}
 use Rattle.pq_expr.specs.Language.{holds, languages}
 use Rattle.pq_deriv.specs.Parts.{members, spread, first_set, behind_set}
 use Rattle.pq_deriv.specs.Left.{left, lefts, turn_left}
 use Rattle.pq_deriv.proofs.Reading.{item_first, parts_more}
+use Rattle.pq_deriv.proofs.Idle.{ends_idle, ends_over, turn_is}
 use Rattle.pq_deriv.proofs.Spread.{spread_gap}
 use Rattle.pq_deriv.proofs.Turns.{turn_passed}
 use Rattle.pq_deriv.proofs.ends.+ends.Goals as goal
@@ -24,18 +25,29 @@ member_ends-loop-more-preserved t c =
     let ends = rw (c.split_part.ensures.part, c.if-ends.false) at c.ends.ensures in
     rw c.split_part.ensures.behind (rw (← ends) at before)
 
-pub turn_ends-loop-expr-init : goal.turn_ends-loop-expr-init
-turn_ends-loop-expr-init t c = rw (c.split_gap-gap.ensures.gap, c.split_gap-gap.ensures.behind, spread_gap (length (languages (expr_trees c.args.exprs.now))) c.args.rest.now) refl
+pub turn_ends-operands-init : goal.turn_ends-operands-init
+turn_ends-operands-init t c = rw (c.split_gap-gap.ensures.gap, c.split_gap-gap.ensures.behind, spread_gap (length (languages (expr_trees c.args.exprs.now))) c.args.rest.now) refl
 
-pub turn_ends-loop-expr-preserved : goal.turn_ends-loop-expr-preserved
-turn_ends-loop-expr-preserved t c =
+pub turn_ends-returns-then-place-exprs : goal.turn_ends-returns-then-place-exprs
+turn_ends-returns-then-place-exprs t c =
     let es = c.args.exprs.now in
-    let i = c.loop-expr.expr-index in
-    let e = c.expr-item.result in
+    let skip = c.idle-skip.result in
+    let passed = ends_idle c.operands.begins c.operands.place skip c.operands.gap c.operands.left.now es (omega (arith, c.idle-skip.ensures.few)) c.idle-skip.ensures.begins c.idle-skip.ensures.empty in
+    turn_is es c.args.rest.now (sym c.is_empty.ensures ∙ c.if-is_empty.false) c.operands.begins
+    (sym (ends_over c.operands.begins (c.operands.place + skip) es ((c.operands.gap - skip) ∷ c.operands.left.now) c.if-place-exprs.true) ∙ passed ∙ c.operands.invariant)
+
+pub turn_ends-operands-preserved : goal.turn_ends-operands-preserved
+turn_ends-operands-preserved t c =
+    let es = c.args.exprs.now in
+    let skip = c.idle-skip.result in
+    let i = c.operands.place + skip in
+    let e = c.index-exprs-place.result in
     let later = expr_trees (drop (i + 1) es) in
-    let r = c.loop-expr.gap ∷ c.loop-expr.left.now in
-    let first = item_first es i e c.loop-expr-test.true c.expr-item.is in
-    let before = rw first at c.loop-expr.invariant in
+    let less : c.saturating_sub.result ≡ c.operands.gap - skip = c.saturating_sub.ensures in
+    let r = c.saturating_sub.result ∷ c.operands.left.now in
+    let first = item_first es i e (omega (arith, c.if-place-exprs.false)) c.index-exprs-place.is in
+    let passed = ends_idle c.operands.begins c.operands.place skip c.operands.gap c.operands.left.now es (omega (arith, c.idle-skip.ensures.few)) c.idle-skip.ensures.begins c.idle-skip.ensures.empty in
+    let before = rw (← less, first) at (passed ∙ c.operands.invariant) in
     let passes = rw c.split_set-next_gap.ensures.set at c.passes-begins.ensures in
     rw (passes, c.split_set-next_gap.ensures.gap, c.split_set-next_gap.ensures.behind, spread_gap (length (languages later)) (behind_set r))
-    (turn_passed c.loop-expr.begins (holds (expr_tree e)) (languages later) (left (expr_tree e)) (members (first_set r)) (turn_left (languages later) (lefts later) (spread (length (languages later)) (behind_set r)) []) ∙ before)
+    (turn_passed c.operands.begins (holds (expr_tree e)) (languages later) (left (expr_tree e)) (members (first_set r)) (turn_left (languages later) (lefts later) (spread (length (languages later)) (behind_set r)) []) ∙ before)

@@ -1,4 +1,4 @@
-use Rattle.std.proofs.Common.{◌≡◌, ℕ, Vec, Global, ◌+◌, ◌-◌, [], ◌∷◌, ◌++◌, length, map, drop, refl, false, append_assoc, arith, sym, subst, ◌∙◌}
+use Rattle.std.proofs.Common.{◌≡◌, ℕ, Vec, Global, List, ◌≤◌, ◌+◌, ◌-◌, [], ◌∷◌, ◌++◌, length, map, drop, refl, false, append_assoc, arith, sym, subst, ◌∙◌}
 use Rattle.std.proofs.lemmas.List.{append-nil, drop_all}
 use Rattle.std.proofs.lemmas.Result.{IfOk-weaker}
 use Rattle.pq_expr.specs.Word.{HalfStep}
@@ -9,11 +9,11 @@ use Rattle.pq_deriv.proofs.Spread.{wide_none}
 use Rattle.pq_deriv.specs.Left.{left}
 use Rattle.pq_deriv.specs.Stepped.{AreStepped, AreSetsStepped}
 use Rattle.pq_deriv.proofs.Reading.{item_first, parts_more, members_front}
-use Rattle.pq_deriv.proofs.Letters.{member_more, set_kept, set_begun, turn_more, turn_over, turn_whole, sets_whole, rest_more, either_steps, both_step, repetition_steps}
+use Rattle.pq_deriv.proofs.Letters.{member_more, set_kept, set_begun, turn_more, turn_over, turn_whole, sets_whole, idle_left, rest_more, either_steps, both_step, repetition_steps}
 use Rattle.pq_deriv.specs.Choices.{IsOneOf}
 use Rattle.pq_deriv.specs.Rests.{sets, in_parts, in_sets, top_rests, rests, all_rests}
 use Rattle.pq_deriv.proofs.Rests.{one_set}
-use Rattle.pq_deriv.proofs.Shaped.{no_part, part_more, no_set, set_more, no_members, turn_none, turn_some, repeated_begun, repeated_over}
+use Rattle.pq_deriv.proofs.Shaped.{no_part, part_more, no_set, set_more, idle_before, no_members, turn_none, turn_some, repeated_begun, repeated_over}
 use Rattle.pq_deriv.proofs.steps.+steps.Goals as goal
 
 pub step_each-loop-expr-preserved : goal.step_each-loop-expr-preserved
@@ -43,8 +43,8 @@ step_each-returns-clause-rest t c =
     subst (IsOneOf (in_parts (rests (expr_trees c.args.exprs.now)))) (append-nil c.loop-expr.out.items)
     (c.loop-expr.invariant.1 [] (rw (drop_all c.loop-expr.expr-index c.args.exprs.now c.loop-expr-test.false) no_part))
 
-pub step_sets-loop-expr-init : goal.step_sets-loop-expr-init
-step_sets-loop-expr-init t c =
+pub step_sets-operands-init : goal.step_sets-operands-init
+step_sets-operands-init t c =
     let es = c.args.exprs.now in
     let l : HalfStep = record { side = c.args.side; truth = c.args.signature.now } in (
       λ more steps. rw (c.new-out.ensures.items, wide_none more) (sets_whole l (expr_trees es) false c.args.rest.now more (rw (c.split_gap-gap.ensures.gap, c.split_gap-gap.ensures.behind) at steps)),
@@ -52,37 +52,61 @@ step_sets-loop-expr-init t c =
       omega arith,
     )
 
-pub step_sets-loop-expr-preserved : goal.step_sets-loop-expr-preserved
-step_sets-loop-expr-preserved t c =
+pub step_sets-returns-then-place-exprs-clause-left : goal.step_sets-returns-then-place-exprs-clause-left
+step_sets-returns-then-place-exprs-clause-left t c =
     let es = c.args.exprs.now in
-    let i = c.loop-expr.expr-index in
-    let e = c.expr-item.result in
-    let r = c.loop-expr.gap ∷ c.loop-expr.left.now in
     let l : HalfStep = record { side = c.args.side; truth = c.args.signature.now } in
-    let first = item_first es i e c.loop-expr-test.true c.expr-item.is in
+    let W : List ℕ → Type 0 = AreSetsStepped l (expr_trees es) false c.args.rest.now in
+    let skip = c.idle-skip.result in
+    let r = (c.operands.gap - skip) ∷ c.operands.left.now in
+    subst W (append-nil c.operands.out.items)
+    (idle_left l c.operands.begins c.operands.place skip c.operands.gap c.operands.empties c.operands.left.now c.operands.out.items es W (omega (arith, c.idle-skip.ensures.few)) c.idle-skip.ensures.begins c.idle-skip.ensures.empty c.operands.invariant.0 []
+    (rw (drop_all (c.operands.place + skip) es c.if-place-exprs.true) (turn_over l c.operands.begins r [])))
+
+pub step_sets-returns-then-place-exprs-clause-rest : goal.step_sets-returns-then-place-exprs-clause-rest
+step_sets-returns-then-place-exprs-clause-rest t c =
+    let es = c.args.exprs.now in
+    let W : List ℕ → Type 0 = IsOneOf (in_sets (map sets (rests (expr_trees es)))) in
+    let skip = c.idle-skip.result in
+    subst W (append-nil c.operands.out.items)
+    (idle_before c.operands.place skip c.operands.empties c.operands.out.items es W (omega (arith, c.idle-skip.ensures.few)) c.operands.invariant.1 [] (rw (drop_all (c.operands.place + skip) es c.if-place-exprs.true) no_set))
+
+pub step_sets-operands-preserved : goal.step_sets-operands-preserved
+step_sets-operands-preserved t c =
+    let es = c.args.exprs.now in
+    let skip = c.idle-skip.result in
+    let i = c.operands.place + skip in
+    let e = c.index-exprs-place.result in
+    let few : skip ≤ length es - c.operands.place = omega (arith, c.idle-skip.ensures.few) in
+    let less : c.saturating_sub.result ≡ c.operands.gap - skip = c.saturating_sub.ensures in
+    let r = c.saturating_sub.result ∷ c.operands.left.now in
+    let l : HalfStep = record { side = c.args.side; truth = c.args.signature.now } in
+    let W : List ℕ → Type 0 = AreSetsStepped l (expr_trees es) false c.args.rest.now in
+    let V : List ℕ → Type 0 = IsOneOf (in_sets (map sets (rests (expr_trees es)))) in
+    let first = item_first es i e (omega (arith, c.if-place-exprs.false)) c.index-exprs-place.is in
     let set = c.in_ok-stepped.stepped.items in
     let pushed = rw c.deref.ensures.value at c.in_ok-empties.ensures.set in
     let steps = rw c.split_set-next_gap.ensures.set at c.in_ok-stepped.ensures.left in
     let passes = rw c.split_set-next_gap.ensures.set at c.passes-begins.ensures in (
-      λ more rest. subst (AreSetsStepped l (expr_trees es) false c.args.rest.now) (sym (pushed more))
-          (c.loop-expr.invariant.0 (set_before set more)
-          (rw first (turn_more l e (drop (i + 1) es) c.loop-expr.begins r set more steps (sets_whole l (expr_trees (drop (i + 1) es)) _ (behind_set r) more (rw (passes, c.split_set-next_gap.ensures.gap, c.split_set-next_gap.ensures.behind) at rest))))),
-      λ more are. subst (IsOneOf (in_sets (map sets (rests (expr_trees es))))) (sym (pushed more))
-          (c.loop-expr.invariant.1 (set_before set more)
+      λ more rest. subst W (sym (pushed more))
+          (idle_left l c.operands.begins c.operands.place skip c.operands.gap c.operands.empties c.operands.left.now c.operands.out.items es W few c.idle-skip.ensures.begins c.idle-skip.ensures.empty c.operands.invariant.0 (set_before set more)
+          (rw (first, ← less) (turn_more l e (drop (i + 1) es) c.operands.begins r set more steps (sets_whole l (expr_trees (drop (i + 1) es)) _ (behind_set r) more (rw (passes, c.split_set-next_gap.ensures.gap, c.split_set-next_gap.ensures.behind) at rest))))),
+      λ more are. subst V (sym (pushed more))
+          (idle_before c.operands.place skip c.operands.empties c.operands.out.items es V few c.operands.invariant.1 (set_before set more)
           (rw first (set_more (sets (all_rests (expr_tree e))) (map sets (rests (expr_trees (drop (i + 1) es)))) set more c.in_ok-stepped.ensures.set are))),
-      omega (arith, c.in_ok-empties.ensures.few, c.loop-expr.invariant.2),
+      omega (arith, c.in_ok-empties.ensures.few, c.operands.invariant.2),
     )
 
 pub step_sets-returns-clause-left : goal.step_sets-returns-clause-left
 step_sets-returns-clause-left t c =
     let l : HalfStep = record { side = c.args.side; truth = c.args.signature.now } in
-    subst (AreSetsStepped l (expr_trees c.args.exprs.now) false c.args.rest.now) (append-nil c.loop-expr.out.items)
-    (c.loop-expr.invariant.0 [] (rw (drop_all c.loop-expr.expr-index c.args.exprs.now c.loop-expr-test.false) (turn_over l c.loop-expr.begins (c.loop-expr.gap ∷ c.loop-expr.left.now) [])))
+    subst (AreSetsStepped l (expr_trees c.args.exprs.now) false c.args.rest.now) (append-nil c.operands.out.items)
+    (c.operands.invariant.0 [] (rw (drop_all c.operands.place c.args.exprs.now c.operands-test.false) (turn_over l c.operands.begins (c.operands.gap ∷ c.operands.left.now) [])))
 
 pub step_sets-returns-clause-rest : goal.step_sets-returns-clause-rest
 step_sets-returns-clause-rest t c =
-    subst (IsOneOf (in_sets (map sets (rests (expr_trees c.args.exprs.now))))) (append-nil c.loop-expr.out.items)
-    (c.loop-expr.invariant.1 [] (rw (drop_all c.loop-expr.expr-index c.args.exprs.now c.loop-expr-test.false) no_set))
+    subst (IsOneOf (in_sets (map sets (rests (expr_trees c.args.exprs.now))))) (append-nil c.operands.out.items)
+    (c.operands.invariant.1 [] (rw (drop_all c.operands.place c.args.exprs.now c.operands-test.false) no_set))
 
 pub step_turn-returns-clause-left : goal.step_turn-returns-clause-left
 step_turn-returns-clause-left t c =

@@ -1,4 +1,4 @@
-use Rattle.std.proofs.Common.{◌≡◌, ◌≤◌, ℕ, List, ◌∷◌, ◌||◌, ◌++◌, false, map, drop}
+use Rattle.std.proofs.Common.{◌≡◌, ◌≤◌, ℕ, List, ◌∷◌, ◌||◌, ◌++◌, ◌-◌, false, length, map, drop}
 use Rattle.pq_expr.specs.Word.{Word}
 use Rattle.pq_expr.specs.Expr.{expr_tree, expr_trees}
 use Rattle.pq_expr.specs.Language.{Language}
@@ -15,12 +15,15 @@ invariant-step_each-loop-expr l =
     → AreStepped (record { side = l.side; truth = l.signature }) (expr_trees l.exprs) l.rest (l.out.items ++ more))
     × ((more : List ℕ) → IsOneOf (in_parts (rests (expr_trees (drop l.expr-index l.exprs)))) more → IsOneOf (in_parts (rests (expr_trees l.exprs))) (l.out.items ++ more))
 
-abbrev pub invariant-step_sets-loop-expr : goal.invariant-step_sets-loop-expr
-invariant-step_sets-loop-expr l =
-    ((more : List ℕ) → AreSetsStepped (record { side = l.side; truth = l.signature }) (expr_trees (drop l.expr-index l.exprs)) l.begins (l.gap ∷ l.left) more
+abbrev pub invariant-step_sets-operands : goal.invariant-step_sets-operands
+invariant-step_sets-operands l =
+    ((more : List ℕ) → AreSetsStepped (record { side = l.side; truth = l.signature }) (expr_trees (drop l.place l.exprs)) l.begins (l.gap ∷ l.left) more
     → AreSetsStepped (record { side = l.side; truth = l.signature }) (expr_trees l.exprs) false l.rest (l.out.items ++ wide l.empties more))
-    × ((more : List ℕ) → IsOneOf (in_sets (map sets (rests (expr_trees (drop l.expr-index l.exprs))))) more → IsOneOf (in_sets (map sets (rests (expr_trees l.exprs)))) (l.out.items ++ wide l.empties more))
-    × (l.empties ≤ l.expr-index)
+    × ((more : List ℕ) → IsOneOf (in_sets (map sets (rests (expr_trees (drop l.place l.exprs))))) more → IsOneOf (in_sets (map sets (rests (expr_trees l.exprs)))) (l.out.items ++ wide l.empties more))
+    × (l.empties ≤ l.place)
+
+abbrev pub decreases-step_sets-operands : goal.decreases-step_sets-operands
+decreases-step_sets-operands l = length l.exprs - l.place
 
 abbrev pub invariant-step_members-loop-more : goal.invariant-step_members-loop-more
 invariant-step_members-loop-more l =
