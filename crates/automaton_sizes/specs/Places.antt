@@ -7,12 +7,7 @@ use Rattle.pq_fields.specs.Packet.{Numbers, with_number, zero_packet}
 abbrev pub place : ℕ → ℕ → Numbers
 place switch port = with_number Port port (with_number Switch switch zero_packet)
 
--- the packets at the first ports of switch 0, so many
-abbrev pub at_first_ports : ℕ → List Numbers
-at_first_ports zero = []
-at_first_ports (suc n) = at_first_ports n ++ place 0 n ∷ []
-
--- the packets at ports 0 to 3 of the first switches, so many packets
-abbrev pub at_first_places : ℕ → List Numbers
-at_first_places zero = []
-at_first_places (suc n) = at_first_places n ++ place (n / 4) (n % 4) ∷ []
+-- the packets at the first places, where each switch has so many ports
+abbrev pub at_first_places : ℕ → ℕ → List Numbers
+at_first_places ports zero = []
+at_first_places ports (suc n) = at_first_places ports n ++ place (n / ports) (n % ports) ∷ []

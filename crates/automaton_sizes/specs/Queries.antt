@@ -1,5 +1,5 @@
 -- The worked queries as plain data.
-use Rattle.std.specs.Prelude.{ℕ, zero, suc, ◌+◌, ◌*◌, ◌/◌, ◌%◌, List, [], ◌∷◌, ◌++◌, Some}
+use Rattle.std.specs.Prelude.{ℕ, zero, suc, ◌+◌, ◌-◌, ◌*◌, ◌/◌, ◌%◌, List, [], ◌∷◌, ◌++◌, Some}
 use Rattle.std.specs.List.{range_with_len}
 use Rattle.pq_fields.specs.declared.field.Field.TheVariants.{Switch, Port}
 use Rattle.pq_fields.specs.Pred.{PredTree, leaf as pred_leaf}
@@ -35,10 +35,28 @@ any_number q = record { top = Repeated; below = queries (q ∷ []) }
 abbrev pub all_but : QueryTree → QueryTree
 all_but q = record { top = Other; below = queries (q ∷ []) }
 
--- so many times `in_atom(true)`
-abbrev pub any_packets : ℕ → List QueryTree
-any_packets zero = []
-any_packets (suc n) = any_packets n ++ entering anything ∷ []
+-- a query so many times
+abbrev pub times : ℕ → QueryTree → List QueryTree
+times zero q = []
+times (suc n) q = times n q ++ q ∷ []
+
+-- `in_atom(true)*`
+abbrev pub any_packets : QueryTree
+any_packets = any_number (entering anything)
+
+-- `in_atom(true)` behind so many `~`
+abbrev pub turned : ℕ → QueryTree
+turned zero = entering anything
+turned (suc n) = all_but (turned n)
+
+-- `in_atom(switch=1) ^ in_atom(true)* ^ in_atom(switch=2) ^ in_atom(true)*` and so on, past so many switches
+abbrev pub passing : ℕ → List QueryTree
+passing zero = []
+passing (suc n) = (passing n ++ entering (switch_is (n + 1)) ∷ []) ++ any_packets ∷ []
+
+-- past all switches but the last, and to the last
+abbrev pub waypoints : ℕ → QueryTree
+waypoints last = in_turn (passing (last - 1) ++ entering (switch_is last) ∷ [])
 
 -- `in_group(true, [port of (1, .., 32)])`
 abbrev pub at_many_ports : QueryTree

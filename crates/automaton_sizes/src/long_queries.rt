@@ -1,30 +1,71 @@
 //! Queries of many atoms or instances, built by hand.
-ghost use Rattle.std.specs.Prelude.{◌≡◌, IfOk, [], ◌∷◌, ◌++◌};
+ghost use Rattle.std.specs.Prelude.{◌≡◌, ◌<◌, IfOk, [], ◌∷◌, ◌++◌};
 ghost use Rattle.pq_query.specs.Query.{query_tree};
 ghost use Rattle.automaton_sizes.specs.Queries.{
   any_packets,
+  anything,
   at_many_ports,
+  entering,
   in_turn,
   one_of,
+  times,
+  turned,
   varied_atoms,
   varied_chains,
   varied_port,
+  waypoints,
 };
 
-use crate::queries::{at_port, group, in_atom};
+use crate::queries::{any_packets, at_port, at_switch, group, in_atom, without};
 use pq_fields::{Field, Pred};
 use pq_query::Query;
 use std::alloc::{AllocError, Global};
 
 /// So many times `in_atom(true)` and then the last query, joined by `^`.
 pub fn chain(alloc: Global, count: u32, last: Query) -> Result<Query, AllocError>
-    ensures { IfOk result (λ q. query_tree q ≡ in_turn (any_packets count ++ query_tree last ∷ [])) }
+    ensures { IfOk result (λ q. query_tree q ≡ in_turn (times count (entering anything) ++ query_tree last ∷ [])) }
 {
     let mut operands = Vec::new(alloc);
     for _ in 0..count {
         operands.push(in_atom(alloc, Pred::True))?;
     }
     operands.push(last)?;
+    Ok(Query::Cat(operands))
+}
+
+/// So many times `in_atom(true)*`, joined by `^`.
+pub fn streams(alloc: Global, count: u32) -> Result<Query, AllocError>
+    ensures { IfOk result (λ q. query_tree q ≡ in_turn (times count any_packets)) }
+{
+    let mut operands = Vec::new(alloc);
+    for _ in 0..count {
+        operands.push(any_packets(alloc)?)?;
+    }
+    Ok(Query::Cat(operands))
+}
+
+/// `in_atom(true)` behind so many `~`.
+pub fn complements(alloc: Global, count: u32) -> Result<Query, AllocError>
+    ensures { IfOk result (λ q. query_tree q ≡ turned count) }
+{
+    let mut query = in_atom(alloc, Pred::True);
+    for _ in 0..count {
+        query = without(alloc, query)?;
+    }
+    Ok(query)
+}
+
+/// `in_atom(switch=1) ^ in_atom(true)* ^ in_atom(switch=2) ^ in_atom(true)* ^ ..`, up to the last switch.
+pub fn waypoints(alloc: Global, last: u32) -> Result<Query, AllocError>
+    requires { 0 < last }
+    ensures { IfOk result (λ q. query_tree q ≡ waypoints last) }
+{
+    let mut operands = Vec::new(alloc);
+    for passed in 0..last - 1 {
+        operands.push(in_atom(alloc, at_switch(u64::from(passed) + 1)))?;
+        operands.push(any_packets(alloc)?)?;
+    }
+    operands.push(in_atom(alloc, at_switch(u64::from(last))))?;
     Ok(Query::Cat(operands))
 }
 

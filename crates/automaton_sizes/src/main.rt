@@ -12,64 +12,56 @@ mod queries;
 #[cfg(test)]
 mod tests;
 
-use letters::{at_ports, at_switches_and_ports};
 use lines::line;
+use long_queries::{chain, grouped_atom, streams, union, waypoints};
 use pq_fields::Pred;
+use queries::{in_atom, joined, out_atom};
 use std::alloc::{AllocError, Global};
 use std::io;
 
-/// The lines of queries of few atoms, over the packets at switches and ports 0 to 3.
-fn small_lines(alloc: Global) -> Result<Vec<String>, AllocError> {
-    let packets = at_switches_and_ports(alloc)?;
-    let mut lines = Vec::new(alloc);
-    for (name, query) in [
-        ("zero repeats", queries::zero_repeats(alloc)?),
-        ("complement", queries::complement(alloc)?),
-        ("labels", queries::labels(alloc)?),
-        ("a loop", queries::a_loop(alloc)?),
-        ("two packets", queries::two_packets(alloc)?),
-        ("a dropped packet", queries::dropped()),
-    ] {
-        lines.push(line(alloc, name, query, &packets)?)?;
-    }
-    Ok(lines)
+/// Adds the lines of queries of few atoms, over the packets at switches and ports 0 to 3.
+fn add_small(alloc: Global, lines: &mut Vec<String>) -> Result<(), AllocError> {
+    lines.push(line(alloc, "zero repeats", queries::zero_repeats(alloc)?, 16, 4)?)?;
+    lines.push(line(alloc, "complement", queries::complement(alloc)?, 16, 4)?)?;
+    lines.push(line(alloc, "labels", queries::labels(alloc)?, 16, 4)?)?;
+    lines.push(line(alloc, "a loop", queries::a_loop(alloc)?, 16, 4)?)?;
+    lines.push(line(alloc, "two packets", queries::two_packets(alloc)?, 16, 4)?)?;
+    lines.push(line(alloc, "a dropped packet", queries::dropped(), 16, 4)?)?;
+    Ok(())
 }
 
-/// The line of 2,046 atoms for packets that come in.
-fn chain_line(alloc: Global) -> Result<String, AllocError> {
-    let last = queries::in_atom(alloc, Pred::True);
-    let query = long_queries::chain(alloc, 2045, last)?;
-    line(alloc, "tag width", query, &at_ports(alloc, 2)?)
+/// Adds the lines of long chains, of a query with 1,024 instances, and of twenty chains of which any is held.
+fn add_long(alloc: Global, lines: &mut Vec<String>) -> Result<(), AllocError> {
+    let narrow = chain(alloc, 2045, in_atom(alloc, Pred::True))?;
+    lines.push(line(alloc, "tag width", narrow, 2, 2)?)?;
+    let wide = chain(alloc, 2045, out_atom(alloc, Pred::True))?;
+    lines.push(line(alloc, "tag width, one more", wide, 2, 2)?)?;
+    let first = grouped_atom(alloc)?;
+    let second = grouped_atom(alloc)?;
+    let grouped = joined(alloc, first, second)?;
+    lines.push(line(alloc, "instances", grouped, 34, 34)?)?;
+    lines.push(line(alloc, "a union", union(alloc, 20)?, 8, 8)?)?;
+    lines.push(line(alloc, "1,000 repetitions", streams(alloc, 1000)?, 2, 2)?)?;
+    Ok(())
 }
 
-/// The line of 2,046 atoms of which the last is for packets that go out.
-fn long_chain_line(alloc: Global) -> Result<String, AllocError> {
-    let last = queries::out_atom(alloc, Pred::True);
-    let query = long_queries::chain(alloc, 2045, last)?;
-    line(alloc, "tag width, one more", query, &at_ports(alloc, 2)?)
-}
-
-/// The line of a query with 1,024 instances.
-fn instances_line(alloc: Global) -> Result<String, AllocError> {
-    let first = long_queries::grouped_atom(alloc)?;
-    let second = long_queries::grouped_atom(alloc)?;
-    let query = queries::joined(alloc, first, second)?;
-    line(alloc, "instances", query, &at_ports(alloc, 34)?)
-}
-
-/// The line of twenty chains of ten atoms each, any of which is held.
-fn union_line(alloc: Global) -> Result<String, AllocError> {
-    let query = long_queries::union(alloc, 20)?;
-    line(alloc, "a union", query, &at_ports(alloc, 8)?)
+/// Adds the lines of waypoints, over the packets at switches 0 to 12.
+fn add_waypoints(alloc: Global, lines: &mut Vec<String>) -> Result<(), AllocError> {
+    lines.push(line(alloc, "3 waypoints", waypoints(alloc, 3)?, 13, 1)?)?;
+    lines.push(line(alloc, "6 waypoints", waypoints(alloc, 6)?, 13, 1)?)?;
+    lines.push(line(alloc, "9 waypoints", waypoints(alloc, 9)?, 13, 1)?)?;
+    lines.push(line(alloc, "12 waypoints", waypoints(alloc, 12)?, 13, 1)?)?;
+    Ok(())
 }
 
 fn main(rt: HostRuntime) -> io::Result<()> {
     let alloc = rt.alloc();
-    for line in small_lines(alloc)? {
+    let mut lines = Vec::new(alloc);
+    add_small(alloc, &mut lines)?;
+    add_long(alloc, &mut lines)?;
+    add_waypoints(alloc, &mut lines)?;
+    for line in lines {
         println!(rt; "{line}")?;
     }
-    println!(rt; "{}", chain_line(alloc)?)?;
-    println!(rt; "{}", long_chain_line(alloc)?)?;
-    println!(rt; "{}", instances_line(alloc)?)?;
-    println!(rt; "{}", union_line(alloc)?)
+    Ok(())
 }

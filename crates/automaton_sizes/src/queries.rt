@@ -8,6 +8,7 @@ ghost use Rattle.pq_query.specs.Query.{leaf, query_tree};
 ghost use Rattle.automaton_sizes.specs.Queries.{
   all_but,
   any_number,
+  any_packets,
   anything,
   entering,
   in_turn,
@@ -35,7 +36,7 @@ pub fn out_atom(alloc: Global, pred: Pred) -> Query
 }
 
 /// `switch=NUMBER`.
-fn at_switch(number: u64) -> Pred
+pub fn at_switch(number: u64) -> Pred
     ensures { pred_tree result ≡ switch_is number }
 {
     Pred::Equal(Field::Switch, number)
@@ -77,6 +78,14 @@ pub fn repeated(alloc: Global, query: Query) -> Result<Query, AllocError>
         Ok(operand) => Ok(Query::Star(operand)),
         Err(_) => Err(AllocError),
     }
+}
+
+/// `in_atom(true)*`.
+pub fn any_packets(alloc: Global) -> Result<Query, AllocError>
+    ensures { IfOk result (λ q. query_tree q ≡ any_packets) }
+{
+    let query = repeated(alloc, in_atom(alloc, Pred::True))?;
+    Ok(query)
 }
 
 /// `~QUERY`.
@@ -132,9 +141,9 @@ pub fn a_loop(alloc: Global) -> Result<Query, AllocError>
 
 /// `in_atom(true)* ^ in_atom(switch=2)`.
 pub fn two_packets(alloc: Global) -> Result<Query, AllocError>
-    ensures { IfOk result (λ q. query_tree q ≡ in_turn (any_number (entering anything) ∷ entering (switch_is 2) ∷ [])) }
+    ensures { IfOk result (λ q. query_tree q ≡ in_turn (any_packets ∷ entering (switch_is 2) ∷ [])) }
 {
-    let repeats = repeated(alloc, in_atom(alloc, Pred::True))?;
+    let repeats = any_packets(alloc)?;
     joined(alloc, repeats, in_atom(alloc, at_switch(2)))
 }
 
