@@ -2,7 +2,8 @@
 ghost use Rattle.std.specs.Prelude.{◌≡◌, ◌≤◌, ◌<◌, length, IfOk};
 
 use crate::automata::automaton_of;
-use crate::letters::packet_at;
+use crate::letters::{at_places, packet_at};
+use crate::long_queries::{complements, streams};
 use crate::plain::holds_word;
 use crate::queries::{at_port, in_atom, joined, out_atom, repeated, without};
 use pq_fields::Packet;
@@ -148,5 +149,29 @@ fn packets_sent_are_told(rt: HostRuntime) -> Result<(), Fail> {
             )?
         );
     }
+    Ok(())
+}
+
+/// How many classes the automaton of the query has, whose letters are the packets at ports 0 and 1.
+fn class_count(alloc: Global, query: Query) -> Result<u64, AllocError> {
+    let packets = at_places(alloc, 2, 2)?;
+    let automaton = automaton_of::<Brand>(alloc, Blank::new(1), query, &packets)?;
+    Ok(automaton.classes.count())
+}
+
+/// A document has room for so many `in_atom(true)*`, joined by `^`.
+#[test]
+fn the_longest_chain_has_three_classes(rt: HostRuntime) -> Result<(), Fail> {
+    let alloc = rt.alloc();
+    let query = streams(alloc, 34_950)?;
+    assert!(rt; class_count(alloc, query)? == 3);
+    Ok(())
+}
+
+#[test]
+fn a_hundred_complements_have_the_classes_of_none(rt: HostRuntime) -> Result<(), Fail> {
+    let alloc = rt.alloc();
+    let query = complements(alloc, 100)?;
+    assert!(rt; class_count(alloc, query)? == class_count(alloc, complements(alloc, 0)?)?);
     Ok(())
 }
