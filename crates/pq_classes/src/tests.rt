@@ -50,9 +50,14 @@ fn classes_of_entries<L: Ledger>(
     query_classes(alloc, &queries, &nowhere, &mut tests, &mut steps)
 }
 
+/// The same, with a ledger of its own.
+fn told_of_entries(alloc: Global) -> Result<QueryClasses, InstancesFault> {
+    classes_of_entries::<Brand>(alloc, Blank::new(1))
+}
+
 #[test]
 fn entries_have_four_classes(rt: HostRuntime) -> Result<(), Fail> {
-    let Ok(told) = classes_of_entries::<Brand>(rt.alloc(), Blank::new(1)) else {
+    let Ok(told) = told_of_entries(rt.alloc()) else {
         return Err("out of memory".into());
     };
     assert_eq!(rt; told.instances.len(), 1);
