@@ -1,0 +1,9 @@
+pub mod Tagging
+pub mod Leaves
+pub mod Trees
+pub mod Entries
+pub mod Actions
+pub mod Messages
+pub mod Sound
+pub mod Sending
+pub mod Emission
