@@ -1,11 +1,9 @@
 -- The query of the test is lawful, and there is room for its numbers.
-use Rattle.std.proofs.Common.{◌≡◌, ◌≤◌, ◌^◌, ◌/◌, ◌-◌, ℕ, false, List, [], ◌∷◌, refl, arith}
+use Rattle.std.proofs.Common.{[], ◌∷◌, refl, arith}
 use Rattle.std.specs.Prelude.{All}
 use Rattle.std.specs.List.{IsDistinct}
 use Rattle.std.proofs.lemmas.List.Elements.{All-nil, All-cons}
-use Rattle.pq_fields.specs.declared.field.Field.{Field}
 use Rattle.pq_fields.specs.declared.field.Field.TheVariants.{Switch, Port, EthType, IpProto, EthSrc, EthDst, Ipv4Src, Ipv4Dst, TcpSrc, TcpDst, UdpSrc, UdpDst, Ipv6Src, Ipv6Dst}
-use Rattle.pq_fields.specs.Packet.{width_of}
 use Rattle.pq_fields.specs.Pred.{Always, FitsField, leaf}
 use Rattle.pq_model.specs.Topology.{Topology}
 use Rattle.pq_query.specs.Lawful.{AreGroupsOver, IsGroupOver, IsLawfulQuery}

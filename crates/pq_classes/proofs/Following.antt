@@ -1,10 +1,10 @@
 -- Following words through an automaton, and lists that ascend.
-use Rattle.std.proofs.Common.{◌≡◌, ◌↔◌, ◌⊎◌, ◌<◌, ◌≤◌, ℕ, suc, zero, inl, inr, List, [], ◌∷◌, ◌++◌, length, get_or, refl, sym, ap, ap₂, subst, ◌∙◌, arith}
-use Rattle.std.specs.Prelude.{slice_get, Some, None}
+use Rattle.std.proofs.Common.{◌≡◌, ◌↔◌, ◌<◌, ℕ, suc, zero, List, [], ◌∷◌, ◌++◌, length, get_or, refl, sym, ap, ap₂, subst, ◌∙◌, arith}
+use Rattle.std.specs.Prelude.{slice_get, Some}
 use Rattle.std.specs.List.{Contains}
 use Rattle.std.proofs.lemmas.Option.{slice_get-get_or, slice_get_within, get_or_from_slice_get}
 use Rattle.pq_model.specs.Lawful.{Ascends}
-use Rattle.pq_auto.specs.Machine.{Machine, AllBelow, IsMachine, follow, reached}
+use Rattle.pq_auto.specs.Machine.{Machine, AllBelow, IsMachine, follow}
 
 -- a word and then another
 pub follow_append : (rows : List (List ℕ)) (s : ℕ) (u v : List ℕ) → follow rows s (u ++ v) ≡ follow rows (follow rows s u) v

@@ -1,17 +1,16 @@
 -- Which instances hold a word, by their expressions.
-use Rattle.std.proofs.Common.{◌≡◌, ◌↔◌, ◌⊎◌, ◌<◌, ◌≤◌, ◌+◌, ℕ, suc, zero, Bool, true, false, if◌then◌else◌, inl, inr, List, [], ◌∷◌, ◌++◌, length, get_or, map, refl, sym, ap, ap₂, subst, ◌∙◌, arith, true≢false}
-use Rattle.std.specs.Prelude.{slice_get, Some, None, All}
+use Rattle.std.proofs.Common.{◌≡◌, ◌<◌, ◌+◌, ℕ, suc, zero, Bool, true, false, if◌then◌else◌, List, [], ◌∷◌, length, get_or, map, refl, sym, ap, ap₂, subst, ◌∙◌, arith}
+use Rattle.std.specs.Prelude.{slice_get, Some, All}
 use Rattle.std.specs.List.{AllZip, Contains}
 use Rattle.std.specs.Option.{unwrap_or}
 use Rattle.std.proofs.lemmas.List.Elements.{All-head, All-tail}
-use Rattle.std.proofs.lemmas.Option.{slice_get-get_or, slice_get_within, get_or_from_slice_get}
+use Rattle.std.proofs.lemmas.Option.{slice_get_within, get_or_from_slice_get}
 use Rattle.pq_fields.specs.Packet.{Numbers, Fit}
 use Rattle.pq_fields.specs.Pred.{PredTree, holds as holds_pred}
 use Rattle.pq_model.specs.Buckets.{Instance}
 use Rattle.pq_model.specs.Classes.{AllObservedFit, IsPath}
 use Rattle.pq_model.specs.Lawful.{Ascends}
 use Rattle.pq_model.specs.Word.{Word, In, Out, alternates, is_word, observed_packet}
-use Rattle.pq_query.specs.Language.{lang}
 use Rattle.pq_query.specs.Languages.{IsHeld}
 use Rattle.pq_query.specs.Query.{QueryTree}
 use Rattle.pq_expr.specs.declared.side.Side.{Side}
@@ -19,13 +18,13 @@ use Rattle.pq_expr.specs.declared.side.Side.TheVariants.{In as Inward, Out as Ou
 use Rattle.pq_expr.specs.Expr.{ExprTree}
 use Rattle.pq_expr.specs.Language.{holds}
 use Rattle.pq_expr.specs.Word.{Word as HalfSteps}
-use Rattle.pq_lower.specs.HalfSteps.{half_step, half_steps}
+use Rattle.pq_lower.specs.HalfSteps.{half_steps}
 use Rattle.pq_auto.specs.Exploration.{half_steps_from, holding, holding_from, half_steps as letter_steps}
 use Rattle.pq_letters.specs.Letters.{LettersValue, IsLettered, letter_at}
 use Rattle.pq_letters.specs.Words.{letter_number, letters_of}
 use Rattle.pq_classes.specs.Lowered.{AreLowered, IsLowered}
 use Rattle.pq_classes.specs.Told.{AreHolding}
-use Rattle.pq_classes.proofs.Following.{contains_from, has_from}
+use Rattle.pq_classes.proofs.Following.{has_from}
 
 -- Lists of the expressions that hold a word.
 

@@ -1,20 +1,19 @@
 -- The states of a least automaton over letters are the classes of words of packets, numbered by least words.
-use Rattle.std.proofs.Common.{◌≡◌, ◌↔◌, ◌⊎◌, ◌<◌, ◌≤◌, ◌+◌, ℕ, suc, zero, Bool, true, false, inl, inr, List, [], ◌∷◌, ◌++◌, length, get_or, refl, sym, ap, ap₂, subst, ◌∙◌, arith, append-nil, length-append, true≢false}
-use Rattle.std.specs.Prelude.{slice_get, Some, None, All}
-use Rattle.std.specs.List.{Any, Contains}
+use Rattle.std.proofs.Common.{◌≡◌, ◌⊎◌, ◌<◌, ◌≤◌, ℕ, suc, zero, Bool, true, false, inl, inr, List, [], ◌∷◌, ◌++◌, length, get_or, refl, sym, ap, subst, ◌∙◌, arith, length-append, true≢false}
+use Rattle.std.specs.Prelude.{slice_get, Some, All}
+use Rattle.std.specs.List.{Contains}
 use Rattle.std.proofs.lemmas.Bool.{cases_order}
 use Rattle.std.proofs.lemmas.List.Elements.{All-nil, All-push}
 use Rattle.std.proofs.lemmas.Option.{slice_get-get_or, slice_get_within, get_or_from_slice_get}
-use Rattle.pq_fields.specs.Packet.{Fit}
-use Rattle.pq_model.specs.Word.{Word, is_word, observed_packet, word_is_before, word_numbers}
-use Rattle.pq_model.specs.Classes.{AllObservedFit, AreSame, HasClasses, IsLeast, IsPath, IsTag, Languages, has_even_length}
-use Rattle.pq_auto.specs.Machine.{Machine, AllBelow, IsMachine, IsLeastMachine, AreSame as AreSameStates, follow, reached, is_even_at, accepted_at, has_even_length as has_even_count}
-use Rattle.pq_auto.specs.Numbering.{IsBefore, IsNumbered, AreLeast, IsLeastTo}
+use Rattle.pq_model.specs.Word.{Word, word_is_before, word_numbers}
+use Rattle.pq_model.specs.Classes.{AreSame, HasClasses, IsLeast, IsPath, IsTag, Languages, has_even_length}
+use Rattle.pq_auto.specs.Machine.{Machine, AllBelow, IsMachine, IsLeastMachine, follow, reached, is_even_at, accepted_at, has_even_length as has_even_count}
+use Rattle.pq_auto.specs.Numbering.{IsNumbered, IsLeastTo}
 use Rattle.pq_letters.specs.Letters.{LettersValue, IsLettered}
 use Rattle.pq_letters.specs.Words.{least_word, letters_are_before, letters_of}
 use Rattle.pq_letters.proofs.NumberLists.{not_back}
 use Rattle.pq_letters.proofs.Spelled.{lesser_word, not_before_least}
-use Rattle.pq_classes.specs.Told.{AreClasses, AreHolding, IsTold, class_of}
+use Rattle.pq_classes.specs.Told.{AreClasses, AreHolding, class_of}
 use Rattle.pq_classes.proofs.Order.{before_trans, letters_before, one_word}
 use Rattle.pq_classes.proofs.Spelled.{even_append, even_letters, least_spelled, letters_append, letters_below, letters_spelled, path_more, spelled, spelled_path}
 use Rattle.pq_classes.proofs.Following.{follow_append, follow_within, same_contents}
@@ -261,5 +260,6 @@ module _ (Ls : Languages) (a : LettersValue) (lettered : IsLettered a) (m : Mach
   are_classes = record {
     letters = letters;
     told = λ w path. record { within = class_within w path; even = class_even w path; accepted = holding w path; tag = tag_of w path };
+    reached = λ c within. (first_word c, first_path c within, first_class c within);
     count = count_of;
   }

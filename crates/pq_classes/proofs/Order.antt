@@ -1,12 +1,11 @@
 -- The orders of words, and lists of numbers that ascend.
-use Rattle.std.proofs.Common.{◌≡◌, ◌↔◌, ◌⊎◌, ◌<◌, ◌≤◌, ℕ, suc, zero, Bool, true, false, inl, inr, List, [], ◌∷◌, ◌++◌, length, get_or, drop, flat_map, refl, sym, ap, ap₂, subst, ◌∙◌, arith, true≢false}
+use Rattle.std.proofs.Common.{◌≡◌, ℕ, Bool, true, false, inl, inr, List, [], ◌∷◌, ◌++◌, length, get_or, drop, flat_map, refl, sym, ap, ap₂, subst, ◌∙◌, arith, true≢false}
 use Rattle.std.specs.declared.cmp.Ordering.TheVariants.{Less, Equal, Greater}
 use Rattle.std.specs.Ordering.{nat_cmp, is_lt}
 use Rattle.std.specs.Cmp.Lexicographic.{slice_cmp, nat_list_cmp_total}
 use Rattle.std.proofs.lemmas.Bool.{cases_order}
 use Rattle.pq_fields.specs.Packet.{Numbers, is_before, numbers}
 use Rattle.pq_model.specs.Word.{Word, In, Out, observed_packet, alternates, is_word, word_is_before, word_numbers}
-use Rattle.pq_model.specs.Lawful.{Ascends}
 use Rattle.pq_model.proofs.Sorted.{before-cmp}
 use Rattle.pq_auto.specs.Numbering.{IsBefore}
 use Rattle.pq_letters.specs.Words.{letters_are_before}

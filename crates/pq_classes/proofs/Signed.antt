@@ -1,5 +1,5 @@
 -- The letters of predicates, and the automaton over them.
-use Rattle.std.proofs.Common.{◌≡◌, ◌<◌, ◌≤◌, ◌+◌, ℕ, suc, zero, Bool, false, List, [], ◌∷◌, ◌++◌, length, map, get_or, take, refl, sym, ap, ap₂, subst, ◌∙◌, arith}
+use Rattle.std.proofs.Common.{◌≡◌, ◌<◌, ◌+◌, ℕ, Bool, false, List, [], ◌∷◌, ◌++◌, length, map, get_or, take, refl, sym, ap, ap₂, subst, ◌∙◌, arith}
 use Rattle.std.specs.Prelude.{All, Some, slice_get}
 use Rattle.std.specs.List.{AllZip}
 use Rattle.std.proofs.Math.ListN.{get_or-map}
@@ -12,14 +12,14 @@ use Rattle.pq_fields.specs.Packet.{Fit, Numbers, zero_packet}
 use Rattle.pq_fields.specs.Pred.{PredTree, holds, pred_tree}
 use Rattle.pq_expr.specs.Expr.{ExprTree}
 use Rattle.pq_auto.specs.Exploration.{IsExploration, half_steps, holding}
-use Rattle.pq_auto.specs.Machine.{AllBelow, IsLeastMachine, IsMachine, Machine, SaySame, accepted_at, is_even_at, reached}
+use Rattle.pq_auto.specs.Machine.{AllBelow, IsLeastMachine, IsMachine, Machine, SaySame}
 use Rattle.pq_auto.specs.Numbering.{IsNumbered}
 use Rattle.pq_store.specs.Room.{HasRoom, Within}
 use Rattle.pq_store.specs.Store.{Keeps}
 use Rattle.pq_store.specs.Tree.{Tree, Tip, value}
 use Rattle.pq_apply.specs.Junction.{trees_at}
-use Rattle.pq_apply.specs.Predicates.{FitsAsNode, HoldsAt, IsPredTree, IsPredWithin}
-use Rattle.pq_letters.specs.Letters.{IsLettered, IsPartition, LettersValue, letter_at, truths}
+use Rattle.pq_apply.specs.Predicates.{FitsAsNode, HoldsAt, IsPredWithin}
+use Rattle.pq_letters.specs.Letters.{IsLettered, IsPartition, LettersValue, truths}
 use Rattle.pq_classes.specs.Told.{IsAutomatonOf, TellPreds}
 use Rattle.pq_classes.proofs.OneLowered.{zip_push}
 
@@ -61,7 +61,7 @@ nodes_within ts (p ∷ ps) (id ∷ ids) all = All-cons (λ id. id < length ts) i
 tree_at : (ts : List (Tree Bool)) (id : ℕ) (t : Tree Bool) → slice_get ts id ≡ Some t → get_or ts id (Tip false) ≡ t
 tree_at ts id t at = get_or_from_slice_get ts id t (Tip false) at
 
-trees_within : (ns : Field → List ℕ) (ts : List (Tree Bool)) (ps : List PredTree) (ids : List ℕ) → AreNodes ts ps ids → All (IsPredWithin ns) ps → All (Within ns) (trees_at ts ids)
+pub trees_within : (ns : Field → List ℕ) (ts : List (Tree Bool)) (ps : List PredTree) (ids : List ℕ) → AreNodes ts ps ids → All (IsPredWithin ns) ps → All (Within ns) (trees_at ts ids)
 trees_within ns ts ps [] all within = All-nil (Within ns)
 trees_within ns ts [] (id ∷ ids) all within = absurd all
 trees_within ns ts (p ∷ ps) (id ∷ ids) all within =

@@ -1,14 +1,14 @@
 -- Words of least packets: each letter of a word of letters is spelled by its least packet.
-use Rattle.std.proofs.Common.{◌≡◌, ◌<◌, ℕ, suc, zero, Bool, true, false, not, ◌&&◌, if◌then◌else◌, List, [], ◌∷◌, ◌++◌, Some, length, get_or, map, refl, sym, ap, ap₂, subst, ◌∙◌, arith}
+use Rattle.std.proofs.Common.{◌≡◌, ◌<◌, ℕ, suc, Bool, true, false, not, if◌then◌else◌, List, [], ◌∷◌, ◌++◌, length, get_or, refl, sym, ap, ap₂, subst, ◌∙◌}
 use Rattle.std.specs.Option.{unwrap_or}
-use Rattle.std.proofs.lemmas.List.{map-append, length-map}
+use Rattle.std.proofs.lemmas.List.{map-append}
 use Rattle.std.proofs.lemmas.List.Elements.{All-head, All-tail, All-nil, All-cons, All-append}
 use Rattle.pq_fields.specs.Packet.{Numbers, Fit, zero_packet}
-use Rattle.pq_model.specs.Word.{Word, Observation, In, Out, alternates, is_word, observed_packet, word_is_before}
+use Rattle.pq_model.specs.Word.{Word, Observation, In, Out, alternates, observed_packet}
 use Rattle.pq_model.specs.Classes.{AllObservedFit, IsPath, has_even_length}
 use Rattle.pq_auto.specs.Machine.{AllBelow, has_even_length as has_even_count}
-use Rattle.pq_letters.specs.Letters.{LettersValue, IsLettered, letter_at}
-use Rattle.pq_letters.specs.Words.{letter_number, letters_of, least_observation, least_word}
+use Rattle.pq_letters.specs.Letters.{LettersValue, IsLettered}
+use Rattle.pq_letters.specs.Words.{letter_number, letters_of, least_word}
 
 -- an In, or an Out
 abbrev pub observation : Bool → Numbers → Observation

@@ -1,10 +1,10 @@
 -- The values of labels.
-use Rattle.std.proofs.Common.{◌≡◌, ◌<◌, ◌≤◌, ◌+◌, ◌^◌, ℕ, suc, zero, true, List, [], ◌∷◌, ◌++◌, length, map, refl, sym, ap, subst, ◌∙◌, arith}
+use Rattle.std.proofs.Common.{◌≡◌, ◌<◌, ◌≤◌, ◌+◌, ◌^◌, ℕ, suc, zero, true, List, [], ◌∷◌, ◌++◌, map, subst, arith}
 use Rattle.std.specs.Prelude.{All, Option, Some, None, slice_get}
 use Rattle.std.specs.List.{AllByRecursion, flat_map}
 use Rattle.std.specs.Option.{unwrap_or}
 use Rattle.std.specs.Ordering.{nat_cmp}
-use Rattle.std.proofs.lemmas.List.Elements.{All-nil, All-cons, All-head, All-tail, All-append, All-map, All-weaker, recursion_from_All, All-from_recursion}
+use Rattle.std.proofs.lemmas.List.Elements.{All-nil, All-cons, All-head, All-tail, All-append, All-map, All-weaker, recursion_from_All}
 use Rattle.std.proofs.lemmas.Map.Views.{All-insert_key}
 use Rattle.pq_fields.specs.declared.field.Field.{Field}
 use Rattle.pq_fields.specs.declared.field.Field.TheVariants.{Switch, Port, EthType, IpProto, EthSrc, EthDst, Ipv4Src, Ipv4Dst, TcpSrc, TcpDst, UdpSrc, UdpDst, Ipv6Src, Ipv6Dst}
@@ -16,7 +16,7 @@ use Rattle.pq_model.specs.Topology.{Switch as SwitchValue, Topology}
 use Rattle.pq_topo.specs.Named.{IsNamedTopology}
 use Rattle.pq_query.specs.Groups.{Group}
 use Rattle.pq_query.specs.Instances.{instances_from, instances_of, under_labels}
-use Rattle.pq_query.specs.Labels.{ascending, datapath_numbers, group_values, groups_of, labels, listed_values, one_from_each, port_numbers, top_groups}
+use Rattle.pq_query.specs.Labels.{ascending, group_values, groups_of, labels, listed_values, one_from_each, top_groups}
 use Rattle.pq_query.specs.Lawful.{AreGroupsOver, AreLawfulQueries, IsGroupOver, MayTake, IsLawfulQuery, IsLawfulTop}
 use Rattle.pq_query.specs.Query.{QueryTop, Enters, Leaves, Passes, Ends, InTurn, Either, Both, Other, Repeated, Queries, none, put, QueryTree, queries}
 use Rattle.pq_query.specs.Resolved.{is_listed}

@@ -1,16 +1,13 @@
 -- Instances, letters and classes together.
-use Rattle.std.proofs.Common.{◌≡◌, ◌<◌, ◌≤◌, ◌+◌, ◌^◌, ℕ, suc, zero, Bool, List, [], ◌∷◌, length, length-append, map, get_or, refl, sym, ap, subst, ◌∙◌, arith}
+use Rattle.std.proofs.Common.{◌≡◌, ◌<◌, ◌≤◌, ◌+◌, ◌^◌, ℕ, suc, List, [], ◌∷◌, length, length-append, map, refl, sym, ap, subst, ◌∙◌, arith}
 use Rattle.std.specs.Prelude.{All, Some, slice_get}
 use Rattle.std.specs.List.{AllByRecursion, AllZip}
-use Rattle.std.proofs.lemmas.List.Elements.{All-nil, All-cons, All-contains, All-get_or, All-weaker, recursion_from_All}
+use Rattle.std.proofs.lemmas.List.Elements.{All-contains, All-weaker, recursion_from_All}
 use Rattle.std.proofs.lemmas.List.{length-map}
 use Rattle.std.proofs.lemmas.List.Sums.{sum_by-cons}
-use Rattle.std.proofs.lemmas.Option.{slice_get_within, slice_get-get_or, get_or_from_slice_get}
-use Rattle.std.proofs.Math.ListN.{get_or-map}
 use Rattle.pq_fields.specs.declared.field.Field.{Field}
 use Rattle.pq_fields.specs.declared.field.Field.TheVariants.{Port}
-use Rattle.pq_fields.specs.Packet.{Fit, Numbers}
-use Rattle.pq_fields.specs.Pred.{FitsField, IsLawfulPred, PredTree, Preds, holds as holds_pred, none, pred_tree, preds, put}
+use Rattle.pq_fields.specs.Pred.{FitsField, IsLawfulPred, PredTree, Preds, none, preds, put}
 use Rattle.pq_model.specs.Buckets.{Instance}
 use Rattle.pq_model.specs.Classes.{IsPath}
 use Rattle.pq_model.specs.Topology.{Topology}
@@ -31,9 +28,8 @@ use Rattle.pq_lower.specs.HalfSteps.{half_steps}
 use Rattle.pq_lower.proofs.Building.{added_built, added_lawful}
 use Rattle.pq_auto.specs.Exploration.{holding}
 use Rattle.pq_auto.specs.Machine.{AllBelow, Machine, accepted_at}
-use Rattle.pq_store.specs.Room.{HasRoom, IsAmong, IsCounted, Within}
-use Rattle.pq_store.specs.Tree.{Tree}
-use Rattle.pq_apply.specs.Predicates.{ArePredsWithin, HoldsAt, IsPredWithin, IsTopWithin, NeedsAmong}
+use Rattle.pq_store.specs.Room.{HasRoom, IsAmong, IsCounted}
+use Rattle.pq_apply.specs.Predicates.{ArePredsWithin, IsPredWithin, IsTopWithin, NeedsAmong}
 use Rattle.pq_letters.specs.Letters.{LettersValue, IsLettered}
 use Rattle.pq_letters.specs.Words.{letters_of}
 use Rattle.pq_classes.specs.Lowered.{AreLowered, IsAdded, IsLowered}
@@ -123,16 +119,18 @@ instance_within ns T q ported within =
     (added_built (Says ns) q label (kept_within ns ported) (record { own = own; tests = tested_within ns gs label needs along })))
     (labels T q) values
 
+pub preds_within : (ns : Field → List ℕ) (T : Topology) (qs : List QueryTree) (is : List Instance) (ps : List PredTree) → is ≡ instances_of T qs
+    → IsAmong 0 (ns Port) → All (IsQueryWithin ns T) qs → All (IsAdded qs is) ps → All (IsPredWithin ns) ps
+preds_within ns T qs is ps listed ported within added =
+    all_added (IsPredWithin ns) qs is ps
+    (subst (All (λ i. (q : QueryTree) → slice_get qs i.query ≡ Some q → All (IsPredWithin ns) (added_preds q i.label))) (sym listed)
+    (instances_along (λ q label. All (IsPredWithin ns) (added_preds q label)) T qs
+    (All-weaker (IsQueryWithin ns T) (λ q. All (λ label. All (IsPredWithin ns) (added_preds q label)) (labels T q)) (λ q is. instance_within ns T q ported is) qs within)))
+    added
+
 pub preds_room : (T : Topology) (qs : List QueryTree) (is : List Instance) (ps : List PredTree) → is ≡ instances_of T qs → FitAsQueries T qs → All (IsAdded qs is) ps → HasRoom (λ ns. All (IsPredWithin ns) ps)
-preds_room T qs is ps listed room added = let ns = room.numbers in record {
-  numbers = ns;
-  few = room.few;
-  within = all_added (IsPredWithin ns) qs is ps
-      (subst (All (λ i. (q : QueryTree) → slice_get qs i.query ≡ Some q → All (IsPredWithin ns) (added_preds q i.label))) (sym listed)
-      (instances_along (λ q label. All (IsPredWithin ns) (added_preds q label)) T qs
-      (All-weaker (IsQueryWithin ns T) (λ q. All (λ label. All (IsPredWithin ns) (added_preds q label)) (labels T q)) (λ q is. instance_within ns T q room.within.0 is) qs room.within.1)))
-      added;
-}
+preds_room T qs is ps listed room added =
+    record { numbers = room.numbers; few = room.few; within = preds_within room.numbers T qs is ps listed room.within.0 room.within.1 added }
 
 -- How many there are.
 

@@ -1,3 +1,4 @@
 pub mod Told
 pub mod Lowered
 pub mod Room
+pub mod Letters

@@ -43,8 +43,9 @@ pub record IsTold (Ls : Languages) (a : LettersValue) (m : Machine) (w : Word) :
   pub accepted : AreHolding Ls w (accepted_at m (class_of a m w))
   pub tag : IsTag Ls w (suc (class_of a m w))
 
--- the automaton's states are the classes of words, over these letters
+-- the automaton's states are the classes of words, over these letters, and each is that of some word
 pub record AreClasses (Ls : Languages) (a : LettersValue) (m : Machine) : Type 0 where
   pub letters : m.letters ≡ length a.least
   pub told : (w : Word) → IsPath w → IsTold Ls a m w
+  pub reached : (c : ℕ) → c < length m.rows → (w : Word) × IsPath w × (class_of a m w ≡ c)
   pub count : HasClasses Ls (length m.rows)

@@ -1,10 +1,11 @@
 //! The classes of words that instances of queries tell apart.
-ghost use Rattle.std.specs.Prelude.{◌≡◌, ◌<◌, ◌≤◌, ◌^◌, All, IfErr, IfOk, length};
+ghost use Rattle.std.specs.Prelude.{◌≡◌, ◌<◌, ◌≤◌, ◌^◌, All, IfErr, IfOk, OnOk, length};
 ghost use Rattle.pq_query.specs.Instances.{IsCause, instances_of, label_sum, named_trees};
 ghost use Rattle.pq_query.specs.Languages.{IsHeld};
 ghost use Rattle.pq_query.specs.Lawful.{IsLawfulQuery};
 ghost use Rattle.pq_query.specs.Atoms.{query_atoms};
 ghost use Rattle.pq_store.specs.Store.{Keeps};
+ghost use Rattle.pq_classes.specs.Letters.{IgnoresLacking, TestsQueries};
 ghost use Rattle.pq_classes.specs.Room.{FitAsQueries};
 ghost use Rattle.pq_classes.specs.Told.{AreClasses};
 
@@ -47,6 +48,8 @@ fn told<L: Ledger>(
     requires atoms { All (λ q. query_atoms q < 2 ^ 19) (named_trees queries.now) }
     requires fits { FitAsQueries topology.now (named_trees queries.now) }
     ensures classes { IfOk result (λ r. AreClasses (IsHeld (named_trees queries.now) all.now) r.0 r.1) }
+    ensures tests { IfOk result (λ r. TestsQueries topology.now (named_trees queries.now) r.0) }
+    ensures ignores { IfOk result (λ r. IgnoresLacking r.0) }
     ensures keeps { Keeps tests.old tests.new }
 {
     let _named = topology.switches();
@@ -75,7 +78,12 @@ pub fn query_classes<L: Ledger>(
     requires atoms { All (λ q. query_atoms q < 2 ^ 19) (named_trees queries.now) }
     requires fits { FitAsQueries topology.now (named_trees queries.now) }
     ensures instances { IfOk result (λ c. c.instances.items ≡ instances_of topology.now (named_trees queries.now)) }
+    ensures few { IfOk result (λ c. length c.instances.items ≤ 1024) }
+    ensures within { IfOk result (λ c. All (λ i. i.query < length queries.now) c.instances.items) }
+    ensures sum { OnOk result (label_sum topology.now (named_trees queries.now) ≤ 1024) }
     ensures classes { IfOk result (λ c. AreClasses (IsHeld (named_trees queries.now) c.instances.items) c.letters c.classes) }
+    ensures tests { IfOk result (λ c. TestsQueries topology.now (named_trees queries.now) c.letters) }
+    ensures ignores { IfOk result (λ c. IgnoresLacking c.letters) }
     ensures cause { IfErr result (λ fault. IsCause fault (label_sum topology.now (named_trees queries.now))) }
     ensures keeps { Keeps tests.old tests.new }
 {

@@ -6,6 +6,7 @@ ghost use Rattle.pq_expr.specs.Expr.{expr_tree};
 ghost use Rattle.pq_store.specs.Room.{HasRoom};
 ghost use Rattle.pq_store.specs.Store.{Keeps};
 ghost use Rattle.pq_apply.specs.Predicates.{HoldsAt, IsPredWithin};
+ghost use Rattle.pq_classes.specs.Letters.{TestsPreds};
 ghost use Rattle.pq_classes.specs.Told.{IsAutomatonOf, TellPreds};
 
 use pq_apply::pred_node;
@@ -43,6 +44,7 @@ pub(crate) fn letters_of(
     requires lawful { All IsLawfulPred (map pred_tree preds.now) }
     requires fits { HasRoom (λ ns. All (IsPredWithin ns) (map pred_tree preds.now)) }
     ensures tells { IfOk result (λ letters. TellPreds (map pred_tree preds.now) letters) }
+    ensures tests { IfOk result (λ letters. TestsPreds (map pred_tree preds.now) letters) }
     ensures keeps { Keeps tests.old tests.new }
 {
     let ids = nodes(alloc, tests, preds)?;

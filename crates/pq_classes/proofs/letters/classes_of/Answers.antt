@@ -1,4 +1,4 @@
-use Rattle.std.proofs.Common.{◌≡◌, List, Bool, ap, arith, length, map, ◌∙◌}
+use Rattle.std.proofs.Common.{ap, arith, map, ◌∙◌}
 use Rattle.std.proofs.lemmas.List.{length-map}
 use Rattle.pq_expr.specs.Expr.{expr_tree}
 use Rattle.pq_classes.proofs.Signed.{automaton_of, some_letter}

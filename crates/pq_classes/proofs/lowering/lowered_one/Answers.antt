@@ -1,9 +1,9 @@
-use Rattle.std.proofs.Common.{◌≡◌, ◌<◌, ◌≤◌, ◌+◌, ◌^◌, ◌++◌, ap, arith, subst, sym, length, map, IfOk, OnOk, Some, slice_get}
+use Rattle.std.proofs.Common.{◌≡◌, ◌<◌, ◌++◌, arith, subst, sym, length, map, IfOk, OnOk, Some, slice_get}
 use Rattle.pq_fields.specs.Pred.{pred_tree}
 use Rattle.pq_expr.specs.Expr.{expr_tree}
 use Rattle.pq_lower.specs.Added.{added_preds}
 use Rattle.pq_query.specs.Instances.{named_trees}
-use Rattle.pq_query.specs.Query.{QueryTree, query_tree}
+use Rattle.pq_query.specs.Query.{QueryTree}
 use Rattle.pq_model.specs.Buckets.{Instance}
 use Rattle.pq_classes.specs.Lowered.{IsLowered}
 use Rattle.pq_classes.proofs.OneLowered.{asked, few_atoms, one_added, one_grown, one_lowered}
