@@ -1,0 +1,3 @@
+pub mod MaskedBits
+pub mod Views
+pub mod Covering

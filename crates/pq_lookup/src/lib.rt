@@ -1,0 +1,6 @@
+//! Laws of a switch's tables: tables that are filled from trees send what the trees' leaves say.
+#![tactic(auto)]
+
+mod entries;
+
+pub use entries::entries_answer;
