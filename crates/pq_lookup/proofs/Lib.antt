@@ -1,3 +1,9 @@
 pub mod MaskedBits
 pub mod Views
 pub mod Covering
+pub mod Taken
+pub mod Tables
+pub mod Copying
+pub mod Grouped
+pub mod Leaving
+pub mod Arriving

@@ -2,5 +2,7 @@
 #![tactic(auto)]
 
 mod entries;
+mod sending;
 
 pub use entries::entries_answer;
+pub use sending::tables_send;
