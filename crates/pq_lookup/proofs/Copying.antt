@@ -64,25 +64,25 @@ headers_on w x = record x {
 
 module _ (w : Written) where
   -- the actions of the fields up to one
-  abbrev to_eth_src : List Action
+  abbrev pub to_eth_src : List Action
   to_eth_src = set_field EthSrc w.eth_src
 
-  abbrev to_eth_dst : List Action
+  abbrev pub to_eth_dst : List Action
   to_eth_dst = to_eth_src ++ set_field EthDst w.eth_dst
 
-  abbrev to_ipv4_src : List Action
+  abbrev pub to_ipv4_src : List Action
   to_ipv4_src = to_eth_dst ++ set_field Ipv4Src w.ipv4_src
 
-  abbrev to_ipv4_dst : List Action
+  abbrev pub to_ipv4_dst : List Action
   to_ipv4_dst = to_ipv4_src ++ set_field Ipv4Dst w.ipv4_dst
 
-  abbrev to_tcp_src : List Action
+  abbrev pub to_tcp_src : List Action
   to_tcp_src = to_ipv4_dst ++ set_field TcpSrc w.tcp_src
 
-  abbrev to_tcp_dst : List Action
+  abbrev pub to_tcp_dst : List Action
   to_tcp_dst = to_tcp_src ++ set_field TcpDst w.tcp_dst
 
-  abbrev to_udp_src : List Action
+  abbrev pub to_udp_src : List Action
   to_udp_src = to_tcp_dst ++ set_field UdpSrc w.udp_src
 
   headers-change : (y : TaggedPacket) → changed_by (header_actions w) y ≡ record y { packet = headers_on w y.packet }

@@ -21,8 +21,8 @@ IsBelow p None = Unit {0}
 IsBelow p (Some e) = e.priority < p
 
 -- the entry of a rule at its index in a table
-abbrev added : (table index : ℕ) → Rule → Entry
-added table index r = record { table = table; priority = 65535 - index; matching = r.matching; cookie = 0; actions = r.actions; goto = r.goto }
+abbrev pub entry_at : (table index : ℕ) → Rule → Entry
+entry_at table index r = record { table = table; priority = 65535 - index; matching = r.matching; cookie = 0; actions = r.actions; goto = r.goto }
 
 stays : (e : Entry) (o : Option Entry) → IsBelow e.priority o → better e o ≡ Some e
 stays e None h = refl
@@ -42,7 +42,7 @@ module _ (x : TaggedPacket) where
   taken-other : (n xid table index : ℕ) (rs : List Rule) → table ≢ n → taken (entries_from xid table index rs) n x ≡ None
   taken-other n xid table index [] other = refl
   taken-other n xid table index (r ∷ rs) other =
-      ap (λ b. if b && covers r.matching x then better (added table index r) (taken (entries_from (suc xid) table (suc index) rs) n x) else taken (entries_from (suc xid) table (suc index) rs) n x) (ne_eqb table n other)
+      ap (λ b. if b && covers r.matching x then better (entry_at table index r) (taken (entries_from (suc xid) table (suc index) rs) n x) else taken (entries_from (suc xid) table (suc index) rs) n x) (ne_eqb table n other)
       ∙ taken-other n (suc xid) table (suc index) rs other
 
   taken-behind : (n : ℕ) (es fs : List Entry) → taken fs n x ≡ None → taken (es ++ fs) n x ≡ taken es n x
@@ -52,7 +52,7 @@ module _ (x : TaggedPacket) where
   taken-before : (n xid table index : ℕ) (rs : List Rule) (fs : List Entry) → table ≢ n → taken (entries_from xid table index rs ++ fs) n x ≡ taken fs n x
   taken-before n xid table index [] fs other = refl
   taken-before n xid table index (r ∷ rs) fs other =
-      ap (λ b. if b && covers r.matching x then better (added table index r) (taken (entries_from (suc xid) table (suc index) rs ++ fs) n x) else taken (entries_from (suc xid) table (suc index) rs ++ fs) n x) (ne_eqb table n other)
+      ap (λ b. if b && covers r.matching x then better (entry_at table index r) (taken (entries_from (suc xid) table (suc index) rs ++ fs) n x) else taken (entries_from (suc xid) table (suc index) rs ++ fs) n x) (ne_eqb table n other)
       ∙ taken-before n (suc xid) table (suc index) rs fs other
 
   either_below : (b : Bool) (p : ℕ) (e : Entry) (o : Option Entry) → e.priority < p → IsBelow p o → IsBelow p (if b then better e o else o)
@@ -74,14 +74,14 @@ module _ (x : TaggedPacket) where
   taken-found : (xid table index : ℕ) (rs : List Rule) → index + length rs ≤ 65535 → option_map rule_of (taken (entries_from xid table index rs) table x) ≡ found rs
   taken-found xid table index [] few = refl
   taken-found xid table index (r ∷ rs) few =
-      ap (λ b. option_map rule_of (if b && covers r.matching x then better (added table index r) rest else rest)) (eq-eqb table table refl)
+      ap (λ b. option_map rule_of (if b && covers r.matching x then better (entry_at table index r) rest else rest)) (eq-eqb table table refl)
       ∙ by (covers r.matching x) (taken-found (suc xid) table (suc index) rs (omega arith))
     where
       rest : Option Entry
       rest = taken (entries_from (suc xid) table (suc index) rs) table x
 
-      by : (b : Bool) → option_map rule_of rest ≡ found rs → option_map rule_of (if b then better (added table index r) rest else rest) ≡ (if b then Some r else found rs)
-      by true more = ap (option_map rule_of) (stays (added table index r) rest (taken-below (65535 - index) (suc xid) table (suc index) rs (omega arith)))
+      by : (b : Bool) → option_map rule_of rest ≡ found rs → option_map rule_of (if b then better (entry_at table index r) rest else rest) ≡ (if b then Some r else found rs)
+      by true more = ap (option_map rule_of) (stays (entry_at table index r) rest (taken-below (65535 - index) (suc xid) table (suc index) rs (omega arith)))
       by false more = more
 
   -- of two tables filled one after the other, either has its own
