@@ -87,7 +87,8 @@ module _ (first : ArrivingTrees) (second : LeavingTrees) (filled : AreFilled fir
     onward = sent_from_table (suc more) tables
 
     -- so does the rule of an arrival
-    arrival-sends : (m : MatchFields) → m.vlan ≡ Some (vlan_word x.vlan) → (o : Option Arrive) → sent_by_rule onward tables.groups x (Some (first_rule (m, o))) ≡ sent_after (said_by second []) x.packet o
+    arrival-sends : (m : MatchFields) → m.vlan ≡ Some (vlan_word x.vlan) → (o : Option Arrive) →
+        sent_by_rule onward tables.groups x (Some (first_rule (m, o))) ≡ sent_after (said_by second []) x.packet o
     arrival-sends m own None = refl
     arrival-sends m own (Some a) =
         ap (λ v. runs (emits tables.groups) (arrival_actions (not (is_untagged v)) a) x ++ onward 1 (changed_by (arrival_actions (not (is_untagged v)) a) x)) own
@@ -105,7 +106,8 @@ module _ (first : ArrivingTrees) (second : LeavingTrees) (filled : AreFilled fir
     first-sends : sent_from_table (suc (suc more)) tables 0 x ≡ sent_by (said_by first None) (said_by second []) x
     first-sends =
         rule-sends onward tables.groups x (taken tables.entries 0 x)
-        ∙ ap (sent_by_rule onward tables.groups x) (first-found x _ _ (first_rules first) (second_rules second) (omega (arith, filled.first_few)) ∙ found-map x first_rule (λ e. first_own e.0 e.1) (table_of is_nothing first))
+        ∙ ap (sent_by_rule onward tables.groups x) (first-found x _ _ (first_rules first) (second_rules second) (omega (arith, filled.first_few))
+        ∙ found-map x first_rule (λ e. first_own e.0 e.1) (table_of is_nothing first))
         ∙ told-sends (said_by first None (vlan_word x.vlan) x.packet) (table-tells is_nothing x None refl first filled.arriving.words matchable)
 
   pub tables-send : TablesSend first second

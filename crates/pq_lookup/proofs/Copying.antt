@@ -143,7 +143,19 @@ module _ (e : Action → TaggedPacket → List Sent) (emitting : IsEmitting e) w
 
   headers-quiet : (w : Written) → AreQuiet (header_actions w)
   headers-quiet w =
-      quiet-append _ _ (quiet-append _ _ (quiet-append _ _ (quiet-append _ _ (quiet-append _ _ (quiet-append _ _ (quiet-append _ _ (set-quiet EthSrc w.eth_src) (set-quiet EthDst w.eth_dst)) (set-quiet Ipv4Src w.ipv4_src)) (set-quiet Ipv4Dst w.ipv4_dst)) (set-quiet TcpSrc w.tcp_src)) (set-quiet TcpDst w.tcp_dst)) (set-quiet UdpSrc w.udp_src)) (set-quiet UdpDst w.udp_dst)
+      quiet-append (to_udp_src w) (set_field UdpDst w.udp_dst)
+      (quiet-append (to_tcp_dst w) (set_field UdpSrc w.udp_src)
+      (quiet-append (to_tcp_src w) (set_field TcpDst w.tcp_dst)
+      (quiet-append (to_ipv4_dst w) (set_field TcpSrc w.tcp_src)
+      (quiet-append (to_ipv4_src w) (set_field Ipv4Dst w.ipv4_dst)
+      (quiet-append (to_eth_dst w) (set_field Ipv4Src w.ipv4_src)
+      (quiet-append (to_eth_src w) (set_field EthDst w.eth_dst) (set-quiet EthSrc w.eth_src) (set-quiet EthDst w.eth_dst))
+      (set-quiet Ipv4Src w.ipv4_src))
+      (set-quiet Ipv4Dst w.ipv4_dst))
+      (set-quiet TcpSrc w.tcp_src))
+      (set-quiet TcpDst w.tcp_dst))
+      (set-quiet UdpSrc w.udp_src))
+      (set-quiet UdpDst w.udp_dst)
 
   tag-quiet : (o : Option ℕ) → AreQuiet (tag_actions true o)
   tag-quiet None bs y = ap (λ l. l ++ runs e bs (changed PopVlan y)) (emitting.pop y)
@@ -154,7 +166,10 @@ module _ (e : Action → TaggedPacket → List Sent) (emitting : IsEmitting e) w
   copy-runs x t c h =
       let last = Output (output_port c.kind c.writes) ∷ [] in
       quiet-append (tag_actions true c.tag) (header_actions c.writes) (tag-quiet c.tag) (headers-quiet c.writes) last (record { packet = x; vlan = Some t })
-      ∙ ap (runs e last) (changed_by-append (tag_actions true c.tag) (header_actions c.writes) (record { packet = x; vlan = Some t }) ∙ ap (changed_by (header_actions c.writes)) (tag-changes c.tag x t) ∙ headers-change c.writes (record { packet = x; vlan = c.tag }))
+      ∙ ap (runs e last)
+      (changed_by-append (tag_actions true c.tag) (header_actions c.writes) (record { packet = x; vlan = Some t })
+      ∙ ap (changed_by (header_actions c.writes)) (tag-changes c.tag x t)
+      ∙ headers-change c.writes (record { packet = x; vlan = c.tag }))
       ∙ append-nil (e (Output (output_port c.kind c.writes)) (record { packet = headers_on c.writes x; vlan = c.tag }))
       ∙ emitting.output (output_port c.kind c.writes) (record { packet = headers_on c.writes x; vlan = c.tag })
       ∙ kind-sends c.kind x c.writes c.tag h.port h.other

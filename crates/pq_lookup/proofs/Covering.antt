@@ -20,7 +20,8 @@ use Rattle.pq_layout.specs.Entries.{with_bit, with_number, passing, failing, mat
 use Rattle.pq_layout.specs.Sound.{IsMatchable}
 use Rattle.pq_lookup.specs.Lookup.{EntriesAnswer, EntriesPassOver, first_covering}
 use Rattle.pq_lookup.proofs.MaskedBits.{AreWhole, stated_whole}
-use Rattle.pq_lookup.proofs.Views.{stated_number, stated_bits, covers-number, covers-bit, narrowed, number_vlan, bit_vlan, other_number, same_bits, same_number, other_bits, own_bits, no_number, no_bits, covers-vlan}
+use Rattle.pq_lookup.proofs.Views.{stated_number, stated_bits, covers-number, covers-bit, narrowed, number_vlan, bit_vlan}
+use Rattle.pq_lookup.proofs.Views.{other_number, same_bits, same_number, other_bits, own_bits, no_number, no_bits, covers-vlan}
 
 -- what a test asks isn't stated yet: its number, or its bit and those below
 abbrev IsFresh : Test → MatchFields → Type 0
@@ -127,7 +128,9 @@ module _ {L : Type 0} where
     ascends = h.ascends.2;
     once = h.once.1;
     switch = λ r tested. h.switch r (inr (inl tested));
-    fresh = λ r tested. fresh-passing s r m h.lawful.0 (lawful-tested r y h.lawful.1 tested) (h.switch s (inl refl)) (before_tested s r y h.ascends.0 h.ascends.2 tested) (others s r y h.once.0 tested) (h.fresh s (inl refl)) (h.fresh r (inr (inl tested)));
+    fresh = λ r tested. fresh-passing s r m h.lawful.0 (lawful-tested r y h.lawful.1 tested) (h.switch s (inl refl))
+        (before_tested s r y h.ascends.0 h.ascends.2 tested) (others s r y h.once.0 tested)
+        (h.fresh s (inl refl)) (h.fresh r (inr (inl tested)));
   }
 
   stands-no : (m : MatchFields) (s : Test) (y n : Tree L) → Stands m (Fork s y n) → Stands (failing s m) n
@@ -144,7 +147,8 @@ module _ {L : Type 0} where
     first-some [] fs e h = cc
     first-some (d ∷ es) fs e h = by (covers d.0 x) h (first-some es fs e)
       where
-        by : (b : Bool) → (if b then Some d else first_covering x es) ≡ Some e → (first_covering x es ≡ Some e → first_covering x (es ++ fs) ≡ Some e) → (if b then Some d else first_covering x (es ++ fs)) ≡ Some e
+        by : (b : Bool) → (if b then Some d else first_covering x es) ≡ Some e → (first_covering x es ≡ Some e → first_covering x (es ++ fs) ≡ Some e) →
+            (if b then Some d else first_covering x (es ++ fs)) ≡ Some e
         by true g more = g
         by false g more = more g
 
@@ -163,7 +167,8 @@ module _ {L : Type 0} where
     Tells false es l v = first_covering x es ≡ None
 
     -- yes side first
-    joined : (b p : Bool) (es fs : List (MatchFields × L)) (l k : L) (v : Option ℕ) → Tells (b && p) es l v → (p ≡ false → Tells b fs k v) → (b ≡ false → Tells b fs k v) → Tells b (es ++ fs) (if p then l else k) v
+    joined : (b p : Bool) (es fs : List (MatchFields × L)) (l k : L) (v : Option ℕ) → Tells (b && p) es l v → (p ≡ false → Tells b fs k v) → (b ≡ false → Tells b fs k v) →
+        Tells b (es ++ fs) (if p then l else k) v
     joined true true es fs l k v first second none = (first.0, first-some es fs (first.0, l) first.1, first.2)
     joined true false es fs l k v first second none = let found = second refl in (found.0, first-none es fs first ∙ found.1, found.2)
     joined false p es fs l k v first second none = first-none es fs first ∙ none refl

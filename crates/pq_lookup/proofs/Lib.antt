@@ -7,4 +7,4 @@ pub mod Copying
 pub mod Grouped
 pub mod Leaving
 pub mod Arriving
-pub mod Renewing
+pub mod Renewed

@@ -54,7 +54,8 @@ module _ (k n M : ℕ) where
   common_above : bit_and n (M * 2 ^ suc k) ≡ bit_and (n / 2 ^ suc k) M * 2 ^ suc k
   common_above =
       let block = and_block (suc k) (n / 2 ^ suc k) M (n % 2 ^ suc k) 0 (mod-lt n some) some in
-      let left : bit_and n (M * 2 ^ suc k) ≡ bit_and (n / 2 ^ suc k * 2 ^ suc k + n % 2 ^ suc k) (M * 2 ^ suc k + 0) = ap (λ m. bit_and m (M * 2 ^ suc k)) parted ∙ ap (bit_and (n / 2 ^ suc k * 2 ^ suc k + n % 2 ^ suc k)) (omega arith) in
+      let left : bit_and n (M * 2 ^ suc k) ≡ bit_and (n / 2 ^ suc k * 2 ^ suc k + n % 2 ^ suc k) (M * 2 ^ suc k + 0) =
+      ap (λ m. bit_and m (M * 2 ^ suc k)) parted ∙ ap (bit_and (n / 2 ^ suc k * 2 ^ suc k + n % 2 ^ suc k)) (omega arith) in
       left ∙ block ∙ omega (arith, and_zero (n % 2 ^ suc k))
 
   -- with one bit more the number's bit is added
@@ -112,9 +113,11 @@ masked_agrees : (k n : ℕ) (b : Bool) (a : ℕ × ℕ) → IsWhole (suc k) a �
 masked_agrees k n b a whole =
     let double : 2 ^ suc k ≡ 2 ^ k * 2 = pow-succ' 2 k ∙ mul_comm 2 (2 ^ k) in
     let mask : (masked_with (2 ^ k) b a).1 ≡ whole.mask * 2 ^ suc k + 2 ^ k = masked_mask (2 ^ k) b a ∙ ap (λ m. m + 2 ^ k) whole.mask_is in
-    let value : (masked_with (2 ^ k) b a).0 ≡ whole.value * (2 ^ k * 2) + digit b * 2 ^ k = masked_value (2 ^ k) b a ∙ ap (λ m. m + digit b * 2 ^ k) (whole.value_is ∙ ap (λ p. whole.value * p) double) in
+    let value : (masked_with (2 ^ k) b a).0 ≡ whole.value * (2 ^ k * 2) + digit b * 2 ^ k =
+    masked_value (2 ^ k) b a ∙ ap (λ m. m + digit b * 2 ^ k) (whole.value_is ∙ ap (λ p. whole.value * p) double) in
     let above : bit_and n (whole.mask * 2 ^ suc k) ≡ bit_and (n / 2 ^ suc k) whole.mask * (2 ^ k * 2) = common_above k n whole.mask ∙ ap (λ p. bit_and (n / 2 ^ suc k) whole.mask * p) double in
-    let common : bit_and n (masked_with (2 ^ k) b a).1 ≡ bit_and (n / 2 ^ suc k) whole.mask * (2 ^ k * 2) + bit_at n k * 2 ^ k = ap (bit_and n) mask ∙ common_more k n whole.mask ∙ ap (λ m. m + bit_at n k * 2 ^ k) above in
+    let common : bit_and n (masked_with (2 ^ k) b a).1 ≡ bit_and (n / 2 ^ suc k) whole.mask * (2 ^ k * 2) + bit_at n k * 2 ^ k =
+    ap (bit_and n) mask ∙ common_more k n whole.mask ∙ ap (λ m. m + bit_at n k * 2 ^ k) above in
     let before : bit_and n a.1 ≡ bit_and (n / 2 ^ suc k) whole.mask * (2 ^ k * 2) = ap (bit_and n) whole.mask_is ∙ above in
     let front : a.0 ≡ whole.value * (2 ^ k * 2) = whole.value_is ∙ ap (λ p. whole.value * p) double in
     (λ i. common i == value i)

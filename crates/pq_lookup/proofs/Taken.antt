@@ -42,7 +42,8 @@ module _ (x : TaggedPacket) where
   taken-other : (n xid table index : ℕ) (rs : List Rule) → table ≢ n → taken (entries_from xid table index rs) n x ≡ None
   taken-other n xid table index [] other = refl
   taken-other n xid table index (r ∷ rs) other =
-      ap (λ b. if b && covers r.matching x then better (entry_at table index r) (taken (entries_from (suc xid) table (suc index) rs) n x) else taken (entries_from (suc xid) table (suc index) rs) n x) (ne_eqb table n other)
+      ap (λ b. if b && covers r.matching x then better (entry_at table index r) (taken (entries_from (suc xid) table (suc index) rs) n x) else taken (entries_from (suc xid) table (suc index) rs) n x)
+      (ne_eqb table n other)
       ∙ taken-other n (suc xid) table (suc index) rs other
 
   taken-behind : (n : ℕ) (es fs : List Entry) → taken fs n x ≡ None → taken (es ++ fs) n x ≡ taken es n x
@@ -52,7 +53,9 @@ module _ (x : TaggedPacket) where
   taken-before : (n xid table index : ℕ) (rs : List Rule) (fs : List Entry) → table ≢ n → taken (entries_from xid table index rs ++ fs) n x ≡ taken fs n x
   taken-before n xid table index [] fs other = refl
   taken-before n xid table index (r ∷ rs) fs other =
-      ap (λ b. if b && covers r.matching x then better (entry_at table index r) (taken (entries_from (suc xid) table (suc index) rs ++ fs) n x) else taken (entries_from (suc xid) table (suc index) rs ++ fs) n x) (ne_eqb table n other)
+      ap (λ b. if b && covers r.matching x then better (entry_at table index r) (taken (entries_from (suc xid) table (suc index) rs ++ fs) n x)
+      else taken (entries_from (suc xid) table (suc index) rs ++ fs) n x)
+      (ne_eqb table n other)
       ∙ taken-before n (suc xid) table (suc index) rs fs other
 
   either_below : (b : Bool) (p : ℕ) (e : Entry) (o : Option Entry) → e.priority < p → IsBelow p o → IsBelow p (if b then better e o else o)
@@ -105,7 +108,8 @@ module _ (x : TaggedPacket) where
         ∙ taken-found yid 1 0 second (omega arith)
 
   -- rules that are made of matches and leaves
-  pub found-map : {L : Type 0} (rule : MatchFields × L → Rule) → ((e : MatchFields × L) → (rule e).matching ≡ e.0) → (es : List (MatchFields × L)) → found (map rule es) ≡ option_map rule (first_covering x es)
+  pub found-map : {L : Type 0} (rule : MatchFields × L → Rule) → ((e : MatchFields × L) → (rule e).matching ≡ e.0) → (es : List (MatchFields × L)) →
+      found (map rule es) ≡ option_map rule (first_covering x es)
   found-map rule own [] = refl
   found-map rule own (e ∷ es) =
       ap (λ m. if covers m x then Some (rule e) else found (map rule es)) (own e) ∙ by (covers e.0 x) (found-map rule own es)

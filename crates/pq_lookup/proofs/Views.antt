@@ -215,7 +215,8 @@ number_set UdpDst v m number other = refl
 number_set Ipv6Src v m number other = absurd (true≢false number)
 number_set Ipv6Dst v m number other = absurd (true≢false number)
 
-bit_set : (f : Field) (i : ℕ) (b : Bool) (m : MatchFields) → is_address f ≡ true → bits_stated (with_bit f i b m) ≡ set (bits_stated m) (rank f) (stated_with (2 ^ (width_of f - 1 - i)) b (stated_bits f m))
+bit_set : (f : Field) (i : ℕ) (b : Bool) (m : MatchFields) → is_address f ≡ true →
+    bits_stated (with_bit f i b m) ≡ set (bits_stated m) (rank f) (stated_with (2 ^ (width_of f - 1 - i)) b (stated_bits f m))
 unfolding bits_stated
 bit_set Switch i b m address = absurd (true≢false (sym address))
 bit_set Port i b m address = absurd (true≢false (sym address))
@@ -301,7 +302,8 @@ bit_vlan Ipv6Dst i b m = refl
 
 pub other_number : (f g : Field) (v : ℕ) (m : MatchFields) → is_address f ≡ false → f ≢ Switch → rank f ≢ rank g → stated_number g (with_number f v m) ≡ stated_number g m
 other_number f g v m number other apart =
-    number_at g (with_number f v m) ∙ ap (λ l. get_or l (rank g) None) (number_set f v m number other) ∙ get_or-set_other (numbers_stated m) (rank f) (rank g) (Some v) None (λ e. apart (sym e)) ∙ sym (number_at g m)
+    number_at g (with_number f v m) ∙ ap (λ l. get_or l (rank g) None) (number_set f v m number other)
+    ∙ get_or-set_other (numbers_stated m) (rank f) (rank g) (Some v) None (λ e. apart (sym e)) ∙ sym (number_at g m)
 
 pub same_bits : (f g : Field) (v : ℕ) (m : MatchFields) → stated_bits g (with_number f v m) ≡ stated_bits g m
 same_bits f g v m = bits_at g (with_number f v m) ∙ ap (λ l. get_or l (rank g) None) (number_bits f v m) ∙ sym (bits_at g m)

@@ -5,4 +5,4 @@ mod entries;
 mod sending;
 
 pub use entries::entries_answer;
-pub use sending::{switch_sends, tables_send, trees_renew};
+pub use sending::{renewing, switch_sends, tables_send};

@@ -1,4 +1,4 @@
-use Rattle.pq_lookup.proofs.Renewing.{switch-sends}
+use Rattle.pq_lookup.proofs.Renewed.{switch-sends}
 use Rattle.pq_lookup.proofs.sending.switch_sends.Goals as goal
 
 pub returns : goal.returns

@@ -22,7 +22,8 @@ use Rattle.pq_rewrite.specs.declared.outgoing.Outgoing.{Outgoing}
 use Rattle.pq_rewrite.specs.declared.trees.Arrive.{Arrive}
 use Rattle.pq_layout.specs.Actions.{arrival_actions, buckets_of, copy_actions, header_actions, output_port, set_field, tag_actions}
 use Rattle.pq_layout.specs.Entries.{table_of}
-use Rattle.pq_layout.specs.Messages.{ArrivingTrees, Buckets, LeavingTrees, Rule, adds_from, first_rule, first_rules, group_number, is_untagged, groups_from, groups_of, is_nothing, leaving_actions, leaving_entries, renewal_of, second_rule, second_rules}
+use Rattle.pq_layout.specs.Messages.{ArrivingTrees, Buckets, LeavingTrees, Rule, adds_from, first_rule, first_rules, group_number}
+use Rattle.pq_layout.specs.Messages.{is_untagged, groups_from, groups_of, is_nothing, leaving_actions, leaving_entries, renewal_of, second_rule, second_rules}
 use Rattle.pq_lookup.specs.Sent.{AreFilled, SwitchSends, TreesRenew}
 use Rattle.pq_lookup.proofs.Arriving.{tables-send_in_order}
 use Rattle.pq_lookup.proofs.Copying.{to_eth_src, to_eth_dst, to_ipv4_src, to_ipv4_dst, to_tcp_src, to_tcp_dst, to_udp_src}
@@ -84,7 +85,8 @@ own-priorities xid table index [] few = tt
 own-priorities xid table index (r ∷ rs) few =
     (behind-apart (entry_at table index r) index (suc xid) table (suc index) rs refl (omega arith) (omega arith), own-priorities (suc xid) table (suc index) rs (omega arith))
 
-both-priorities : (xid index : ℕ) (rs : List Rule) (fs : List Entry) → index + length rs ≤ 65536 → AllByRecursion (λ f. f.table ≡ 1) fs → HaveOwnPriorities fs → HaveOwnPriorities (entries_from xid 0 index rs ++ fs)
+both-priorities : (xid index : ℕ) (rs : List Rule) (fs : List Entry) → index + length rs ≤ 65536 → AllByRecursion (λ f. f.table ≡ 1) fs → HaveOwnPriorities fs →
+    HaveOwnPriorities (entries_from xid 0 index rs ++ fs)
 both-priorities xid index [] fs few ones own = own
 both-priorities xid index (r ∷ rs) fs few ones own = (
   all-append (AreApart (entry_at 0 index r)) (entries_from (suc xid) 0 (suc index) rs) fs
@@ -97,7 +99,8 @@ both-priorities xid index (r ∷ rs) fs few ones own = (
 abbrev AreThere : Groups → List Action → Type 0
 AreThere groups as_ = list_all (contains_key groups) (groups_named as_) ≡ true
 
-added-there : (groups : Groups) (xid table index : ℕ) (rs : List Rule) → AllByRecursion (λ r. AreThere groups r.actions) rs → AllByRecursion (λ f. AreThere groups f.actions) (adds_from xid table index rs)
+added-there : (groups : Groups) (xid table index : ℕ) (rs : List Rule) → AllByRecursion (λ r. AreThere groups r.actions) rs →
+    AllByRecursion (λ f. AreThere groups f.actions) (adds_from xid table index rs)
 added-there groups xid table index [] all = tt
 added-there groups xid table index (r ∷ rs) (here, all) = (here, added-there groups (suc xid) table (suc index) rs all)
 
@@ -132,7 +135,8 @@ headers-none w =
     (set-none UdpDst w.udp_dst)
 
 copy-none : (c : Outgoing) → NamesNone (copy_actions true c)
-copy-none c = none-append (tag_actions true c.tag ++ header_actions c.writes) (Output (output_port c.kind c.writes) ∷ []) (none-append (tag_actions true c.tag) (header_actions c.writes) (tag-none c.tag) (headers-none c.writes)) refl
+copy-none c = none-append (tag_actions true c.tag ++ header_actions c.writes) (Output (output_port c.kind c.writes) ∷ [])
+    (none-append (tag_actions true c.tag) (header_actions c.writes) (tag-none c.tag) (headers-none c.writes)) refl
 
 first-there : (groups : Groups) (m : MatchFields) (o : Option Arrive) → AreThere groups (first_rule (m, o)).actions
 first-there groups m None = refl
@@ -159,7 +163,8 @@ module _ (second : LeavingTrees) where
       and_from (contains_key added (group_number groups b)) true (ap is_some (group-there b groups (in-groups b (m, c ∷ d ∷ cs) refl (leaving_entries second) i))) refl
 
   second-there : AllByRecursion (λ r. AreThere added r.actions) (second_rules second)
-  second-there = all-map (second_rule groups) (λ r. AreThere added r.actions) (leaving_entries second) (all-in (λ e. AreThere added (leaving_actions groups e.1)) (leaving_entries second) (λ e i. leaf-there e.0 e.1 i))
+  second-there = all-map (second_rule groups) (λ r. AreThere added r.actions) (leaving_entries second)
+      (all-in (λ e. AreThere added (leaving_actions groups e.1)) (leaving_entries second) (λ e i. leaf-there e.0 e.1 i))
 
 module _ (first : ArrivingTrees) (second : LeavingTrees) (filled : AreFilled first second) where
   pub renewing : TreesRenew first second
@@ -168,11 +173,14 @@ module _ (first : ArrivingTrees) (second : LeavingTrees) (filled : AreFilled fir
     groups_away = (refl, refl);
     groups = groups-added 4 1 (groups second);
     numbers = groups-numbered 4 1 (groups second);
-    entries = all-append (λ f. f.command ≡ AddFlow) (adds_from xid 0 0 (first_rules first)) (adds_from yid 1 0 (second_rules second)) (entries-added xid 0 0 (first_rules first)) (entries-added yid 1 0 (second_rules second));
+    entries = all-append (λ f. f.command ≡ AddFlow) (adds_from xid 0 0 (first_rules first)) (adds_from yid 1 0 (second_rules second))
+        (entries-added xid 0 0 (first_rules first)) (entries-added yid 1 0 (second_rules second));
     named = all-append (λ f. AreThere (added second) f.actions) (adds_from xid 0 0 (first_rules first)) (adds_from yid 1 0 (second_rules second))
         (added-there (added second) xid 0 0 (first_rules first) first_named) (added-there (added second) yid 1 0 (second_rules second) (second-there second));
     priorities = subst HaveOwnPriorities (sym (map-append entry_of (adds_from xid 0 0 (first_rules first)) (adds_from yid 1 0 (second_rules second))))
-        (both-priorities xid 0 (first_rules first) (entries_from yid 1 0 (second_rules second)) (omega (arith, filled.first_few)) (in-table yid 1 0 (second_rules second)) (own-priorities yid 1 0 (second_rules second) (omega (arith, filled.second_few))));
+        (both-priorities xid 0 (first_rules first) (entries_from yid 1 0 (second_rules second)) (omega (arith, filled.first_few))
+        (in-table yid 1 0 (second_rules second))
+        (own-priorities yid 1 0 (second_rules second) (omega (arith, filled.second_few))));
   }
     where
       xid : ℕ
@@ -182,7 +190,8 @@ module _ (first : ArrivingTrees) (second : LeavingTrees) (filled : AreFilled fir
       yid = suc (4 + length (groups second)) + length (first_rules first)
 
       first_named : AllByRecursion (λ r. AreThere (added second) r.actions) (first_rules first)
-      first_named = all-map first_rule (λ r. AreThere (added second) r.actions) (table_of is_nothing first) (all-in (λ e. AreThere (added second) (first_rule e).actions) (table_of is_nothing first) (λ e i. first-there (added second) e.0 e.1))
+      first_named = all-map first_rule (λ r. AreThere (added second) r.actions) (table_of is_nothing first)
+          (all-in (λ e. AreThere (added second) (first_rule e).actions) (table_of is_nothing first) (λ e i. first-there (added second) e.0 e.1))
 
   pub switch-sends : SwitchSends first second
   switch-sends ms is before order lawful x h =
