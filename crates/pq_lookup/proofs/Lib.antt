@@ -1,0 +1,10 @@
+pub mod MaskedBits
+pub mod Views
+pub mod Covering
+pub mod Taken
+pub mod Tables
+pub mod Copying
+pub mod Grouped
+pub mod Leaving
+pub mod Arriving
+pub mod Renewed
