@@ -1,0 +1,12 @@
+pub mod Collected
+pub mod Copied
+pub mod Departed
+pub mod Ends
+pub mod Flights
+pub mod Keys
+pub mod Members
+pub mod Paths
+pub mod Reordered
+pub mod Rows
+pub mod SortedTo
+pub mod Simulated
