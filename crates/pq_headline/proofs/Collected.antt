@@ -22,7 +22,7 @@ use Rattle.pq_headline.specs.LaidOut.{IsAccepted}
 use Rattle.pq_headline.proofs.Copied.{caught, caught_of}
 use Rattle.pq_headline.proofs.Keys.{entries_tell, first_ahead, instances_decide, rest_ascends}
 use Rattle.pq_headline.proofs.Paths.{left_path}
-use Rattle.pq_headline.proofs.Reordered.{reordering-both, reordering-cons, reordering-exchange, reordering-flat_map, reordering-map, sort-reorders}
+use Rattle.pq_headline.proofs.Reordered.{reordering-both, reordering-cons, reordering-turned, reordering-flat_map, reordering-map, sort-reorders}
 use Rattle.pq_headline.proofs.Rows.{instances_of_numbers, none_of_tag, row_of_tag}
 use Rattle.pq_headline.proofs.SortedTo.{below, same_first, sorts_to}
 
@@ -64,7 +64,8 @@ module _ (m : Meaning) where
   noted_packets i (s ∷ ss) = by (m.accepts i s.word) (noted_packets i ss)
     where
       by : (b : Bool) → flat_map (λ s. noted_in m s i) ss ≡ map (λ x. entry x i) (accepted_packets (m.accepts i) ss)
-          → (if b then entry s.packet i ∷ [] else []) ++ flat_map (λ s. noted_in m s i) ss ≡ map (λ x. entry x i) (if b then s.packet ∷ accepted_packets (m.accepts i) ss else accepted_packets (m.accepts i) ss)
+          → (if b then entry s.packet i ∷ [] else []) ++ flat_map (λ s. noted_in m s i) ss
+          ≡ map (λ x. entry x i) (if b then s.packet ∷ accepted_packets (m.accepts i) ss else accepted_packets (m.accepts i) ss)
       by true more = ap (λ l. entry s.packet i ∷ l) more
       by false more = more
 
@@ -78,7 +79,7 @@ module _ (m : Meaning) where
   noted_captured : (ss : List Sighting) → IsReordering (flat_map (λ s. flat_map (noted_in m s) m.instances) ss) (flat_map (entries_of m ss) m.instances)
   noted_captured ss =
       reordering-trans (flat_map (λ s. flat_map (noted_in m s) m.instances) ss) (flat_map (λ i. flat_map (λ s. noted_in m s i) ss) m.instances) (flat_map (entries_of m ss) m.instances)
-      (reordering-exchange (noted_in m) ss m.instances)
+      (reordering-turned (noted_in m) ss m.instances)
       (reordering-each (λ i. flat_map (λ s. noted_in m s i) ss) (entries_of m ss) (noted_entries ss) m.instances)
 
 -- What the collector makes of the copy for an observation.
@@ -213,9 +214,11 @@ module _ (v : Word) (x : Numbers) (path : IsPath v) (odd : has_even_length v ≡
   sightings_paths (y ∷ ys) fits = (path, each_left (y ∷ ys) fits)
 
 -- The copies in order put into the buckets what the observations add.
-module _ (m : Meaning) (Ls : Languages) (g : Tagging) (tagging : IsTagging Ls g) (languages : (i : ℕ) (w : Word) → IsPath w → Ls i w ↔ IsAccepted m i w) (ascend : AscendsBy instance_numbers m.instances) where
+module _ (m : Meaning) (Ls : Languages) (g : Tagging) (tagging : IsTagging Ls g)
+    (languages : (i : ℕ) (w : Word) → IsPath w → Ls i w ↔ IsAccepted m i w) (ascend : AscendsBy instance_numbers m.instances) where
   pub collected_captured : (v : Word) (x : Numbers) → IsPath v → has_even_length v ≡ false → Fit x → (zs ys : List Numbers) → AllByRecursion Fit ys → IsReordering zs ys
-      → sort_by entry_numbers (flat_map (collected_of (report_of g m.instances)) (sort_by tagged_numbers (flat_map (caught_of g) (sightings v x zs)))) ≡ flat_map (entries_of m (sightings v x ys)) m.instances
+      → sort_by entry_numbers (flat_map (collected_of (report_of g m.instances)) (sort_by tagged_numbers (flat_map (caught_of g) (sightings v x zs))))
+      ≡ flat_map (entries_of m (sightings v x ys)) m.instances
   collected_captured v x path odd fit zs ys fits mixed =
       let report = report_of g m.instances in
       let ss = sightings v x zs in

@@ -76,7 +76,9 @@ module _ (T : Topology) (g : Tagging) (a : ℕ) (x : Numbers) where
       ap (λ l. departed_as T g a (on w x) ∷ l) (captured_to_no_port w (g.after a (on w x)) (flat_map (copies_by T g a x) ws) ∙ each_to_port ws)
 
   all_to_port : (ws : List Written) → to_ports (map (copy_sent x) (copies_of T g a x ws)) ≡ map (departed_as T g a) (given_by x ws)
-  all_to_port [] = ap (λ cs. to_ports (map (copy_sent x) cs)) (sym (append-nil (capture_of g no_writes (g.after a (record x { port = 0 }))))) ∙ captured_to_no_port no_writes (g.after a (record x { port = 0 })) []
+  all_to_port [] =
+      let b = g.after a (record x { port = 0 }) in
+      ap (λ cs. to_ports (map (copy_sent x) cs)) (sym (append-nil (capture_of g no_writes b))) ∙ captured_to_no_port no_writes b []
   all_to_port (w ∷ ws) = each_to_port (w ∷ ws)
 
   arrival_to_no_port : to_ports (arrival_sent x (arrive g a)) ≡ []
@@ -106,7 +108,8 @@ module _ (T : Topology) (g : Tagging) (v : Word) (x : Numbers) where
   abbrev reached : ℕ
   reached = tag_of g v
 
-  captured_to_controller : (w : Written) (b : ℕ) (cs : List Outgoing) → to_controller (map (copy_sent x) (capture_of g w b ++ cs)) ≡ caught g b (record (on w x) { port = x.port }) ++ to_controller (map (copy_sent x) cs)
+  captured_to_controller : (w : Written) (b : ℕ) (cs : List Outgoing)
+      → to_controller (map (copy_sent x) (capture_of g w b ++ cs)) ≡ caught g b (record (on w x) { port = x.port }) ++ to_controller (map (copy_sent x) cs)
   captured_to_controller w b cs = by (captures g b)
     where
       by : (c : Bool) → to_controller (map (copy_sent x) ((if c then record { writes = w; tag = Some b; kind = CaptureOut } ∷ [] else []) ++ cs))

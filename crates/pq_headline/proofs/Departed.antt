@@ -16,7 +16,7 @@ use Rattle.pq_rewrite.specs.Rewriting.{IsGiven}
 use Rattle.pq_rewrite.proofs.Diffs.{same_changes}
 use Rattle.pq_rewrite.proofs.Sets.{any_cases, any_first, any_later, any_none}
 use Rattle.pq_headline.proofs.Keys.{before_itself, first_ahead, rest_ascends}
-use Rattle.pq_headline.proofs.Members.{IsAmong, AreApart, among_from_contains, contains_from_among, same_members}
+use Rattle.pq_headline.proofs.Members.{StandsIn, AreApart, among_from_contains, contains_from_among, same_members}
 
 -- an answer that is its own reverse isn't Less
 reversed : (o : Ordering) → o ≡ ordering_reverse o → o ≡ Less → ⊥
@@ -31,12 +31,12 @@ never_before w less =
     reversed (writes_cmp w w) (laws.antisymm w w) less
 
 module _ {A B : Type 0} (f : A → B) where
-  among_mapped : (z : B) (xs : List A) → IsAmong z (map f xs) → Any (λ x. z ≡ f x) xs
+  among_mapped : (z : B) (xs : List A) → StandsIn z (map f xs) → Any (λ x. z ≡ f x) xs
   among_mapped z [] there = absurd there
   among_mapped z (x ∷ xs) (inl is) = any_first (λ x. z ≡ f x) x xs is
   among_mapped z (x ∷ xs) (inr there) = any_later (λ x. z ≡ f x) x xs (among_mapped z xs there)
 
-  mapped_among : (z : B) (xs : List A) → Any (λ x. z ≡ f x) xs → IsAmong z (map f xs)
+  mapped_among : (z : B) (xs : List A) → Any (λ x. z ≡ f x) xs → StandsIn z (map f xs)
   mapped_among z [] some = absurd (any_none (λ x. z ≡ f x) some)
   mapped_among z (x ∷ xs) some = elim (any_cases (λ x. z ≡ f x) x xs some) [ inl is ↦ inl is | inr more ↦ inr (mapped_among z xs more) ]
 
@@ -50,7 +50,7 @@ module _ {A B : Type 0} (f : A → B) where
 
 -- packets that ascend are apart
 module _ {A : Type 0} (key : A → List ℕ) where
-  none_ahead : (x : A) (xs : List A) → AllByRecursion (λ z. is_before (key x) (key z) ≡ true) xs → IsAmong x xs → ⊥
+  none_ahead : (x : A) (xs : List A) → AllByRecursion (λ z. is_before (key x) (key z) ≡ true) xs → StandsIn x xs → ⊥
   none_ahead x [] all there = there
   none_ahead x (y ∷ ys) all (inl is) = true≢false (sym all.0 ∙ ap (λ z. is_before (key x) (key z)) (sym is) ∙ before_itself (key x))
   none_ahead x (y ∷ ys) all (inr there) = none_ahead x ys all.1 there

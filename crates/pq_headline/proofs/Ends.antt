@@ -46,7 +46,8 @@ pub peer_linked : (ls : List Link) (d p : ℕ) (e : ℕ × ℕ) → peer_in ls d
 peer_linked [] d p e is = absurd (none-some e is)
 peer_linked (l ∷ ls) d p e is = by (is_end l.first d p) (is_end l.second d p) is (peer_linked ls d p e)
   where
-    by : (b c : Bool) → (if b then Some l.second else if c then Some l.first else peer_in ls d p) ≡ Some e → (peer_in ls d p ≡ Some e → is_some (peer_in ls e.0 e.1) ≡ true) → is_some (peer_in (l ∷ ls) e.0 e.1) ≡ true
+    by : (b c : Bool) → (if b then Some l.second else if c then Some l.first else peer_in ls d p) ≡ Some e
+        → (peer_in ls d p ≡ Some e → is_some (peer_in ls e.0 e.1) ≡ true) → is_some (peer_in (l ∷ ls) e.0 e.1) ≡ true
     by true c is more = subst (λ (z : ℕ × ℕ). is_some (peer_in (l ∷ ls) z.0 z.1) ≡ true) (same_Some l.second e is) (second_found ls l)
     by false true is more = subst (λ (z : ℕ × ℕ). is_some (peer_in (l ∷ ls) z.0 z.1) ≡ true) (same_Some l.first e is) (first_found ls l)
     by false false is more = found ls e (more is) l
@@ -78,8 +79,23 @@ pub port_numbers : (ss : List Switch) (d p : ℕ) → AllByRecursion IsLawfulSwi
 port_numbers [] d p all e = absurd (true≢false (sym e))
 port_numbers (s ∷ ss) d p all e = by (s.datapath == d) refl e (port_numbers ss d p all.1)
   where
-    by : (b : Bool) → (s.datapath == d) ≡ b → list_any (λ q. q == p) (if b then s.ports else ports_in ss d) ≡ true → (list_any (λ q. q == p) (ports_in ss d) ≡ true → ArePortNumbers d p) → ArePortNumbers d p
+    by : (b : Bool) → (s.datapath == d) ≡ b → list_any (λ q. q == p) (if b then s.ports else ports_in ss d) ≡ true
+        → (list_any (λ q. q == p) (ports_in ss d) ≡ true → ArePortNumbers d p) → ArePortNumbers d p
     by true same e more =
         let is : s.datapath ≡ d = grind (arith, nat_tests) in
         (subst (λ n. n < 2 ^ 64) is all.0.0, port_number p s.ports (recursion_from_All IsPortNumber s.ports all.0.3) e)
     by false same e more = more e
+
+-- the end of a link is a port
+pub linked_port : (T : Topology) (ls : List Link) (d p : ℕ) → AllByRecursion (IsLawfulLink T) ls → is_some (peer_in ls d p) ≡ true → IsTrue (is_port T d p)
+linked_port T [] d p all linked = absurd (true≢false (sym linked))
+linked_port T (l ∷ ls) d p all linked = by (is_end l.first d p) (is_end l.second d p) refl refl linked (linked_port T ls d p all.1)
+  where
+    at : (e : ℕ × ℕ) → is_end e d p ≡ true → IsPort T e → IsTrue (is_port T d p)
+    at e is port = let same = end_is e d p is in subst (λ n. IsTrue (is_port T n p)) same.0 (subst (λ n. IsTrue (is_port T e.0 n)) same.1 port)
+
+    by : (b c : Bool) → is_end l.first d p ≡ b → is_end l.second d p ≡ c → is_some (if b then Some l.second else if c then Some l.first else peer_in ls d p) ≡ true
+        → (is_some (peer_in ls d p) ≡ true → IsTrue (is_port T d p)) → IsTrue (is_port T d p)
+    by true c e f linked more = at l.first e all.0.0
+    by false true e f linked more = at l.second f all.0.1
+    by false false e f linked more = more linked

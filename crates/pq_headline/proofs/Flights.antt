@@ -89,7 +89,8 @@ delivered_same T g a x (y ∷ ys) leave = by (is_port T y.switch y.port) (peer T
     port = ap (λ d. is_port T d y.port) leave.0.switch ∙ leave.0.port
 
     by : (q : Bool) (o : Option (ℕ × ℕ)) → q ≡ true → delivered_of T (map (departed_as T g a) ys) ≡ map plain (deliveries T ys)
-        → cond (q && is_none o) (record { packet = y; vlan = if is_some o then Some (g.after a y) else None } ∷ delivered_of T (map (departed_as T g a) ys)) (delivered_of T (map (departed_as T g a) ys))
+        → cond (q && is_none o) (record { packet = y; vlan = if is_some o then Some (g.after a y) else None } ∷ delivered_of T (map (departed_as T g a) ys))
+        (delivered_of T (map (departed_as T g a) ys))
         ≡ map plain (cond (is_none o) (y ∷ deliveries T ys) (deliveries T ys))
     by true None is more = ap (λ l. plain y ∷ l) more
     by true (Some e) is more = more

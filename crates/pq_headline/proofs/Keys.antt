@@ -118,7 +118,8 @@ labels_decide [] (b ∷ l) us vs e = grind (arith, nat_tests)
 labels_decide (a ∷ k) [] us vs e = absurd (grind (arith, nat_tests))
 labels_decide (a ∷ k) (b ∷ l) us vs e = by (nat_lt (a + 1) (b + 1)) ((a + 1) == (b + 1)) (is_before (label_numbers k) (label_numbers l)) e (labels_decide k l us vs)
   where
-    by : (c d f : Bool) → c || (d && f) ≡ true → (f ≡ true → is_before (label_numbers k ++ us) (label_numbers l ++ vs) ≡ true) → c || (d && is_before (label_numbers k ++ us) (label_numbers l ++ vs)) ≡ true
+    by : (c d f : Bool) → c || (d && f) ≡ true → (f ≡ true → is_before (label_numbers k ++ us) (label_numbers l ++ vs) ≡ true)
+        → c || (d && is_before (label_numbers k ++ us) (label_numbers l ++ vs)) ≡ true
     by true d f e more = refl
     by false true f e more = more e
     by false false f e more = e
@@ -137,7 +138,8 @@ labels_tell (a ∷ k) (b ∷ l) us vs e =
 pub instances_decide : (i j : Instance) (us vs : List ℕ) → is_before (instance_numbers i) (instance_numbers j) ≡ true → is_before (instance_numbers i ++ us) (instance_numbers j ++ vs) ≡ true
 instances_decide i j us vs e = by (nat_lt i.query j.query) (i.query == j.query) (is_before (label_numbers i.label) (label_numbers j.label)) e (labels_decide i.label j.label us vs)
   where
-    by : (c d f : Bool) → c || (d && f) ≡ true → (f ≡ true → is_before (label_numbers i.label ++ us) (label_numbers j.label ++ vs) ≡ true) → c || (d && is_before (label_numbers i.label ++ us) (label_numbers j.label ++ vs)) ≡ true
+    by : (c d f : Bool) → c || (d && f) ≡ true → (f ≡ true → is_before (label_numbers i.label ++ us) (label_numbers j.label ++ vs) ≡ true)
+        → c || (d && is_before (label_numbers i.label ++ us) (label_numbers j.label ++ vs)) ≡ true
     by true d f e more = refl
     by false true f e more = more e
     by false false f e more = e

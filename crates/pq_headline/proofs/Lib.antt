@@ -3,10 +3,12 @@ pub mod Copied
 pub mod Departed
 pub mod Ends
 pub mod Flights
+pub mod Implemented
 pub mod Keys
 pub mod Members
 pub mod Paths
 pub mod Reordered
 pub mod Rows
-pub mod SortedTo
+pub mod Said
 pub mod Simulated
+pub mod SortedTo

@@ -65,14 +65,14 @@ module _ {A B : Type 0} where
 
 module _ {A B C : Type 0} (f : A → B → List C) where
   -- what pairs give, by the one or by the other
-  pub reordering-exchange : (xs : List A) (ys : List B) → IsReordering (flat_map (λ x. flat_map (λ y. f x y) ys) xs) (flat_map (λ y. flat_map (λ x. f x y) xs) ys)
-  reordering-exchange [] ys = none_of_each ys
-  reordering-exchange (x ∷ xs) ys =
+  pub reordering-turned : (xs : List A) (ys : List B) → IsReordering (flat_map (λ x. flat_map (λ y. f x y) ys) xs) (flat_map (λ y. flat_map (λ x. f x y) xs) ys)
+  reordering-turned [] ys = none_of_each ys
+  reordering-turned (x ∷ xs) ys =
       let rest = flat_map (λ x. flat_map (λ y. f x y) ys) xs in
       let turned = flat_map (λ y. flat_map (λ x. f x y) xs) ys in
       let whole = flat_map (λ y. f x y ++ flat_map (λ x. f x y) xs) ys in
       reordering-trans (flat_map (f x) ys ++ rest) (flat_map (f x) ys ++ turned) whole
-      (reordering-left (flat_map (f x) ys) rest turned (reordering-exchange xs ys))
+      (reordering-left (flat_map (f x) ys) rest turned (reordering-turned xs ys))
       (reordering-sym whole (flat_map (f x) ys ++ turned) (reordering-parts (f x) (λ y. flat_map (λ x. f x y) xs) ys))
 
 module _ {A : Type 0} (key : A → List ℕ) where

@@ -187,6 +187,7 @@ module _ (m : Meaning) (Ls : Languages) (g : Tagging) (writes : Departures) (sen
   simulates = record { packets = same_packet; enters = λ y tagged edge. enters_as y tagged edge y.vlan refl; hops = hop_agrees }
 
 -- one hop of each packet in flight adds what the meaning adds
-pub simulated : (T : Topology) (m : Meaning) (Ls : Languages) (g : Tagging) (writes : Departures) (send : Sender) → IsLaidOut T m Ls g writes → SendsAs T g writes send → Simulates m (report_of g m.instances) send (Matches T g)
+pub simulated : (T : Topology) (m : Meaning) (Ls : Languages) (g : Tagging) (writes : Departures) (send : Sender)
+    → IsLaidOut T m Ls g writes → SendsAs T g writes send → Simulates m (report_of g m.instances) send (Matches T g)
 simulated T m Ls g writes send laid sends =
     subst (λ U. IsLaidOut U m Ls g writes → SendsAs U g writes send → Simulates m (report_of g m.instances) send (Matches U g)) laid.topology (simulates m Ls g writes send) laid sends

@@ -1,15 +1,22 @@
 -- Switches that send as the tables layout says, and what is in flight among them.
-use Rattle.std.specs.Prelude.{◌≡◌, ◌↔◌, ◌⊎◌, ◌^◌, ◌<◌, ◌≤◌, ℕ, true, [], IsTrue, Some, None, slice_get}
+use Rattle.std.specs.Prelude.{◌≡◌, ◌↔◌, ◌⊎◌, ◌^◌, ◌<◌, ◌≤◌, ℕ, true, List, [], IsTrue, Some, None, slice_get}
 use Rattle.std.specs.List.{Contains}
 use Rattle.pq_fields.specs.Packet.{Numbers, Fit, numbers}
+use Rattle.pq_model.specs.declared.event.Event.{Event}
 use Rattle.pq_model.specs.Buckets.{Instance, instance_numbers}
 use Rattle.pq_model.specs.Classes.{Languages, IsPath, has_even_length}
 use Rattle.pq_model.specs.Install.{AscendsBy, IsLawfulTopology}
-use Rattle.pq_model.specs.Meaning.{Meaning, Item, Traced, Stranger}
+use Rattle.pq_model.specs.TablesMachine.{Sender, nothing_sent, run_sending}
+use Rattle.pq_model.specs.Events.{IsSchedule}
+use Rattle.pq_model.specs.Headline.{Agree}
+use Rattle.pq_model.specs.Meaning.{Meaning, Item, Traced, Stranger, at_rest, run}
+use Rattle.pq_model.specs.Simulation.{Simulates}
 use Rattle.pq_model.specs.Tagged.{TaggedPacket}
 use Rattle.pq_model.specs.Topology.{Topology, is_edge, is_linked, is_port}
 use Rattle.pq_model.specs.Word.{Word}
+use Rattle.pq_layout.specs.Emission.{report_of}
 use Rattle.pq_layout.specs.Leaves.{AreDepartures, Departures}
+use Rattle.pq_layout.specs.Sending.{SendsAs}
 use Rattle.pq_layout.specs.Tagging.{Tagging, IsTagging, tag_of}
 
 -- the second packet leaves the switch of the first at a port of the topology
@@ -66,3 +73,15 @@ pub record IsStranger (T : Topology) (x : Numbers) (y : TaggedPacket) : Type 0 w
 abbrev pub Matches : Topology → Tagging → Item → TaggedPacket → Type 0
 Matches T g (Traced w x) y = IsTraced T g w x y
 Matches T g (Stranger x) y = IsStranger T x y
+
+-- one hop of each packet in flight adds what the meaning adds, where switches send as the layout says
+abbrev pub LaidOutTablesSimulate : Languages → Type 0
+LaidOutTablesSimulate Ls =
+    (T : Topology) (m : Meaning) (g : Tagging) (writes : Departures) (send : Sender) → IsLaidOut T m Ls g writes → SendsAs T g writes send
+    → Simulates m (report_of g m.instances) send (Matches T g)
+
+-- and every schedule leaves the flights, the deliveries and the buckets that the meaning leaves
+abbrev pub LaidOutTablesAgree : Languages → Type 0
+LaidOutTablesAgree Ls =
+    (T : Topology) (m : Meaning) (g : Tagging) (writes : Departures) (send : Sender) → IsLaidOut T m Ls g writes → SendsAs T g writes send
+    → (events : List Event) → IsSchedule events → Agree (run m at_rest events) (run_sending m.topology (report_of g m.instances) send nothing_sent events)

@@ -2,6 +2,8 @@
 //! document's meaning says.
 #![tactic(auto)]
 
+mod implementing;
 mod simulating;
 
+pub use implementing::tables_implement;
 pub use simulating::{Held, laid_out_tables_agree, laid_out_tables_simulate};
