@@ -17,8 +17,9 @@ use Rattle.pq_model.specs.Topology.{Topology, is_port, peer}
 use Rattle.pq_model.specs.Word.{Out, Word}
 use Rattle.pq_model.proofs.Pairs.{Pairwise-append}
 use Rattle.pq_layout.specs.Tagging.{Tagging, tag_of}
-use Rattle.pq_headline.specs.LaidOut.{IsDeparting, IsTraced, Matches}
+use Rattle.pq_headline.specs.LaidOut.{IsTraced, Matches}
 use Rattle.pq_headline.proofs.Copied.{departed_as}
+use Rattle.pq_headline.proofs.LeavingPackets.{IsDeparting}
 use Rattle.pq_headline.proofs.Ends.{peer_linked, peer_port, port_numbers}
 use Rattle.pq_headline.proofs.Keys.{packets_decide}
 use Rattle.pq_headline.proofs.Paths.{left_even, left_path, left_tag}

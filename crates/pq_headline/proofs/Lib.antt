@@ -5,6 +5,7 @@ pub mod Ends
 pub mod Flights
 pub mod Implemented
 pub mod Keys
+pub mod LeavingPackets
 pub mod Members
 pub mod Paths
 pub mod Reordered

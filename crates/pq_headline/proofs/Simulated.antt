@@ -1,11 +1,11 @@
 -- Switches that send as the layout says simulate the meaning.
-use Rattle.std.proofs.Common.{◌≡◌, ◌≢◌, ◌∙◌, ◌<◌, ◌^◌, ℕ, true, false, if◌then◌else◌, List, [], ◌∷◌, ◌++◌, map, get_or, refl, sym, ap, subst, inl, inr, arith}
+use Rattle.std.proofs.Common.{◌≡◌, ◌≢◌, ◌∙◌, ◌<◌, ◌^◌, ℕ, true, false, if◌then◌else◌, List, [], ◌∷◌, ◌++◌, map, refl, sym, ap, subst, inl, inr, arith}
 use Rattle.std.specs.Prelude.{IfSome, is_none}
-use Rattle.std.specs.List.{All, AllByRecursion, flat_map}
+use Rattle.std.specs.List.{AllByRecursion, flat_map}
 use Rattle.std.specs.declared.option.Option.{Option}
 use Rattle.std.specs.declared.option.Option.TheVariants.{None, Some}
 use Rattle.std.proofs.lemmas.Bool.{and_parts}
-use Rattle.std.proofs.lemmas.List.Elements.{All-nil, Contains-get_or, recursion_from_All}
+use Rattle.std.proofs.lemmas.List.Elements.{All-nil}
 use Rattle.pq_fields.specs.Packet.{Numbers, Fit}
 use Rattle.pq_model.specs.Classes.{Languages, IsPath, has_even_length}
 use Rattle.pq_model.specs.Events.{IsTagged}
@@ -24,10 +24,11 @@ use Rattle.pq_layout.specs.Emission.{report_of}
 use Rattle.pq_layout.specs.Leaves.{Departures, arrive}
 use Rattle.pq_layout.specs.Sending.{SendsAs, arrival_sent, copy_sent, sent_after}
 use Rattle.pq_layout.specs.Tagging.{Tagging, tag_of}
-use Rattle.pq_headline.specs.LaidOut.{IsDeparting, IsLaidOut, IsStranger, IsTraced, Matches}
+use Rattle.pq_headline.specs.LaidOut.{IsLaidOut, IsStranger, IsTraced, Matches}
 use Rattle.pq_headline.proofs.Collected.{collected_captured}
 use Rattle.pq_headline.proofs.Copied.{all_copies, caught_of, controllers_in_order, copies_to_controller, copies_to_ports, departed_as, ports_in_order}
 use Rattle.pq_headline.proofs.Departed.{departures_given, given_by}
+use Rattle.pq_headline.proofs.LeavingPackets.{IsDeparting, all_departing}
 use Rattle.pq_headline.proofs.Flights.{carried_match, delivered_same, departed_ascend}
 use Rattle.pq_headline.proofs.Keys.{tagged_tell}
 use Rattle.pq_headline.proofs.Paths.{entered_odd, entered_path, entered_tag}
@@ -47,10 +48,7 @@ module _ (m : Meaning) (Ls : Languages) (g : Tagging) (writes : Departures) (sen
   report = report_of g m.instances
 
   all_leave : (x : Numbers) → Fit x → AllByRecursion (IsDeparting T x) (m.departs x)
-  all_leave x fit =
-      let order = laid.departs x fit in
-      let each : All (IsDeparting T x) (m.departs x) = λ k d within. order.each (get_or (m.departs x) k d) (Contains-get_or (m.departs x) k d within) in
-      recursion_from_All (IsDeparting T x) (m.departs x) each
+  all_leave x fit = all_departing T m x (writes x) fit (laid.departs x fit) (laid.departures x fit)
 
   given_mixed : (x : Numbers) → Fit x → IsReordering (given_by x (writes x)) (m.departs x)
   given_mixed x fit = departures_given x (m.departs x) (writes x) (laid.departs x fit).ascend (laid.departures x fit)

@@ -15,20 +15,14 @@ use Rattle.pq_model.specs.Tagged.{TaggedPacket}
 use Rattle.pq_model.specs.Topology.{Topology, is_edge, is_linked, is_port}
 use Rattle.pq_model.specs.Word.{Word}
 use Rattle.pq_layout.specs.Emission.{report_of}
-use Rattle.pq_layout.specs.Leaves.{AreDepartures, Departures}
+use Rattle.pq_layout.specs.Leaves.{AreDepartures, Departures, departing}
 use Rattle.pq_layout.specs.Sending.{SendsAs}
 use Rattle.pq_layout.specs.Tagging.{Tagging, IsTagging, tag_of}
-
--- the second packet leaves the switch of the first at a port of the topology
-pub record IsDeparting (T : Topology) (x y : Numbers) : Type 0 where
-  pub switch : y.switch ≡ x.switch
-  pub port : IsTrue (is_port T x.switch y.port)
-  pub fit : Fit y
 
 -- the departures of a packet are in packet order, each once, and each leaves at a port of the packet's switch
 pub record DepartsInOrder (T : Topology) (m : Meaning) (x : Numbers) : Type 0 where
   pub ascend : AscendsBy numbers (m.departs x)
-  pub each : (y : Numbers) → Contains (m.departs x) y → IsDeparting T x y
+  pub ports : (y : Numbers) → Contains (m.departs x) y → IsTrue (is_port T x.switch y.port)
 
 -- the instance of this number accepts the word
 abbrev pub IsAccepted : Meaning → ℕ → Word → Type 0
@@ -79,6 +73,16 @@ abbrev pub LaidOutTablesSimulate : Languages → Type 0
 LaidOutTablesSimulate Ls =
     (T : Topology) (m : Meaning) (g : Tagging) (writes : Departures) (send : Sender) → IsLaidOut T m Ls g writes → SendsAs T g writes send
     → Simulates m (report_of g m.instances) send (Matches T g)
+
+-- of what a relation yields, the meaning's departures are what leaves at a port of the packet's switch
+abbrev pub DepartsAtPorts : (Numbers → Numbers → Type 0) → Topology → Meaning → Type 0
+DepartsAtPorts yields T m = (x y : Numbers) → Fit x → Contains (m.departs x) y ↔ (yields x y × IsTrue (is_port T x.switch y.port))
+
+-- of the writes of what is yielded, those that leave are the writes of the departures
+abbrev pub DepartingWritesDepart : (Numbers → Numbers → Type 0) → Type 0
+DepartingWritesDepart yields =
+    (T : Topology) (m : Meaning) (writes : Departures) → DepartsAtPorts yields T m → AreDepartures yields writes
+    → AreDepartures (λ x y. Contains (m.departs x) y) (departing T writes)
 
 -- and every schedule leaves the flights, the deliveries and the buckets that the meaning leaves
 abbrev pub LaidOutTablesAgree : Languages → Type 0

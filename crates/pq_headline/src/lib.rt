@@ -2,8 +2,10 @@
 //! document's meaning says.
 #![tactic(auto)]
 
+mod departing;
 mod implementing;
 mod simulating;
 
+pub use departing::{Yielded, departing_writes_depart};
 pub use implementing::tables_implement;
 pub use simulating::{Held, laid_out_tables_agree, laid_out_tables_simulate};
