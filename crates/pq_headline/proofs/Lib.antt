@@ -1,0 +1,15 @@
+pub mod Collected
+pub mod Copied
+pub mod Departed
+pub mod Ends
+pub mod Flights
+pub mod Implemented
+pub mod Keys
+pub mod LeavingPackets
+pub mod Members
+pub mod Paths
+pub mod Reordered
+pub mod Rows
+pub mod Said
+pub mod Simulated
+pub mod SortedTo
