@@ -1,3 +1,4 @@
 pub mod Stated
 pub mod Known
 pub mod Limits
+pub mod Room

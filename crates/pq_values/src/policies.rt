@@ -1,14 +1,13 @@
 //! The numbers of policies.
 ghost use Rattle.std.specs.Prelude.{◌≡◌, OnOk};
-ghost use Rattle.pq_fields.specs.Pred.{pred_tree};
 ghost use Rattle.pq_policy.specs.Policy.{policy_tree, policy_trees};
-ghost use Rattle.pq_values.specs.Known.{with_each, with_policies, with_policy, with_pred};
+ghost use Rattle.pq_values.specs.Known.{with_each, with_policies, with_policy};
 ghost use Rattle.pq_values.specs.Stated.{part_trees};
 
 use crate::numbers::put_number;
 use crate::predicates::put_pred;
 use indexmap::IndexSet;
-use pq_fields::{Field, Pred};
+use pq_fields::Field;
 use pq_policy::Policy;
 use pq_term::Name;
 use std::alloc::AllocError;
@@ -25,25 +24,14 @@ fn put_policy(policy: &Policy, known: &mut IndexSet<(Field, u64)>) -> Result<(),
         Policy::Filter(pred) => put_pred(pred, known),
         Policy::Mod(field, number) => put_number(*field, *number, known),
         Policy::Fwd(port) => put_number(Field::Port, u64::from(*port), known),
-        Policy::If(pred, yes, no) => put_choice(pred, yes, no, known),
+        Policy::If(pred, yes, no) => {
+            put_pred(pred, known)?;
+            put_policy(yes, known)?;
+            put_policy(no, known)
+        }
         Policy::Union(policies) => put_policies(policies, known),
         Policy::Seq(policies) => put_policies(policies, known),
     }
-}
-
-/// Adds the numbers of a choice between two policies.
-#[cycle(policy)]
-fn put_choice(
-    pred: &Pred,
-    yes: &Policy,
-    no: &Policy,
-    known: &mut IndexSet<(Field, u64)>,
-) -> Result<(), AllocError>
-    ensures { OnOk result (known.new.keys ≡ with_policy (policy_tree no.now) (with_policy (policy_tree yes.now) (with_pred (pred_tree pred.now) known.old.keys))) }
-{
-    put_pred(pred, known)?;
-    put_policy(yes, known)?;
-    put_policy(no, known)
 }
 
 /// Adds the numbers of the policies.
