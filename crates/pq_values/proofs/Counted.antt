@@ -89,16 +89,16 @@ all_counted (n ∷ ns) ks all = all_counted ns (with_number n ks) (number_counts
 
 -- Numbers of a field.
 
-turned : (n m : ℕ) → (n == m) ≡ (m == n)
+pub turned : (n m : ℕ) → (n == m) ≡ (m == n)
 turned n m = elim (eqb_tells n m) [
   | inl same ↦ (let back : (m == n) ≡ true = grind (arith, nat_tests, same.1) in same.0 ∙ sym back)
   | inr other ↦ (let back : (m == n) ≡ false = grind (arith, nat_tests, other.0) in other.0 ∙ sym back)
 ]
 
-itself : (n : ℕ) → (n == n) ≡ true
+pub itself : (n : ℕ) → (n == n) ≡ true
 itself n = grind (arith, nat_tests)
 
-numbers_append : (f : Field) (ss ts : List Stated) → numbers_for f (ss ++ ts) ≡ numbers_for f ss ++ numbers_for f ts
+pub numbers_append : (f : Field) (ss ts : List Stated) → numbers_for f (ss ++ ts) ≡ numbers_for f ss ++ numbers_for f ts
 numbers_append f ss ts = ap (map (λ s. s.1)) (filter-append (λ s. is_field f s.0) ss ts) ∙ map-append (λ s. s.1) (filter (λ s. is_field f s.0) ss) (filter (λ s. is_field f s.0) ts)
 
 -- a number of the field is known where it is one of the field's known numbers

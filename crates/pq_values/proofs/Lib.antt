@@ -1,3 +1,6 @@
 pub mod Gathered
 pub mod Counted
 pub mod SameNumbers
+pub mod Rooms
+pub mod Firsts
+pub mod Serving

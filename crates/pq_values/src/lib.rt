@@ -2,9 +2,11 @@
 #![tactic(auto)]
 
 mod counts;
+mod laws;
 mod numbers;
 mod policies;
 mod predicates;
 mod queries;
 
 pub use counts::values_full;
+pub use laws::{no_field_is_full, room_serves_all, stated_values_have_room};
