@@ -1,5 +1,5 @@
 -- No field is above its limit exactly where no first one is.
-use Rattle.std.proofs.Common.{◌≡◌, ◌≢◌, ◌≤◌, ℕ, Bool, true, false, List, [], ◌∷◌, All, Option, None, Some, if◌then◌else◌, nat_lt, refl, sym, ◌∙◌, arith}
+use Rattle.std.proofs.Common.{◌≡◌, ◌≤◌, ℕ, Bool, true, false, List, [], ◌∷◌, All, None, Some, if◌then◌else◌, nat_lt, refl, arith}
 use Rattle.std.proofs.lemmas.Bool.Decides.{nat_tests}
 use Rattle.std.proofs.lemmas.List.Elements.{All-nil, All-cons, All-head, All-tail}
 use Rattle.pq_fields.specs.declared.field.Field.{Field}
@@ -15,7 +15,8 @@ few_above : (count : Field → ℕ) (ls : List Limit) → first_above count ls �
 few_above count [] none = All-nil (λ l. count l.0 ≤ l.1)
 few_above count (l ∷ ls) none = by (nat_lt l.1 (count l.0)) refl none (few_above count ls)
   where
-    by : (b : Bool) → nat_lt l.1 (count l.0) ≡ b → (if b then Some (l.0, count l.0) else first_above count ls) ≡ None → (first_above count ls ≡ None → All (λ k. count k.0 ≤ k.1) ls) → All (λ k. count k.0 ≤ k.1) (l ∷ ls)
+    by : (b : Bool) → nat_lt l.1 (count l.0) ≡ b → (if b then Some (l.0, count l.0) else first_above count ls) ≡ None
+        → (first_above count ls ≡ None → All (λ k. count k.0 ≤ k.1) ls) → All (λ k. count k.0 ≤ k.1) (l ∷ ls)
     by true above is later = absurd (some_is (l.0, count l.0) is)
     by false within is later = All-cons (λ k. count k.0 ≤ k.1) l ls (grind (arith, nat_tests, within)) (later is)
 

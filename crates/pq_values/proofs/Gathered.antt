@@ -1,5 +1,5 @@
 -- What a document adds to known numbers is what it states.
-use Rattle.std.proofs.Common.{◌≡◌, ℕ, List, [], ◌∷◌, ◌++◌, map, Option, Some, None, refl, sym, ap, ◌∙◌}
+use Rattle.std.proofs.Common.{◌≡◌, ℕ, List, [], ◌∷◌, ◌++◌, Option, Some, None, refl, sym, ap, ◌∙◌}
 use Rattle.std.specs.List.{flat_map}
 use Rattle.std.proofs.lemmas.List.{map-append}
 use Rattle.std.proofs.lemmas.List.Concat.{flat_map-cons}
@@ -12,7 +12,8 @@ use Rattle.pq_model.specs.Topology.{Switch, Topology}
 use Rattle.pq_policy.specs.Policy.{PolicyTop, Pass, Discard, Spread, Only, Write, Forward, Choose, Either, InTurn, Policies, none as no_policies, put as add_policy, PolicyTree, policies}
 use Rattle.pq_query.specs.Groups.{Group}
 use Rattle.pq_query.specs.Query.{QueryTop, Enters, Leaves, Passes, Ends, InTurn as Joined, Either as AnyQuery, Both, Other, Repeated, Queries, none as no_queries, put as add_query, QueryTree, queries}
-use Rattle.pq_values.specs.Known.{with_each, with_group, with_numbers, with_one, with_policies, with_policy, with_policy_top, with_pred_top, with_preds, with_queries, with_query, with_query_top, with_side, with_switch}
+use Rattle.pq_values.specs.Known.{with_each, with_group, with_numbers, with_one, with_policies, with_policy, with_policy_top}
+use Rattle.pq_values.specs.Known.{with_pred_top, with_preds, with_queries, with_query, with_query_top, with_side, with_switch}
 use Rattle.pq_values.specs.Stated.{Stated, in_group, in_groups, in_policies, in_policy, in_policy_top, in_pred, in_pred_top, in_preds, in_queries, in_query, in_query_top, stated, stated_for}
 
 -- all of these numbers are added, one after another
@@ -147,6 +148,8 @@ pub all_gathered : (T : Topology) (ps : List PolicyTree) (qs : List QueryTree)
     → with_each with_query qs (with_each with_policy ps (with_each with_switch T.switches [])) ≡ with_all (stated T ps qs) []
 all_gathered T ps qs =
     let ports = stated_for Port (flat_map (λ s. s.ports) T.switches) in
+    let parts : with_each with_policy ps (with_each with_switch T.switches []) ≡ with_all (flat_map in_policy ps) (with_all ports []) =
+    each_known with_policy in_policy policy_known ps (with_each with_switch T.switches []) ∙ ap (with_all (flat_map in_policy ps)) (switches_known T.switches []) in
     each_known with_query in_query query_known qs (with_each with_policy ps (with_each with_switch T.switches []))
-    ∙ (ap (with_all (flat_map in_query qs)) (each_known with_policy in_policy policy_known ps (with_each with_switch T.switches []) ∙ ap (with_all (flat_map in_policy ps)) (switches_known T.switches []))
+    ∙ (ap (with_all (flat_map in_query qs)) parts
     ∙ sym (three ports (flat_map in_policy ps) (flat_map in_query qs) []))

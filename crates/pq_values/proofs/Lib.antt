@@ -4,3 +4,4 @@ pub mod SameNumbers
 pub mod Rooms
 pub mod Firsts
 pub mod Serving
+pub mod Ported

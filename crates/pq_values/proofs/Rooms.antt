@@ -1,5 +1,5 @@
 -- Where no field is above its limit, there is room for all numbers of a document.
-use Rattle.std.proofs.Common.{◌≡◌, ◌≤◌, ℕ, zero, suc, ◌-◌, ◌/◌, ◌^◌, ◌==◌, Bool, true, false, ◌||◌, List, [], ◌∷◌, ◌++◌, map, length, All, Option, Some, None, refl, sym, ap, subst, ◌∙◌, arith}
+use Rattle.std.proofs.Common.{◌≡◌, ◌≤◌, ℕ, zero, suc, ◌==◌, Bool, true, false, ◌||◌, List, [], ◌∷◌, ◌++◌, map, length, All, Option, Some, None, refl, sym, ap, subst, ◌∙◌, arith}
 use Rattle.std.specs.List.{AllByRecursion, Any, flat_map, list_any}
 use Rattle.std.proofs.lemmas.Bool.{true≢false}
 use Rattle.std.proofs.lemmas.List.{length-map}
@@ -7,7 +7,7 @@ use Rattle.std.proofs.lemmas.List.Concat.{flat_map-cons}
 use Rattle.std.proofs.lemmas.List.Elements.{All-nil, All-cons, All-head, All-tail, All-append, All-weaker, recursion_from_All}
 use Rattle.pq_fields.specs.declared.field.Field.{Field}
 use Rattle.pq_fields.specs.declared.field.Field.TheVariants.{Switch, Port, EthType, IpProto, EthSrc, EthDst, Ipv4Src, Ipv4Dst, TcpSrc, TcpDst, UdpSrc, UdpDst, Ipv6Src, Ipv6Dst}
-use Rattle.pq_fields.specs.Packet.{rank, width_of}
+use Rattle.pq_fields.specs.Packet.{rank}
 use Rattle.pq_fields.specs.Pred.{PredTop, Preds, PredTree, preds, ArePredsOver, IsPredOver, IsTopOver as IsPredTopOver}
 use Rattle.pq_fields.specs.Pred.PredTop.{Always, Never, Equals, Leads, LeadsWide, Every, Some as AnyOf, Negated}
 use Rattle.pq_fields.specs.Pred.Preds.{none as no_preds, put as add_pred}
@@ -16,15 +16,16 @@ use Rattle.pq_model.specs.MatchFields.{IsPortNumber}
 use Rattle.pq_model.specs.Topology.{Switch as SwitchValue, Topology}
 use Rattle.pq_topo.specs.Named.{IsNamedTopology}
 use Rattle.pq_pred.specs.Named.{MayStand}
-use Rattle.pq_policy.specs.Policy.{PolicyTop, Pass, Discard, Spread, Only, Write, Forward, Choose, Either, InTurn, Policies, none as no_policies, put as add_policy, PolicyTree, policies, ArePoliciesOver, IsPolicyOver, IsTopOver as IsPolicyTopOver}
+use Rattle.pq_policy.specs.Policy.{PolicyTop, Pass, Discard, Spread, Only, Write, Forward, Choose, Either}
+use Rattle.pq_policy.specs.Policy.{InTurn, Policies, none as no_policies, put as add_policy, PolicyTree, policies, ArePoliciesOver, IsPolicyOver, IsTopOver as IsPolicyTopOver}
 use Rattle.pq_query.specs.Groups.{Group}
 use Rattle.pq_query.specs.Labels.{ascending, datapath_numbers, port_numbers, group_values, groups_of, listed_values, top_groups}
-use Rattle.pq_query.specs.Lawful.{AreGroupsOver, AreQueriesOver, IsGroupOver, IsQueryOver, IsTopOver as IsQueryTopOver, MayTake}
+use Rattle.pq_query.specs.Lawful.{AreQueriesOver, IsGroupOver, IsQueryOver, IsTopOver as IsQueryTopOver, MayTake}
 use Rattle.pq_query.specs.Query.{QueryTop, Enters, Leaves, Passes, Ends, InTurn as Joined, Either as AnyQuery, Both, Other, Repeated, Queries, none as no_queries, put as add_query, QueryTree, queries}
 use Rattle.pq_query.specs.Resolved.{is_field, is_listed}
 use Rattle.pq_query.proofs.Ascending.{has, has_ascending}
 use Rattle.pq_query.proofs.Ports.{either_has}
-use Rattle.pq_store.specs.Room.{AreFew, HasRoom, IsAmong, IsCounted}
+use Rattle.pq_store.specs.Room.{AreFew, IsAmong, IsCounted}
 use Rattle.pq_apply.specs.Predicates.{ArePredsWithin, IsPredWithin, IsTopWithin, NeedsAmong}
 use Rattle.pq_apply.proofs.Examples.{found_among}
 use Rattle.pq_apply.proofs.Required.{needs_among}
@@ -50,20 +51,22 @@ found_turned [] n = refl
 found_turned (k ∷ ks) n = rw (turned n k, found_turned ks n) refl
 
 -- a number that the list has is among its numbers
-among : (ks : List ℕ) (n : ℕ) → has ks n ≡ true → IsAmong n ks
+pub among : (ks : List ℕ) (n : ℕ) → has ks n ≡ true → IsAmong n ks
 among ks n found = found_among n ks (found_turned ks n ∙ found)
 
 -- what the list has it still has behind one more
-behind : (k : ℕ) (ks : List ℕ) (n : ℕ) → has ks n ≡ true → has (k ∷ ks) n ≡ true
+pub behind : (k : ℕ) (ks : List ℕ) (n : ℕ) → has ks n ≡ true → has (k ∷ ks) n ≡ true
 behind k ks n found = ap (λ b. (k == n) || b) found ∙ or_right (k == n)
 
-first : (k : ℕ) (ks : List ℕ) → has (k ∷ ks) k ≡ true
+pub first : (k : ℕ) (ks : List ℕ) → has (k ∷ ks) k ≡ true
 first k ks = ap (λ b. b || has ks k) (itself k)
 
 -- a list has all of its numbers
 all_had : (ks : List ℕ) → All (λ n. has ks n ≡ true) ks
 all_had [] = All-nil (λ n. has [] n ≡ true)
-all_had (k ∷ ks) = All-cons (λ n. has (k ∷ ks) n ≡ true) k ks (first k ks) (All-weaker (λ n. has ks n ≡ true) (λ n. has (k ∷ ks) n ≡ true) (λ n found. behind k ks n found) ks (all_had ks))
+all_had (k ∷ ks) =
+    All-cons (λ n. has (k ∷ ks) n ≡ true) k ks (first k ks)
+    (All-weaker (λ n. has ks n ≡ true) (λ n. has (k ∷ ks) n ≡ true) (λ n found. behind k ks n found) ks (all_had ks))
 
 -- what all of two lists are, all of the first are, and all of the second
 All-front : {X : Type 0} (P : X → Type 0) (xs ys : List X) → All P (xs ++ ys) → All P xs
@@ -101,7 +104,7 @@ numbers_all f (n ∷ ns) = numbers_one f n (stated_for f ns) ∙ ap (λ ms. n �
 -- What is stated is among some numbers, so the parts of a document are.
 module _ (T : Topology) (ns : Field → List ℕ) where
   -- numbers that may stand for their fields are among these, where they are stated
-  abbrev Covers : List Stated → Type 0
+  abbrev pub Covers : List Stated → Type 0
   Covers ss = (f : Field) (n : ℕ) → States ss f n → MayStand T f n → IsCounted ns f n
 
   left : (ss ts : List Stated) → Covers (ss ++ ts) → Covers ss
@@ -114,7 +117,8 @@ module _ (T : Topology) (ns : Field → List ℕ) where
   here f n covers may = covers f n (states_first f n []) may
 
   -- all numbers of a list
-  counted_each : (f : Field) (ms ks : List ℕ) → ((n : ℕ) → has ms n ≡ true → has ks n ≡ true) → ((n : ℕ) → has ks n ≡ true → MayStand T f n → IsCounted ns f n) → All (MayStand T f) ms → All (IsCounted ns f) ms
+  counted_each : (f : Field) (ms ks : List ℕ) → ((n : ℕ) → has ms n ≡ true → has ks n ≡ true)
+      → ((n : ℕ) → has ks n ≡ true → MayStand T f n → IsCounted ns f n) → All (MayStand T f) ms → All (IsCounted ns f) ms
   counted_each f [] ks into covers may = All-nil (IsCounted ns f)
   counted_each f (m ∷ ms) ks into covers may =
       All-cons (IsCounted ns f) m ms (covers m (into m (first m ms)) (All-head (MayStand T f) m ms may))
@@ -200,7 +204,8 @@ module _ (T : Topology) (ns : Field → List ℕ) where
       group_within : (g : Group) → IsGroupOver (MayStand T) g → Covers (in_group g) → IsGroupWithin ns T g
       group_within g over covers = (needs g.field, by g.values over.1 covers)
         where
-          by : (vs : Option (List ℕ)) → MayTake (MayStand T) g.field vs → Covers (in_group (record { field = g.field; values = vs })) → All (IsCounted ns g.field) (group_values T (record { field = g.field; values = vs }))
+          by : (vs : Option (List ℕ)) → MayTake (MayStand T) g.field vs → Covers (in_group (record { field = g.field; values = vs }))
+              → All (IsCounted ns g.field) (group_values T (record { field = g.field; values = vs }))
           by (Some ms) take cover = counted_all g.field ms cover take.fit
           by None listed cover = listed_within g.field listed
 
@@ -296,7 +301,8 @@ module _ (T : Topology) (ns : Field → List ℕ) where
   abbrev IsSwitchWithin : SwitchValue → Type 0
   IsSwitchWithin s = IsAmong s.datapath (ns Switch) × All (λ p. IsAmong p (ns Port)) s.ports
 
-  switches_within : (ss : List SwitchValue) → All (λ d. IsAmong d (ns Switch)) (map (λ s. s.datapath) ss) → All (λ p. IsAmong p (ns Port)) (flat_map (λ s. s.ports) ss) → All IsSwitchWithin ss
+  switches_within : (ss : List SwitchValue) → All (λ d. IsAmong d (ns Switch)) (map (λ s. s.datapath) ss)
+      → All (λ p. IsAmong p (ns Port)) (flat_map (λ s. s.ports) ss) → All IsSwitchWithin ss
   switches_within [] datapaths ports = All-nil IsSwitchWithin
   switches_within (s ∷ ss) datapaths ports =
       let AtSwitch : ℕ → Type 0 = λ d. IsAmong d (ns Switch) in
@@ -309,7 +315,7 @@ module _ (T : Topology) (ns : Field → List ℕ) where
 -- The numbers of a document, few enough.
 
 -- those that are stated for a field, each once, and what is added to them
-abbrev numbers_in : Topology → List Stated → Field → List ℕ
+abbrev pub numbers_in : Topology → List Stated → Field → List ℕ
 numbers_in T ss Switch = datapath_numbers T
 numbers_in T ss Port = 0 ∷ ascending (numbers_for Port ss)
 numbers_in T ss EthType = 0x0800 ∷ 0x86dd ∷ ascending (numbers_for EthType ss)
@@ -363,7 +369,7 @@ switch_among ss n any = among (map (λ s. s.datapath) ss) n (by ss any)
     by (x ∷ xs) (zero, s, within, at, is) = subst (λ d. has (d ∷ map (λ t. t.datapath) xs) n ≡ true) (sym (ap (λ t. t.datapath) at ∙ is)) (first n (map (λ t. t.datapath) xs))
     by (x ∷ xs) (suc k, s, within, at, is) = behind x.datapath (map (λ t. t.datapath) xs) n (by xs (k, s, omega arith, at, is))
 
-numbers_cover : (T : Topology) (ss : List Stated) → Covers T (numbers_in T ss) ss
+pub numbers_cover : (T : Topology) (ss : List Stated) → Covers T (numbers_in T ss) ss
 numbers_cover T ss Switch n found may whole = switch_among T.switches n may
 numbers_cover T ss Port n found may whole = among (0 ∷ ascending (numbers_for Port ss)) n (behind 0 (ascending (numbers_for Port ss)) n (known_among ss Port n found))
 numbers_cover T ss EthType n found may whole =
@@ -383,6 +389,49 @@ numbers_cover T ss UdpDst n found may whole = among (ascending (numbers_for UdpD
 numbers_cover T ss Ipv6Src n found may whole = absurd (true≢false whole)
 numbers_cover T ss Ipv6Dst n found may whole = absurd (true≢false whole)
 
+-- the prerequisites' numbers are among them
+module _ (T : Topology) (ss : List Stated) where
+  pub ipv4_in : IsAmong 0x0800 (numbers_in T ss EthType)
+  ipv4_in = among (numbers_in T ss EthType) 0x0800 (first 0x0800 (0x86dd ∷ ascending (numbers_for EthType ss)))
+
+  pub ipv6_in : IsAmong 0x86dd (numbers_in T ss EthType)
+  ipv6_in = among (numbers_in T ss EthType) 0x86dd (behind 0x0800 (0x86dd ∷ ascending (numbers_for EthType ss)) 0x86dd (first 0x86dd (ascending (numbers_for EthType ss))))
+
+  pub tcp_in : IsAmong 6 (numbers_in T ss IpProto)
+  tcp_in = among (numbers_in T ss IpProto) 6 (first 6 (17 ∷ ascending (numbers_for IpProto ss)))
+
+  pub udp_in : IsAmong 17 (numbers_in T ss IpProto)
+  udp_in = among (numbers_in T ss IpProto) 17 (behind 6 (17 ∷ ascending (numbers_for IpProto ss)) 17 (first 17 (ascending (numbers_for IpProto ss))))
+
+  pub dropped_in : IsAmong 0 (numbers_in T ss Port)
+  dropped_in = among (numbers_in T ss Port) 0 (first 0 (ascending (numbers_for Port ss)))
+
+  pub datapaths_in : All (λ d. IsAmong d (numbers_in T ss Switch)) (datapath_numbers T)
+  datapaths_in =
+      All-weaker (λ n. has (datapath_numbers T) n ≡ true) (λ d. IsAmong d (numbers_in T ss Switch))
+      (λ d found. among (datapath_numbers T) d found) (datapath_numbers T) (all_had (datapath_numbers T))
+
+-- what is stated is among some numbers, so all parts of a document are
+module _ (T : Topology) (ps : List PolicyTree) (qs : List QueryTree) (over : AreOver T ps qs) (ns : Field → List ℕ) (needs : (f : Field) → NeedsAmong ns f)
+    (datapaths : All (λ d. IsAmong d (ns Switch)) (datapath_numbers T)) (covers : Covers T ns (stated T ps qs)) where
+  abbrev later : List Stated
+  later = flat_map in_policy ps ++ flat_map in_query qs
+
+  after : Covers T ns later
+  after = right T ns (stated_for Port (port_numbers T)) later covers
+
+  ports : All (λ p. IsAmong p (ns Port)) (port_numbers T)
+  ports = ports_counted T ns over.topology (left T ns (stated_for Port (port_numbers T)) later covers)
+
+  pub topology_in : IsTopologyWithin ns T
+  topology_in = switches_within T ns T.switches datapaths ports
+
+  pub policies_in : All (IsPolicyWithin ns) ps
+  policies_in = parts_within T ns needs ps over.policies (left T ns (flat_map in_policy ps) (flat_map in_query qs) after)
+
+  pub queries_in : All (IsQueryWithin ns T) qs
+  queries_in = queries_within T ns needs datapaths ports qs over.queries (right T ns (flat_map in_policy ps) (flat_map in_query qs) after)
+
 -- so there is room for all of them
 pub have_room : (T : Topology) (ps : List PolicyTree) (qs : List QueryTree) → AreOver T ps qs → AreFewStated (stated T ps qs) → HaveRoom T ps qs
 have_room T ps qs over few = record { numbers = ns; few = numbers_few T ss over.topology few; within = whole }
@@ -393,41 +442,17 @@ have_room T ps qs over few = record { numbers = ns; few = numbers_few T ss over.
     ns : Field → List ℕ
     ns = numbers_in T ss
 
-    later : List Stated
-    later = flat_map in_policy ps ++ flat_map in_query qs
-
-    after : Covers T ns later
-    after = right T ns (stated_for Port (port_numbers T)) later (numbers_cover T ss)
-
-    ipv4 : IsAmong 0x0800 (ns EthType)
-    ipv4 = among (ns EthType) 0x0800 (first 0x0800 (0x86dd ∷ ascending (numbers_for EthType ss)))
-
-    ipv6 : IsAmong 0x86dd (ns EthType)
-    ipv6 = among (ns EthType) 0x86dd (behind 0x0800 (0x86dd ∷ ascending (numbers_for EthType ss)) 0x86dd (first 0x86dd (ascending (numbers_for EthType ss))))
-
-    tcp : IsAmong 6 (ns IpProto)
-    tcp = among (ns IpProto) 6 (first 6 (17 ∷ ascending (numbers_for IpProto ss)))
-
-    udp : IsAmong 17 (ns IpProto)
-    udp = among (ns IpProto) 17 (behind 6 (17 ∷ ascending (numbers_for IpProto ss)) 17 (first 17 (ascending (numbers_for IpProto ss))))
-
     needs : (f : Field) → NeedsAmong ns f
-    needs = needs_among ns ipv4 ipv6 tcp udp
-
-    datapaths : All (λ d. IsAmong d (ns Switch)) (datapath_numbers T)
-    datapaths = All-weaker (λ n. has (datapath_numbers T) n ≡ true) (λ d. IsAmong d (ns Switch)) (λ d found. among (datapath_numbers T) d found) (datapath_numbers T) (all_had (datapath_numbers T))
-
-    ports : All (λ p. IsAmong p (ns Port)) (port_numbers T)
-    ports = ports_counted T ns over.topology (left T ns (stated_for Port (port_numbers T)) later (numbers_cover T ss))
+    needs = needs_among ns (ipv4_in T ss) (ipv6_in T ss) (tcp_in T ss) (udp_in T ss)
 
     whole : AreWithin T ps qs ns
     whole = record {
-      topology = switches_within T ns T.switches datapaths ports;
-      policies = parts_within T ns needs ps over.policies (left T ns (flat_map in_policy ps) (flat_map in_query qs) after);
-      queries = queries_within T ns needs datapaths ports qs over.queries (right T ns (flat_map in_policy ps) (flat_map in_query qs) after);
-      dropped = among (ns Port) 0 (first 0 (ascending (numbers_for Port ss)));
-      ipv4 = ipv4;
-      ipv6 = ipv6;
-      tcp = tcp;
-      udp = udp;
+      topology = topology_in T ps qs over ns needs (datapaths_in T ss) (numbers_cover T ss);
+      policies = policies_in T ps qs over ns needs (datapaths_in T ss) (numbers_cover T ss);
+      queries = queries_in T ps qs over ns needs (datapaths_in T ss) (numbers_cover T ss);
+      dropped = dropped_in T ss;
+      ipv4 = ipv4_in T ss;
+      ipv6 = ipv6_in T ss;
+      tcp = tcp_in T ss;
+      udp = udp_in T ss;
     }

@@ -1,8 +1,8 @@
 -- Numbers of fields that compare as equal are the same.
-use Rattle.std.proofs.Common.{◌≡◌, ℕ, ◌==◌, ◌&&◌, Bool, true, false, rules, refl, sym, ap, subst, ◌∙◌, arith, inl, inr}
+use Rattle.std.proofs.Common.{◌≡◌, ℕ, ◌==◌, ◌&&◌, Bool, true, false, rules, refl, sym, ap, ◌∙◌, inl, inr}
 use Rattle.std.specs.contracts.prelude.U64PartialEq.TheImpl.{ghosts as u64s}
 use Rattle.std.proofs.lemmas.Bool.{true≢false}
-use Rattle.std.proofs.lemmas.Bool.Decides.{eqb_tells, nat_tests}
+use Rattle.std.proofs.lemmas.Bool.Decides.{eqb_tells}
 use denote.Enum.Bare.{same_true, true_same}
 use Rattle.pq_fields.specs.declared.field.Field.{Field}
 use Rattle.pq_fields.specs.contracts.field.Field.{the_type}

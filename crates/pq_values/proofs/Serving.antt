@@ -8,10 +8,10 @@ use Rattle.pq_query.specs.Query.{QueryTree}
 use Rattle.pq_store.proofs.RoomLemmas.{room_for}
 use Rattle.pq_forward.specs.Forward.{ArePoliciesWithin, FitAsForward, FitAsForwards, IsPolicyWithin}
 use Rattle.pq_classes.specs.Room.{FitAsQueries}
-use Rattle.pq_values.specs.Room.{AreWithin, HaveRoom}
+use Rattle.pq_values.specs.Room.{HaveRoom}
 
 -- policies that are each within some numbers are so together
-together : (ns : Field → List ℕ) (ps : List PolicyTree) → All (IsPolicyWithin ns) ps → ArePoliciesWithin ns (policies ps)
+pub together : (ns : Field → List ℕ) (ps : List PolicyTree) → All (IsPolicyWithin ns) ps → ArePoliciesWithin ns (policies ps)
 together ns [] within = tt
 together ns (p ∷ ps) within =
     let own : IsPolicyWithin ns p = All-head (IsPolicyWithin ns) p ps within in

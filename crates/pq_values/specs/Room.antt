@@ -1,6 +1,5 @@
 -- Room for all numbers of a document.
-use Rattle.std.specs.Prelude.{ℕ, ◌≡◌, ◌≤◌, List, All}
-use Rattle.std.specs.declared.option.Option.TheVariants.{None}
+use Rattle.std.specs.Prelude.{ℕ, ◌≤◌, List, All}
 use Rattle.pq_fields.specs.declared.field.Field.{Field}
 use Rattle.pq_fields.specs.declared.field.Field.TheVariants.{Port, EthType, IpProto}
 use Rattle.pq_model.specs.Topology.{Topology}
@@ -12,8 +11,8 @@ use Rattle.pq_query.specs.Query.{QueryTree}
 use Rattle.pq_store.specs.Room.{HasRoom, IsAmong}
 use Rattle.pq_forward.specs.Forward.{IsPolicyWithin, IsTopologyWithin}
 use Rattle.pq_classes.specs.Room.{IsQueryWithin}
-use Rattle.pq_values.specs.Limits.{count_for, first_full, limits}
-use Rattle.pq_values.specs.Stated.{Stated, stated}
+use Rattle.pq_values.specs.Limits.{count_for, limits}
+use Rattle.pq_values.specs.Stated.{Stated}
 
 -- the numbers of the network, of the policies and of the queries, those in prerequisites, and port 0 are among these
 pub record AreWithin (T : Topology) (ps : List PolicyTree) (qs : List QueryTree) (ns : Field → List ℕ) : Type 0 where

@@ -9,4 +9,10 @@ mod predicates;
 mod queries;
 
 pub use counts::values_full;
-pub use laws::{no_field_is_full, room_serves_all, stated_values_have_room};
+pub use laws::{
+    no_field_is_full, policies_have_ports, queries_have_ports, room_serves_all,
+    stated_values_have_room,
+};
+
+#[cfg(test)]
+mod tests;

@@ -36,10 +36,7 @@ fn put_policy(policy: &Policy, known: &mut IndexSet<(Field, u64)>) -> Result<(),
 
 /// Adds the numbers of the policies.
 #[cycle(policy)]
-fn put_policies(
-    policies: &[Policy],
-    known: &mut IndexSet<(Field, u64)>,
-) -> Result<(), AllocError>
+fn put_policies(policies: &[Policy], known: &mut IndexSet<(Field, u64)>) -> Result<(), AllocError>
     ensures { OnOk result (known.new.keys ≡ with_policies (policy_trees policies.now) known.old.keys) }
 {
     for policy in policies {

@@ -10,10 +10,7 @@ use std::alloc::AllocError;
 
 /// Adds the numbers of the tests of the predicate.
 #[cycle(pred)]
-pub(crate) fn put_pred(
-    pred: &Pred,
-    known: &mut IndexSet<(Field, u64)>,
-) -> Result<(), AllocError>
+pub(crate) fn put_pred(pred: &Pred, known: &mut IndexSet<(Field, u64)>) -> Result<(), AllocError>
     ensures { OnOk result (known.new.keys ≡ with_pred (pred_tree pred.now) known.old.keys) }
 {
     match pred {

@@ -79,10 +79,7 @@ fn put_query(query: &Query, known: &mut IndexSet<(Field, u64)>) -> Result<(), Al
 
 /// Adds the numbers of the queries.
 #[cycle(query)]
-fn put_queries(
-    operands: &[Query],
-    known: &mut IndexSet<(Field, u64)>,
-) -> Result<(), AllocError>
+fn put_queries(operands: &[Query], known: &mut IndexSet<(Field, u64)>) -> Result<(), AllocError>
     ensures { OnOk result (known.new.keys ≡ with_queries (queries (map query_tree operands.now)) known.old.keys) }
 {
     for query in operands {

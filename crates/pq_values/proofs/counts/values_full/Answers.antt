@@ -1,4 +1,4 @@
-use Rattle.std.proofs.Common.{◌≡◌, List, ap, ◌∙◌}
+use Rattle.std.proofs.Common.{List, ap, ◌∙◌}
 use Rattle.pq_query.specs.Instances.{named_trees}
 use Rattle.pq_values.specs.Known.{known_count}
 use Rattle.pq_values.specs.Limits.{first_above, limits}
