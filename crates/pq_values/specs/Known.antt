@@ -31,7 +31,7 @@ with_each step (x ∷ xs) known = with_each step xs (step x known)
 abbrev pub with_numbers : Field → List ℕ → List Stated → List Stated
 with_numbers f ns known = with_each (λ n. with_one (f, n)) ns known
 
--- with those of predicates
+-- with the number of a test at the top of a predicate
 abbrev pub with_pred_top : PredTop → List Stated → List Stated
 with_pred_top Always known = known
 with_pred_top Never known = known
@@ -42,14 +42,16 @@ with_pred_top Every known = known
 with_pred_top AnyOf known = known
 with_pred_top Negated known = known
 
+-- with those of predicates
 abbrev pub with_preds : Preds → List Stated → List Stated
 with_preds no_preds known = known
 with_preds (add_pred top below rest) known = with_preds rest (with_preds below (with_pred_top top known))
 
+-- with those of one predicate
 abbrev pub with_pred : PredTree → List Stated → List Stated
 with_pred p known = with_preds (preds (p ∷ [])) known
 
--- with those of policies
+-- with the numbers at the top of a policy
 abbrev pub with_policy_top : PolicyTop → List Stated → List Stated
 with_policy_top Pass known = known
 with_policy_top Discard known = known
@@ -61,23 +63,27 @@ with_policy_top (Choose p) known = with_pred p known
 with_policy_top Either known = known
 with_policy_top InTurn known = known
 
+-- with those of policies
 abbrev pub with_policies : Policies → List Stated → List Stated
 with_policies no_policies known = known
 with_policies (add_policy top below rest) known = with_policies rest (with_policies below (with_policy_top top known))
 
+-- with those of one policy
 abbrev pub with_policy : PolicyTree → List Stated → List Stated
 with_policy p known = with_policies (policies (p ∷ [])) known
 
--- with those of queries
+-- with the values of a grouped field, where they are stated
 abbrev pub with_group : Group → List Stated → List Stated
 with_group g known = by g.values where
   by : Option (List ℕ) → List Stated
   by (Some ns) = with_numbers g.field ns known
   by None = known
 
+-- with those of a predicate and of grouped fields
 abbrev pub with_side : PredTree → List Group → List Stated → List Stated
 with_side p gs known = with_each with_group gs (with_pred p known)
 
+-- with the numbers at the top of a query
 abbrev pub with_query_top : QueryTop → List Stated → List Stated
 with_query_top (Enters p gs) known = with_side p gs known
 with_query_top (Leaves p gs) known = with_side p gs known
@@ -89,14 +95,16 @@ with_query_top Both known = known
 with_query_top Other known = known
 with_query_top Repeated known = known
 
+-- with those of queries
 abbrev pub with_queries : Queries → List Stated → List Stated
 with_queries no_queries known = known
 with_queries (add_query top below rest) known = with_queries rest (with_queries below (with_query_top top known))
 
+-- with those of one query
 abbrev pub with_query : QueryTree → List Stated → List Stated
 with_query q known = with_queries (queries (q ∷ [])) known
 
--- with the ports of switches
+-- with the ports of a switch
 abbrev pub with_switch : Switch → List Stated → List Stated
 with_switch s known = with_numbers Port s.ports known
 

@@ -21,8 +21,9 @@ Stated = Field × ℕ
 abbrev pub stated_for : Field → List ℕ → List Stated
 stated_for f ns = map (λ n. (f, n)) ns
 
--- Predicates. An address with a length states no number.
+-- Predicates.
 
+-- the number of a test at the top of a predicate; an address with a length states none
 abbrev pub in_pred_top : PredTop → List Stated
 in_pred_top Always = []
 in_pred_top Never = []
@@ -38,11 +39,13 @@ abbrev pub in_preds : Preds → List Stated
 in_preds no_preds = []
 in_preds (add_pred top below rest) = in_pred_top top ++ (in_preds below ++ in_preds rest)
 
+-- those of one predicate
 abbrev pub in_pred : PredTree → List Stated
 in_pred p = in_preds (preds (p ∷ []))
 
 -- Policies.
 
+-- the numbers at the top of a policy
 abbrev pub in_policy_top : PolicyTop → List Stated
 in_policy_top Pass = []
 in_policy_top Discard = []
@@ -59,6 +62,7 @@ abbrev pub in_policies : Policies → List Stated
 in_policies no_policies = []
 in_policies (add_policy top below rest) = in_policy_top top ++ (in_policies below ++ in_policies rest)
 
+-- those of one policy
 abbrev pub in_policy : PolicyTree → List Stated
 in_policy p = in_policies (policies (p ∷ []))
 
@@ -75,9 +79,11 @@ in_group g = by g.values where
   by (Some ns) = stated_for g.field ns
   by None = []
 
+-- those of several grouped fields
 abbrev pub in_groups : List Group → List Stated
 in_groups gs = flat_map in_group gs
 
+-- the numbers at the top of a query
 abbrev pub in_query_top : QueryTop → List Stated
 in_query_top (Enters p gs) = in_pred p ++ in_groups gs
 in_query_top (Leaves p gs) = in_pred p ++ in_groups gs
@@ -94,6 +100,7 @@ abbrev pub in_queries : Queries → List Stated
 in_queries no_queries = []
 in_queries (add_query top below rest) = in_query_top top ++ (in_queries below ++ in_queries rest)
 
+-- those of one query
 abbrev pub in_query : QueryTree → List Stated
 in_query q = in_queries (queries (q ∷ []))
 
