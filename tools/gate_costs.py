@@ -13,12 +13,21 @@ import time
 TICKS = os.sysconf("SC_CLK_TCK")
 
 
-def check_of(pid):
-    """The crate and the kind of the check that a process does, with its start and its processor seconds; None for others."""
+def is_below(pid, top):
+    """Whether the process was started, by way of others, by the process `top`."""
+    while pid > 1 and pid != top:
+        with open(f"/proc/{pid}/stat") as file:
+            pid = int(file.read().rsplit(")", 1)[1].split()[1])
+    return pid == top
+
+
+def check_of(pid, top):
+    """The crate and the kind of the check that a process of the run does, with its start and its processor seconds; None for
+    others."""
     try:
         with open(f"/proc/{pid}/cmdline", "rb") as file:
             words = file.read().decode(errors="replace").split("\0")
-        if "check" not in words or "--crate-name" not in words:
+        if "--crate-name" not in words or not is_below(int(pid), top):
             return None
         with open(f"/proc/{pid}/stat") as file:
             fields = file.read().rsplit(")", 1)[1].split()
@@ -35,7 +44,7 @@ def costs_of(run):
     most = {}
     while run.poll() is None:
         for pid in filter(str.isdigit, os.listdir("/proc")):
-            found = check_of(pid)
+            found = check_of(pid, run.pid)
             if found:
                 crate, kind, start, seconds = found
                 most[pid, start, crate, kind] = max(seconds, most.get((pid, start, crate, kind), 0))

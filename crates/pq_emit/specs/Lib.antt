@@ -1,0 +1,4 @@
+pub mod Switches
+pub mod Faults
+pub mod Held
+pub mod Network

@@ -1,0 +1,13 @@
+pub mod Arrivals
+pub mod Departed
+pub mod Dropping
+pub mod Fronts
+pub mod Joins
+pub mod Leavings
+pub mod Linking
+pub mod Mapping
+pub mod PortTrees
+pub mod Puts
+pub mod Rooms
+pub mod Sights
+pub mod Tagged

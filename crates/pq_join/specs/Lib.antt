@@ -1,0 +1,12 @@
+pub mod Fronts
+pub mod Maps
+pub mod Ports
+pub mod Sight
+pub mod Overwriting
+pub mod Exact
+pub mod Departing
+pub mod Drops
+pub mod Tags
+pub mod Arriving
+pub mod Leaving
+pub mod Switch

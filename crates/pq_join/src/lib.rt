@@ -1,0 +1,16 @@
+//! The decision diagrams of a switch's two tables: what is made of arrivals, and which copies leave.
+#![tactic(auto)]
+
+mod arriving;
+mod choices;
+mod departure;
+mod departures;
+mod leaving;
+mod maps;
+mod overwriting;
+mod ports;
+mod sight;
+mod tags;
+mod trees;
+
+pub use trees::switch_trees;

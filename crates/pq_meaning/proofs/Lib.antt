@@ -1,0 +1,12 @@
+mod Departing
+mod Ignoring
+mod Implemented
+mod InstancesAscend
+mod Meant
+mod PartsHalves
+mod Presence
+mod OneTagging
+mod OneInstall
+mod Existing
+mod ClassTags
+mod Examples

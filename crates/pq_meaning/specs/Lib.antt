@@ -1,0 +1,6 @@
+pub mod Meaning
+pub mod Parts
+pub mod Compiled
+pub mod Laws
+pub mod Tags
+pub mod Examples

@@ -1,0 +1,17 @@
+mod MasksLemmas
+mod FreshLemmas
+mod NeedsLemmas
+mod PathsLemmas
+mod FoundLemmas
+mod FirstLemmas
+mod GatherLemmas
+mod CountsLemmas
+mod GroupingLemmas
+mod RenewingLemmas
+mod OnceLemmas
+mod ReadLemmas
+mod GroupsLemmas
+mod SwitchLemmas
+mod BytesLemmas
+mod ActionLemmas
+mod LawfulLemmas
