@@ -1,9 +1,10 @@
 -- What the program says of an outcome.
 use Rattle.std.specs.Prelude.{ℕ, List, [], ◌++◌, codes, decimal}
+use Rattle.pq_fields.specs.Names.{field_name}
 use Rattle.pq_topo.specs.declared.fault.NameKind.{NameKind}
 use Rattle.pq_topo.specs.declared.fault.NameKind.TheVariants.{Many, Doubled, BadValue, UnknownSwitch, UnknownPort, UnknownField, NotWritable, NotListed, UnknownPart, UnknownQuery}
 use Rattle.pq_command.specs.declared.outcome.Outcome.{Outcome}
-use Rattle.pq_command.specs.declared.outcome.Outcome.TheVariants.{Done, Words, ReadFault, TooLong, Lex, Syntax, Name, NotYet, Damaged, ScheduleFull, WriteFault, Memory}
+use Rattle.pq_command.specs.declared.outcome.Outcome.TheVariants.{Done, Words, ReadFault, TooLong, Lex, Syntax, Name, ValuesFull, InstancesFull, TagWidth, TableFull, GroupFull, Damaged, ScheduleFull, WriteFault, Memory}
 
 -- the status of each outcome
 abbrev pub code_of : Outcome → ℕ
@@ -14,7 +15,11 @@ code_of TooLong = 1
 code_of (Lex at) = 1
 code_of (Syntax at) = 1
 code_of (Name at kind) = 1
-code_of NotYet = 1
+code_of (ValuesFull field count) = 3
+code_of (InstancesFull count) = 3
+code_of (TagWidth classes) = 3
+code_of (TableFull switch table entries) = 3
+code_of (GroupFull switch copies) = 3
 code_of (Damaged at) = 1
 code_of ScheduleFull = 3
 code_of WriteFault = 5
@@ -42,7 +47,11 @@ line_of TooLong = codes "too long"
 line_of (Lex at) = codes "lex " ++ decimal at
 line_of (Syntax at) = codes "syntax " ++ decimal at
 line_of (Name at kind) = codes "name " ++ decimal at ++ codes " " ++ kind_word kind
-line_of NotYet = codes "not yet"
+line_of (ValuesFull field count) = codes "values full " ++ field_name field ++ codes " " ++ decimal count
+line_of (InstancesFull count) = codes "instances full " ++ decimal count
+line_of (TagWidth classes) = codes "tag width " ++ decimal classes
+line_of (TableFull switch table entries) = codes "table full " ++ decimal switch ++ codes " " ++ decimal table ++ codes " " ++ decimal entries
+line_of (GroupFull switch copies) = codes "group full " ++ decimal switch ++ codes " " ++ decimal copies
 line_of (Damaged at) = codes "damaged " ++ decimal at
 line_of ScheduleFull = codes "schedule full"
 line_of WriteFault = codes "write fault"

@@ -1,5 +1,5 @@
 //! Commands that read to the end of input, and then write.
-ghost use Rattle.std.specs.Prelude.{◌≡◌, ◌^◌, ◌<◌, IfErr, IfOk};
+ghost use Rattle.std.specs.Prelude.{◌≡◌, ◌^◌, ◌<◌, ◌≤◌, IfErr, IfOk, length};
 ghost use Rattle.pq_command.specs.Answers.{HasReadFaults, HasWriteFaults, IsAnswer, IsOfText, OnRefusal, streams};
 ghost use Rattle.pq_command.specs.Tasks.{task_of};
 
@@ -31,6 +31,7 @@ fn limit_of(command: Command) -> usize
 
 /// What the command writes of a text, or why it writes nothing.
 fn output_of(alloc: Global, command: Command, text: &[u8]) -> Result<Vec<u8>, Outcome>
+    requires { length text.now ≤ (task_of command).limit }
     ensures ok { IfOk result (λ written. (task_of command).Writes text.now written.items) }
     ensures err { IfErr result (λ outcome. (task_of command).Refuses outcome text.now) }
     ensures of_text { IfErr result IsOfText }

@@ -20,6 +20,8 @@ mod inspect_tests;
 #[cfg(test)]
 mod replay_tests;
 #[cfg(test)]
+mod row_tests;
+#[cfg(test)]
 mod tests;
 #[cfg(test)]
 mod two_table_tests;

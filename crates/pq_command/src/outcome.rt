@@ -1,9 +1,12 @@
 ghost use Rattle.std.specs.Prelude.{◌≡◌, IfOk};
 ghost use Rattle.std.specs.String.{string_bytes};
+ghost use Rattle.pq_fields.specs.Names.{field_name};
 ghost use Rattle.pq_command.specs.Outcomes.{code_of, kind_word, line_of};
 
+use pq_fields::Field;
 use pq_topo::NameKind;
 use std::alloc::{AllocError, Global};
+use std::fmt::Write;
 
 /// How a command ended.
 #[derive(Clone, Copy, Debug, PartialEq, Eq)]
@@ -17,17 +20,49 @@ pub enum Outcome {
     /// The document has more than 524,288 bytes, or the input of another command more than 268,435,456.
     TooLong,
     /// What begins at this byte of a document is no token.
-    Lex { at: usize },
+    Lex {
+        at: usize,
+    },
     /// The tokens of a document are no sentence: the first one with which no prefix of a sentence ends begins at this
     /// byte, or the document ends here and all of them are a prefix of a sentence. Or a line of a schedule is no event;
     /// its first byte is at this place of the input.
-    Syntax { at: usize },
+    Syntax {
+        at: usize,
+    },
     /// The first faulty token of a document begins at this byte, and this is the first naming rule that it breaks.
-    Name { at: usize, kind: NameKind },
-    /// The document is not of the one form that is compiled today.
-    NotYet,
+    Name {
+        at: usize,
+        kind: NameKind,
+    },
+    /// The first field, in field order, of which a document states more numbers than its limit, and how many it states.
+    ValuesFull {
+        field: Field,
+        count: u64,
+    },
+    /// The queries of a document have this many instances, more than 1,024; 4,294,967,295 stands for all greater numbers.
+    InstancesFull {
+        count: u32,
+    },
+    /// The queries of a document tell this many classes of words apart, more than 4,094.
+    TagWidth {
+        classes: u64,
+    },
+    /// The first table, by switch and then by table, with more entries than the switch's limit, and how many it has;
+    /// 18,446,744,073,709,551,615 stands for all greater numbers.
+    TableFull {
+        switch: u64,
+        table: u8,
+        entries: u64,
+    },
+    /// The first entry with more than 256 copies has this many; no table has too many entries.
+    GroupFull {
+        switch: u64,
+        copies: u64,
+    },
     /// The input begins with no install; the first unit that is missing, cut or unlawful begins at this place.
-    Damaged { at: usize },
+    Damaged {
+        at: usize,
+    },
     /// The schedule has more than 100,000 events.
     ScheduleFull,
     /// A write failed.
@@ -64,6 +99,60 @@ fn name_line(alloc: Global, at: usize, kind: NameKind) -> Result<String, AllocEr
     Ok(line)
 }
 
+/// What the program calls a field.
+fn field_word(field: Field) -> &'static str
+    ensures { result.now ≡ field_name field }
+{
+    match field {
+        Field::Switch => "switch",
+        Field::Port => "port",
+        Field::EthType => "eth_type",
+        Field::IpProto => "ip_proto",
+        Field::EthSrc => "eth_src",
+        Field::EthDst => "eth_dst",
+        Field::Ipv4Src => "ipv4_src",
+        Field::Ipv4Dst => "ipv4_dst",
+        Field::TcpSrc => "tcp_src",
+        Field::TcpDst => "tcp_dst",
+        Field::UdpSrc => "udp_src",
+        Field::UdpDst => "udp_dst",
+        Field::Ipv6Src => "ipv6_src",
+        Field::Ipv6Dst => "ipv6_dst",
+    }
+}
+
+/// What the program says of a field with too many stated values.
+fn values_line(alloc: Global, field: Field, count: u64) -> Result<String, AllocError>
+    ensures { IfOk result (λ line. string_bytes line ≡ line_of (Outcome.ValuesFull field count)) }
+{
+    let mut line = String::from_str(alloc, "values full ")?;
+    line.push_str(field_word(field))?;
+    write!(line, " {count}")?;
+    Ok(line)
+}
+
+/// What the program says of a table with too many entries.
+fn table_line(alloc: Global, switch: u64, table: u8, entries: u64) -> Result<String, AllocError>
+    ensures { IfOk result (λ line. string_bytes line ≡ line_of (Outcome.TableFull switch table entries)) }
+{
+    let mut line = format!(in alloc; "table full {switch}")?;
+    line.push_str(" ")?;
+    write!(line, "{table}")?;
+    line.push_str(" ")?;
+    write!(line, "{entries}")?;
+    Ok(line)
+}
+
+/// What the program says of an entry with too many copies.
+fn group_line(alloc: Global, switch: u64, copies: u64) -> Result<String, AllocError>
+    ensures { IfOk result (λ line. string_bytes line ≡ line_of (Outcome.GroupFull switch copies)) }
+{
+    let mut line = format!(in alloc; "group full {switch}")?;
+    line.push_str(" ")?;
+    write!(line, "{copies}")?;
+    Ok(line)
+}
+
 impl Outcome {
     /// The status that the program ends with.
     pub fn code(&self) -> u8
@@ -71,10 +160,12 @@ impl Outcome {
     {
         match self {
             Outcome::Done => 0,
-            Outcome::TooLong | Outcome::NotYet | Outcome::Damaged { .. } => 1,
+            Outcome::TooLong | Outcome::Damaged { .. } => 1,
             Outcome::Lex { .. } | Outcome::Syntax { .. } | Outcome::Name { .. } => 1,
             Outcome::Words => 2,
-            Outcome::ScheduleFull => 3,
+            Outcome::ValuesFull { .. } | Outcome::InstancesFull { .. } => 3,
+            Outcome::TagWidth { .. } | Outcome::TableFull { .. } => 3,
+            Outcome::GroupFull { .. } | Outcome::ScheduleFull => 3,
             Outcome::ReadFault => 4,
             Outcome::WriteFault => 5,
             Outcome::Memory => 6,
@@ -93,7 +184,15 @@ impl Outcome {
             Outcome::Lex { at } => format!(in alloc; "lex {at}"),
             Outcome::Syntax { at } => format!(in alloc; "syntax {at}"),
             Outcome::Name { at, kind } => name_line(alloc, *at, *kind),
-            Outcome::NotYet => String::from_str(alloc, "not yet"),
+            Outcome::ValuesFull { field, count } => values_line(alloc, *field, *count),
+            Outcome::InstancesFull { count } => format!(in alloc; "instances full {count}"),
+            Outcome::TagWidth { classes } => format!(in alloc; "tag width {classes}"),
+            Outcome::TableFull {
+                switch,
+                table,
+                entries,
+            } => table_line(alloc, *switch, *table, *entries),
+            Outcome::GroupFull { switch, copies } => group_line(alloc, *switch, *copies),
             Outcome::Damaged { at } => format!(in alloc; "damaged {at}"),
             Outcome::ScheduleFull => String::from_str(alloc, "schedule full"),
             Outcome::WriteFault => String::from_str(alloc, "write fault"),

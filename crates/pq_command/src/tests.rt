@@ -1,4 +1,6 @@
+use crate::two_table_tests::TWO_TABLES;
 use crate::*;
+use pq_fields::Field;
 use pq_io::{MemorySink, MemorySource};
 use pq_topo::NameKind;
 use std::alloc::{AllocError, Global};
@@ -7,7 +9,7 @@ use std::test::Fail;
 
 const TWO_PORTS: &str = "switch s1 = 1 ports 1, 2; part one = filter(port=1) >> fwd(2);";
 
-// The install of these two ports, written out by hand from the standard.
+// An install of these two ports with the older magic and one table, written out by hand from the standard.
 pub(crate) const TWO_PORTS_INSTALL: &str = "\
     5051493100010000000000000001000200000001000000020000000000000000\
     0007040e00380000000100000000000000000000000000000000ff0300000000\
@@ -63,7 +65,7 @@ fn an_install_is_written_byte_for_byte(rt: HostRuntime) -> Result<(), Fail> {
     let mut source = source(alloc, TWO_PORTS.as_bytes(), &[])?;
     let mut sink = sink(alloc, &[], 0)?;
     assert_eq!(rt; run(alloc, &words, &mut source, &mut sink), Outcome::Done);
-    assert_eq!(rt; hexadecimal(alloc, sink.put())?.as_str(), TWO_PORTS_INSTALL);
+    assert_eq!(rt; hexadecimal(alloc, sink.put())?.as_str(), TWO_TABLES);
     Ok(())
 }
 
@@ -80,8 +82,8 @@ fn each_text_has_its_outcome(rt: HostRuntime) -> Result<(), Fail> {
             "switch s = 1 ports 1; part p = filter(port=7) >> fwd(8);",
             Outcome::Done,
         ),
-        ("", Outcome::NotYet),
-        ("switch s = 1 ports 1;", Outcome::NotYet),
+        ("", Outcome::Done),
+        ("switch s = 1 ports 1;", Outcome::Done),
         (
             "switch port = 1 ports 1; part p = filter(port=1) >> fwd(1);",
             Outcome::Done,
@@ -132,7 +134,7 @@ fn each_text_has_its_outcome(rt: HostRuntime) -> Result<(), Fail> {
             Outcome::Lex { at: 11 },
         ),
         ("\u{0}", Outcome::Lex { at: 0 }),
-        ("# a comment without an end \u{ff}", Outcome::NotYet),
+        ("# a comment without an end \u{ff}", Outcome::Done),
         ("part a = filter(port=1) > fwd(2);", Outcome::Lex { at: 24 }),
         ("part a = fwd(1)", Outcome::Syntax { at: 15 }),
         (
@@ -144,11 +146,11 @@ fn each_text_has_its_outcome(rt: HostRuntime) -> Result<(), Fail> {
         ),
         (
             "query q = in_atom(true) ^ ~end_atom(false)*;",
-            Outcome::NotYet,
+            Outcome::Done,
         ),
         (
             "switch s1 = 1 ports 1, 2; part a = mod(eth_dst=02:00:00:00:00:0a) >> fwd(2) + fwd(2);",
-            Outcome::NotYet,
+            Outcome::Done,
         ),
         (
             "switch s1 = 1 ports 1; query q = in_group(true, [port of (1, 1)]);",
@@ -169,7 +171,7 @@ fn a_document_has_524288_bytes_at_the_most(rt: HostRuntime) -> Result<(), Fail> 
     let alloc = rt.alloc();
     let spaces = vec![in alloc; b' '; 524_289]?;
     assert_eq!(rt; outcome_of(alloc, &spaces)?, Outcome::TooLong);
-    assert_eq!(rt; outcome_of(alloc, &spaces[1..])?, Outcome::NotYet);
+    assert_eq!(rt; outcome_of(alloc, &spaces[1..])?, Outcome::Done);
     Ok(())
 }
 
@@ -212,7 +214,7 @@ fn failing_calls_have_their_outcomes(rt: HostRuntime) -> Result<(), Fail> {
     );
     assert_eq!(rt;
         hexadecimal(alloc, sink.put())?.as_str(),
-        "50514931000100000000"
+        "50514932000100000000"
     );
     Ok(())
 }
@@ -251,7 +253,37 @@ fn each_outcome_has_its_status_and_its_line(rt: HostRuntime) -> Result<(), Fail>
             1,
             "name 7 unknown_switch",
         ),
-        (Outcome::NotYet, 1, "not yet"),
+        (
+            Outcome::ValuesFull {
+                field: Field::IpProto,
+                count: 121,
+            },
+            3,
+            "values full ip_proto 121",
+        ),
+        (
+            Outcome::InstancesFull { count: 1089 },
+            3,
+            "instances full 1089",
+        ),
+        (Outcome::TagWidth { classes: 4095 }, 3, "tag width 4095"),
+        (
+            Outcome::TableFull {
+                switch: 1,
+                table: 0,
+                entries: 3,
+            },
+            3,
+            "table full 1 0 3",
+        ),
+        (
+            Outcome::GroupFull {
+                switch: 1,
+                copies: 257,
+            },
+            3,
+            "group full 1 257",
+        ),
         (Outcome::Damaged { at: 122 }, 1, "damaged 122"),
         (Outcome::ScheduleFull, 3, "schedule full"),
         (Outcome::WriteFault, 5, "write fault"),

@@ -6,7 +6,7 @@ use std::test::Fail;
 
 // One switch with the ports 1 and 2. Table 0 tags what enters; table 1 sends what entered at port 1 out at port 2,
 // without the tag, and drops the rest.
-const TWO_TABLES: &str =
+pub(crate) const TWO_TABLES: &str =
     "5051493200010000000000000001000200000001000000020000000000000000000a040e0038000000010000\
     0000000000000000000000000000ff03000000000000ffffffffffffffffffffffff00000000000100040000\
     0000040f00100000000200020000fffffffc04140008000000030414000800000004040e0070000000050000\

@@ -1,16 +1,15 @@
 -- A query has fewer atoms than its text has bytes.
-use Rattle.std.specs.Prelude.{◌≡◌, ℕ, ◌+◌, ◌-◌, ◌<◌, ◌≤◌, Bool, true, false, not, if◌then◌else◌, ◌==◌, List, [], ◌∷◌, ◌++◌, length, take, drop, map, All, Some, Ok}
+use Rattle.std.specs.Prelude.{◌≡◌, ℕ, ◌+◌, ◌<◌, ◌≤◌, Bool, true, false, if◌then◌else◌, List, [], ◌∷◌, ◌++◌, length, map, All, Ok}
 use Rattle.std.specs.List.{AllByRecursion}
-use Rattle.std.proofs.Common.{suc, zero, arith, refl, sym, ap, subst, ◌∙◌, length-append, length-drop}
+use Rattle.std.proofs.Common.{suc, arith, refl, sym, ap, subst, ◌∙◌}
 use Rattle.std.proofs.lemmas.List.{length-map}
 use Rattle.std.proofs.lemmas.List.Elements.{All-from_recursion}
 use Rattle.pq_term.specs.declared.token.Token.{Token}
 use Rattle.pq_term.proofs.Few.{few_tokens}
-use Rattle.pq_grammar.specs.declared.class.Class.{Class}
 use Rattle.pq_grammar.specs.declared.class.Class.TheVariants.{InAtom, OutAtom, InOutAtom, EndAtom, InGroup, OutGroup, InOutGroup, Caret, Bar, Ampersand, Tilde, Star, QueryWord}
 use Rattle.pq_grammar.specs.declared.sort.Sort.{Sort}
 use Rattle.pq_grammar.specs.Tables.{is_class}
-use Rattle.pq_tree.specs.Reading.{IsForestOf, lexemes}
+use Rattle.pq_tree.specs.Reading.{IsForestOf}
 use Rattle.pq_tree.specs.Texts.{class_in_text}
 use Rattle.pq_tree.specs.Trees.{Forest, nothing, grown, Tree}
 use Rattle.pq_tree.proofs.Sizes.{forest_size, nodes, tokens_in}

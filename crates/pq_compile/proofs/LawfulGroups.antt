@@ -1,5 +1,5 @@
 -- Groups that are read are lawful.
-use Rattle.std.specs.Prelude.{◌≡◌, ℕ, ◌+◌, ◌^◌, ◌<◌, ◌≤◌, Bool, true, false, not, ◌&&◌, ◌||◌, List, [], ◌∷◌, ◌++◌, length, map, ◌==◌, nat_eq, Ok}
+use Rattle.std.specs.Prelude.{◌≡◌, ℕ, ◌+◌, ◌≤◌, Bool, true, false, not, ◌&&◌, ◌||◌, List, [], ◌∷◌, ◌++◌, length, map, ◌==◌, nat_eq, Ok}
 use Rattle.std.specs.List.{AllByRecursion, IsDistinct, list_any}
 use Rattle.std.specs.Cmp.{IsEquivalence, nat_eq_equiv}
 use Rattle.std.proofs.Common.{arith, refl, ap, sym, subst, ◌∙◌, length-append}
@@ -10,7 +10,7 @@ use Rattle.pq_term.specs.declared.token.Token.{Token}
 use Rattle.pq_tree.specs.Trees.{Forest, nothing, grown}
 use Rattle.pq_tree.specs.Texts.{text_in}
 use Rattle.pq_fields.specs.declared.field.Field.{Field}
-use Rattle.pq_fields.specs.Packet.{width_of, is_wide, rank}
+use Rattle.pq_fields.specs.Packet.{is_wide, rank}
 use Rattle.pq_model.specs.Topology.{Topology}
 use Rattle.pq_topo.specs.declared.fault.NameKind.TheVariants.{Doubled, NotListed}
 use Rattle.pq_topo.specs.Naming.{unless, named}

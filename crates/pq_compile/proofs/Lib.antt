@@ -7,3 +7,7 @@ mod LawfulPreds
 mod LawfulQueries
 pub mod OneDocument
 pub mod Statements
+pub mod Values
+pub mod Labelled
+pub mod Joined
+pub mod Installed

@@ -1,3 +1,5 @@
 pub mod Documents
 pub mod Lawful
 pub mod Names
+pub mod Prepared
+pub mod Compiled

@@ -1,17 +1,20 @@
 //! Documents: what a whole text describes.
 #![tactic(auto)]
 
+mod compiling;
 mod document;
 mod fault;
 mod lawful;
 mod laws;
 mod names;
 mod parts;
+mod preparing;
 mod queries;
 mod reading;
 #[cfg(test)]
 mod tests;
 
+pub use compiling::{CompileFault, compile, compile_classes};
 pub use document::Document;
 pub use fault::DocumentFault;
 pub use lawful::{
@@ -20,4 +23,5 @@ pub use lawful::{
     queries_that_are_read_have_few_atoms,
 };
 pub use laws::has_one_document;
+pub use preparing::{PrepareFault, Prepared, prepare};
 pub use reading::read_document;

@@ -30,6 +30,7 @@ one_filled items ts k t vs pushed v within at push one all =
     (zip_push IsFilledBy (take k ts) (map items vs) t (items v) all one))
 
 -- the same of the lawful ones
-pub one_lawful : {V : Type 0} (P : List Message → Type 0) (items : V → List Message) (vs pushed : List V) (v : V) → pushed ≡ vs ++ v ∷ [] → P (items v) → All P (map items vs) → All P (map items pushed)
+pub one_lawful : {V : Type 0} (P : List Message → Type 0) (items : V → List Message) (vs pushed : List V) (v : V) → pushed ≡ vs ++ v ∷ [] → P (items v) → All P (map items vs)
+    → All P (map items pushed)
 one_lawful P items vs pushed v push one all =
     subst (All P) (sym (ap (map items) push ∙ map-append items vs (v ∷ []))) (All-append P (map items vs) (items v ∷ []) all (All-cons P (items v) [] one (All-nil P)))

@@ -4,3 +4,6 @@ pub mod MetFaults
 pub mod Filled
 pub mod Reported
 pub mod Concluded
+pub mod SoundAtIds
+pub mod SoundLayouts
+pub mod PortsAtIds

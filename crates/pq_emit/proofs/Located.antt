@@ -1,5 +1,5 @@
 -- The trees at ids of stores are the trees of switches.
-use Rattle.std.proofs.Common.{◌≡◌, ◌<◌, ◌+◌, ℕ, List, [], ◌∷◌, ◌++◌, map, take, length, get_or, sym, ap, subst, ◌∙◌}
+use Rattle.std.proofs.Common.{◌≡◌, ◌<◌, ◌+◌, ℕ, List, [], ◌∷◌, ◌++◌, map, take, length, get_or, sym, ap, subst, ◌∙◌, zero, suc, arith, slice_get, Some, refl}
 use Rattle.std.specs.Prelude.{Option}
 use Rattle.std.specs.List.{AllZip}
 use Rattle.std.proofs.lemmas.List.{take_more}
@@ -13,10 +13,17 @@ use Rattle.pq_model.specs.Topology.{Switch, Topology}
 use Rattle.pq_rewrite.specs.declared.outgoing.Outgoing.{Outgoing}
 use Rattle.pq_rewrite.specs.declared.trees.Arrive.{Arrive}
 use Rattle.pq_rewrite.specs.declared.trees.SwitchTrees.{SwitchTrees}
+use Rattle.pq_rules.specs.Tables.{arriving_trees, leaving_trees}
 use Rattle.pq_rules.specs.Found.{trees_with, with_word}
 use Rattle.pq_store.specs.Store.{HasAt, Keeps}
 use Rattle.pq_store.specs.Tree.{Tree}
 use Rattle.pq_emit.specs.Switches.{AreAllTrees, AreSwitchesAt, IsSwitchAt, trees_of}
+
+-- there is one at each place of a list
+pub here_at : {X : Type 0} (xs : List X) (k : ℕ) → k < length xs → (x : X) × (slice_get xs k ≡ Some x)
+here_at [] k below = absurd (omega (arith, below))
+here_at (x ∷ xs) zero below = (x, refl)
+here_at (x ∷ xs) (suc k) below = here_at xs k (omega (arith, below))
 
 -- at ids of trees of functions stand these trees
 located : {A L : Type 0} (word : A → ℕ) (F : A → Numbers → L) (ts : List (Tree L)) (ks : List A) (ids : List (A × ℕ))
@@ -32,23 +39,26 @@ located {A} {L} word F ts (k ∷ ks) (p ∷ ids) all =
     ((ap word all.0.0, one.2), located word F ts ks ids all.1) in
     subst (λ o. AllZip (λ k p. (p.0 ≡ word k) × IsTreeOf (F k) p.1) (k ∷ ks) (with_word {L = L} (word p.0) o ++ rest)) (sym one.1) both
 
-one_located : (T : Topology) (g : Tagging) (writes : Departures) (firsts : List (Tree (Option Arrive))) (seconds : List (Tree (List Outgoing))) (ss : List Switch) (ts : List SwitchTrees)
+-- the trees at the ids of a switch are its trees
+pub switch_located : (T : Topology) (g : Tagging) (writes : Departures) (firsts : List (Tree (Option Arrive))) (seconds : List (Tree (List Outgoing))) (s : Switch) (t : SwitchTrees)
+    → IsSwitchAt T g writes firsts seconds s t → AreTrees T g writes s.datapath (arriving_trees firsts t.arriving.items) (leaving_trees seconds t.leaving.items)
+switch_located T g writes firsts seconds s t at = record {
+  arriving = located key_word (λ k z. arrival T g k (at_switch s.datapath z)) firsts (keys_of g) t.arriving.items at.0;
+  leaving = located tag_word (λ k z. leaving T g writes k (at_switch s.datapath z)) seconds (odd_tags g) t.leaving.items at.1;
+}
+
+each_located : (T : Topology) (g : Tagging) (writes : Departures) (firsts : List (Tree (Option Arrive))) (seconds : List (Tree (List Outgoing))) (ss : List Switch) (ts : List SwitchTrees)
     → AllZip (IsSwitchAt T g writes firsts seconds) ss ts → AllZip (λ s t. AreTrees T g writes s.datapath t.first t.second) ss (trees_of firsts seconds ts)
-one_located T g writes firsts seconds [] [] all = tt
-one_located T g writes firsts seconds [] (t ∷ ts) all = absurd all
-one_located T g writes firsts seconds (s ∷ ss) [] all = absurd all
-one_located T g writes firsts seconds (s ∷ ss) (t ∷ ts) all = (
-  record {
-    arriving = located key_word (λ k z. arrival T g k (at_switch s.datapath z)) firsts (keys_of g) t.arriving.items all.0.0;
-    leaving = located tag_word (λ k z. leaving T g writes k (at_switch s.datapath z)) seconds (odd_tags g) t.leaving.items all.0.1;
-  },
-  one_located T g writes firsts seconds ss ts all.1,
-)
+each_located T g writes firsts seconds [] [] all = tt
+each_located T g writes firsts seconds [] (t ∷ ts) all = absurd all
+each_located T g writes firsts seconds (s ∷ ss) [] all = absurd all
+each_located T g writes firsts seconds (s ∷ ss) (t ∷ ts) all =
+    (switch_located T g writes firsts seconds s t all.0, each_located T g writes firsts seconds ss ts all.1)
 
 -- the trees at the ids of all switches are the trees of the network
 pub all_located : (T : Topology) (g : Tagging) (writes : Departures) (firsts : List (Tree (Option Arrive))) (seconds : List (Tree (List Outgoing))) (trees : List SwitchTrees)
     → AreSwitchesAt T g writes firsts seconds trees → AreAllTrees T g writes (trees_of firsts seconds trees)
-all_located T g writes firsts seconds trees all = one_located T g writes firsts seconds T.switches trees all
+all_located T g writes firsts seconds trees all = each_located T g writes firsts seconds T.switches trees all
 
 -- lists that grow at their ends
 pub zip_push : {A B : Type 0} (R : A → B → Type 0) (xs : List A) (ys : List B) (x : A) (y : B) → AllZip R xs ys → R x y → AllZip R (xs ++ x ∷ []) (ys ++ y ∷ [])

@@ -5,13 +5,12 @@ use Rattle.pq_fields.specs.Packet.{Numbers}
 use Rattle.pq_layout.specs.Actions.{key_word, tag_word}
 use Rattle.pq_layout.specs.Emission.{AreTrees}
 use Rattle.pq_layout.specs.Leaves.{Departures, arrival, at_switch, leaving}
-use Rattle.pq_layout.specs.Messages.{ArrivingTrees, LeavingTrees}
 use Rattle.pq_layout.specs.Tagging.{Tagging, odd_tags}
 use Rattle.pq_layout.specs.Trees.{IsTreeOf, keys_of}
 use Rattle.pq_model.specs.Topology.{Switch, Topology}
 use Rattle.pq_store.specs.Tree.{Tree}
 use Rattle.pq_store.proofs.Canonical.{one_diagram}
-use Rattle.pq_emit.specs.Switches.{AreAllTrees, TablesTrees}
+use Rattle.pq_emit.specs.Switches.{AreAllTrees, HaveOneTree, TablesTrees}
 
 -- a function from packets has one tree
 one_tree : {L : Type 0} (F : Numbers → L) (t u : Tree L) → IsTreeOf F t → IsTreeOf F u → t ≡ u
@@ -31,8 +30,7 @@ one_list word F (k ∷ ks) (p ∷ ps) (q ∷ qs) left right =
     ap₂ (λ r rs. r ∷ rs) (λ i. (words i, trees i)) (one_list word F ks ps qs left.1 right.1)
 
 -- the trees of a switch are the only ones
-pub one_trees : (T : Topology) (g : Tagging) (writes : Departures) (d : ℕ) (a x : ArrivingTrees) (b y : LeavingTrees)
-    → AreTrees T g writes d a b → AreTrees T g writes d x y → (a ≡ x) × (b ≡ y)
+pub one_trees : HaveOneTree
 one_trees T g writes d a x b y left right = (
   one_list key_word (λ k z. arrival T g k (at_switch d z)) (keys_of g) a x left.arriving right.arriving,
   one_list tag_word (λ t z. leaving T g writes t (at_switch d z)) (odd_tags g) b y left.leaving right.leaving,

@@ -1,5 +1,6 @@
 -- The rows of a report.
-use Rattle.std.proofs.Common.{◌≡◌, ◌≢◌, ◌<◌, ◌≤◌, ◌+◌, ◌-◌, ◌∙◌, ℕ, zero, suc, Bool, true, false, cond, not, if◌then◌else◌, List, [], ◌∷◌, ◌++◌, length, map, filter, take, get_or, refl, sym, ap, ap₂, subst, arith, true≢false}
+use Rattle.std.proofs.Common.{◌≡◌, ◌≢◌, ◌<◌, ◌≤◌, ◌+◌, ◌-◌, ◌∙◌, ℕ, zero, suc, Bool, true, false, cond, not, if◌then◌else◌}
+use Rattle.std.proofs.Common.{List, [], ◌∷◌, ◌++◌, length, map, filter, take, get_or, refl, sym, ap, ap₂, subst, arith, true≢false}
 use Rattle.std.specs.Prelude.{All, Some, slice_get}
 use Rattle.std.specs.List.{cons_option, filter_map}
 use Rattle.std.proofs.lemmas.List.{append-nil, map-append, take_more}
@@ -19,6 +20,7 @@ use Rattle.pq_model.specs.Install.{AscendsBy, IsLawfulPair, IsLawfulRow}
 use Rattle.pq_model.specs.Lawful.{Ascends}
 use Rattle.pq_model.specs.TablesMachine.{Row}
 use Rattle.pq_model.proofs.Sorted.{before-cmp}
+use Rattle.pq_emit.proofs.Located.{here_at}
 use Rattle.pq_emit.specs.Held.{AreHeldBelow, AreInstances, report_to, row_at}
 
 -- The report.
@@ -90,12 +92,6 @@ module _ {A : Type 0} (key : A → List ℕ) where
       subst (λ w. is_before (key w) (key y) ≡ true) (same_Some z x at_x) (first_before z zs j y ascend at_y)
   before_at (z ∷ zs) (suc i) zero x y ascend below at_x at_y = absurd (omega (arith, below))
   before_at (z ∷ zs) (suc i) (suc j) x y ascend below at_x at_y = before_at zs i j x y (rest_ascends z zs ascend) (omega (arith, below)) at_x at_y
-
-  -- there is one at each place
-  here_at : (xs : List A) (i : ℕ) → i < length xs → (x : A) × (slice_get xs i ≡ Some x)
-  here_at [] i below = absurd (omega (arith, below))
-  here_at (x ∷ xs) zero below = (x, refl)
-  here_at (x ∷ xs) (suc i) below = here_at xs i (omega (arith, below))
 
   -- those at ascending places ascend
   ascend_at : (xs : List A) → AscendsBy key xs → (is : List ℕ) → Ascends is → All (λ i. i < length xs) is → AscendsBy key (filter_map (slice_get xs) is)
@@ -188,8 +184,11 @@ module _ (m : Machine) (xs : List Instance) where
   more_tags c true pairs rows tags =
       let tags_of : List Row → List ℕ = map (λ row. row.tag) in
       let wider = All-weaker (λ s. s < suc c) (λ s. s < suc (suc c)) (λ s h. omega (arith, h)) (tags_of rows) tags.1 in
-      subst (TagsTo (suc c)) (sym (map-append (λ row. row.tag) rows (record { tag = suc c; pairs = pairs } ∷ [])))
-      (ascend_push (tags_of rows) (suc c) tags.0 tags.1, All-append (λ s. s < suc (suc c)) (tags_of rows) (suc c ∷ []) wider (All-cons (λ s. s < suc (suc c)) (suc c) [] (omega arith) (All-nil (λ s. s < suc (suc c)))))
+      subst (TagsTo (suc c)) (sym (map-append (λ row. row.tag) rows (record { tag = suc c; pairs = pairs } ∷ []))) (
+        ascend_push (tags_of rows) (suc c) tags.0 tags.1,
+        All-append (λ s. s < suc (suc c)) (tags_of rows) (suc c ∷ []) wider
+            (All-cons (λ s. s < suc (suc c)) (suc c) [] (omega arith) (All-nil (λ s. s < suc (suc c)))),
+      )
   more_tags c false pairs rows tags =
       let wider = All-weaker (λ s. s < suc c) (λ s. s < suc (suc c)) (λ s h. omega (arith, h)) (map (λ row. row.tag) rows) tags.1 in
       subst (λ rs. TagsTo (suc c) (map (λ row. row.tag) rs)) (sym (append-nil rows)) (tags.0, wider)

@@ -1,5 +1,5 @@
 -- The trees of a network's switches, and the messages made of them.
-use Rattle.std.specs.Prelude.{◌≡◌, List, map}
+use Rattle.std.specs.Prelude.{◌≡◌, ℕ, List, map}
 use Rattle.std.specs.declared.option.Option.{Option}
 use Rattle.std.specs.List.{AllZip}
 use Rattle.pq_layout.specs.Emission.{AreMessages, AreTrees}
@@ -59,3 +59,8 @@ pub record IsFilledBy (t : TablesTrees) (ms : List Message) : Type 0 where
 -- the messages of each switch are made of its trees, whose tables are filled
 abbrev pub IsFilled : Topology → Tagging → Departures → Install → Type 0
 IsFilled T g writes i = AllZip (λ s ms. (a : AreMessages T g writes s.datapath ms) × AreFilled a.first a.second) T.switches i.messages
+
+-- the trees of a switch's two tables are the only ones
+abbrev pub HaveOneTree : Type 0
+HaveOneTree =
+    (T : Topology) (g : Tagging) (writes : Departures) (d : ℕ) (a x : ArrivingTrees) (b y : LeavingTrees) → AreTrees T g writes d a b → AreTrees T g writes d x y → (a ≡ x) × (b ≡ y)

@@ -16,7 +16,7 @@ use pq_topo::Topology;
 /// copies, whatever their switches.
 ///
 /// There are trees of each switch, and all of them are such that entries can stand for them.
-pub fn all_messages(
+pub(crate) fn all_messages(
     topology: &Topology,
     first: &Store<Option<Arrive>>,
     second: &Store<Copies>,

@@ -3,7 +3,7 @@ ghost use Rattle.std.specs.Prelude.{◌≡◌, ◌<◌, ◌≤◌, length, IfOk}
 ghost use Rattle.pq_join.specs.Switch.{FitsAsSwitch};
 ghost use Rattle.pq_rewrite.specs.Calls.{IsIdleFreeAt};
 ghost use Rattle.pq_store.specs.Store.{Keeps};
-ghost use Rattle.pq_emit.specs.Network.{AreTreesAt};
+ghost use Rattle.pq_emit.specs.Network.{AllTestPortsOf, AreTreesAt};
 
 use pq_join::switch_trees;
 use pq_letters::Letters;
@@ -33,6 +33,7 @@ pub fn all_trees(
     requires idle_free { IsIdleFreeAt forward.now policy }
     requires fits { FitsAsSwitch topology.now forward.now policy letters.now }
     ensures trees { IfOk result (λ all. AreTreesAt topology.now forward.now policy letters.now classes.now first.new second.new all.items) }
+    ensures ports { IfOk result (λ all. AllTestPortsOf forward.now policy letters.now first.new second.new all.items) }
     ensures first { Keeps first.old first.new }
     ensures second { Keeps second.old second.new }
 {

@@ -23,6 +23,7 @@ use Rattle.pq_apply.specs.Product.{FitTogetherAt, IsProduct}
 use Rattle.pq_apply.proofs.Kept.{tree_before}
 use Rattle.pq_apply.proofs.Remembered.{remembers_more, remembers_still}
 use Rattle.pq_rewrite.proofs.Told.{test_within}
+use Rattle.pq_join.proofs.Mapping.{within_both}
 use Rattle.pq_join.specs.declared.departure.Departure.{Departure}
 use Rattle.pq_join.specs.declared.sight.Seen.{Seen}
 use Rattle.pq_join.specs.Fronts.{ChoosesByTestAt, FitByTestAt, StartsAt}
@@ -85,7 +86,7 @@ written_departs w ts us root k into id R tells within keeps overwrites maps =
       made_is = mapped.1;
       departs = record {
         gives = λ x. tells (value moved.0 x) true (value mapped.0 x) (mapped.2.gives x) ∙ (ap (departures_by w) (moved.2.gives x) ∙ sym (append-nil (departures_by w _)));
-        tests = λ ns inside none f v tested. inside f v (moved.2.tests (Equal f v) (mapped.2.tests (Equal f v) tested));
+        tests = λ s tested. inl (moved.2.tests s (mapped.2.tests s tested));
       };
     }
 
@@ -115,7 +116,7 @@ none_depart ts root into id within leaf =
       made = Tip [];
       seen_is = whole.1;
       made_is = leaf;
-      departs = record { gives = λ x. refl; tests = λ ns inside none f v tested. absurd tested };
+      departs = record { gives = λ x. refl; tests = λ s tested. absurd tested };
     }
 
 -- two diagrams of departures fit together
@@ -132,8 +133,8 @@ both_fit v w ts root into x y fits left right t u t_is u_is =
     let left_departs = left.departs in
     let right_departs = right.departs in
     room_for (λ ns inside. (
-      subst (Within ns) t_same (left_departs.tests ns inside (λ f n tested. absurd tested)),
-      subst (Within ns) u_same (right_departs.tests ns (subst (Within ns) (sym seen_same) inside) (λ f n tested. absurd tested)),
+      subst (Within ns) t_same (within_both ns left.seen (Tip v) left.made left_departs.tests inside (λ f n tested. absurd tested)),
+      subst (Within ns) u_same (within_both ns right.seen (Tip w) right.made right_departs.tests (subst (Within ns) (sym seen_same) inside) (λ f n tested. absurd tested)),
     )) (fits left.seen left.seen_is)
 
 -- one after another they are those of both
@@ -154,10 +155,7 @@ both_depart v w ts root old new x y id left right appends =
       departs = record {
         gives = λ p. made.2.gives p ∙ ((λ i. left_departs.gives p i ++ right_departs.gives p i)
             ∙ sym (flat_map-append (λ z. departures_by z (value left.seen _)) v w));
-        tests = λ ns inside none f n tested. elim (made.2.tests (Equal f n) tested) [
-          | inl own ↦ left_departs.tests ns inside (λ g m t. absurd t) f n own
-          | inr own ↦ right_departs.tests ns inside (λ g m t. absurd t) f n own
-        ];
+        tests = λ s tested. elim (made.2.tests s tested) [ inl own ↦ left_departs.tests s own | inr own ↦ right_departs.tests s own ];
       };
     }
 
@@ -227,8 +225,8 @@ module _ (us : List (Tree (List Written))) (node i j : ℕ) (s : Test) (shows : 
         let seen_is = tree_before old ts root (yes_departs).seen keeps within (yes_departs).seen_is in
         room_for (λ ns both. (
           test_within ns s shows.yes_tree shows.no_tree both.1,
-          subst (Within ns) y_same (yes_departing.tests ns both.0 (λ f v tested. both.1 f v (inr (inl tested)))),
-          subst (Within ns) n_same ((no_departing).tests ns both.0 (λ f v tested. both.1 f v (inr (inr tested)))),
+          subst (Within ns) y_same (within_both ns (yes_departs).seen shows.yes_tree (yes_departs).made yes_departing.tests both.0 (λ f v tested. both.1 f v (inr (inl tested)))),
+          subst (Within ns) n_same (within_both ns (yes_departs).seen shows.no_tree (no_departs).made (no_departing).tests both.0 (λ f v tested. both.1 f v (inr (inr tested)))),
         )) (fits (yes_departs).seen _ seen_is shows.is)
 
     -- and the choice by the test has those of the fork
@@ -246,12 +244,12 @@ module _ (us : List (Tree (List Written))) (node i j : ℕ) (s : Test) (shows : 
         })
       where
         tests : (r : Tree (List Departure)) → ((q : Test) → IsTested q r → (q ≡ s) ⊎ (IsTested q (yes_departs).made ⊎ IsTested q (no_departs).made))
-            → (ns : Field → List ℕ) → Within ns (yes_departs).seen → Within ns (Fork s shows.yes_tree shows.no_tree) → Within ns r
-        tests r only ns seen both f v tested = elim (only (Equal f v) tested) [
-          | inl here ↦ both f v (inl here)
+            → (q : Test) → IsTested q r → IsTested q (yes_departs).seen ⊎ IsTested q (Fork s shows.yes_tree shows.no_tree)
+        tests r only q tested = elim (only q tested) [
+          | inl here ↦ inr (inl here)
           | inr side ↦ elim side [
-            | inl own ↦ let d = (yes_departs).departs in d.tests ns seen (λ g m t. both g m (inr (inl t))) f v own
-            | inr own ↦ (no_departing).tests ns seen (λ g m t. both g m (inr (inr t))) f v own
+            | inl own ↦ let d = (yes_departs).departs in elim (d.tests q own) [ inl told ↦ inl told | inr side_own ↦ inr (inr (inl side_own)) ]
+            | inr own ↦ elim ((no_departing).tests q own) [ inl told ↦ inl told | inr side_own ↦ inr (inr (inr side_own)) ]
           ]
         ]
 

@@ -12,6 +12,7 @@ use Rattle.pq_store.proofs.RoomLemmas.{room_for}
 use Rattle.pq_apply.specs.Product.{FitTogetherAt, IsProduct}
 use Rattle.pq_apply.specs.Restriction.{RestrictsAt}
 use Rattle.pq_apply.proofs.Kept.{tree_before}
+use Rattle.pq_join.proofs.Mapping.{within_both}
 use Rattle.pq_join.specs.declared.departure.Departure.{Departure}
 use Rattle.pq_join.specs.declared.sight.Seen.{Seen}
 use Rattle.pq_join.specs.Departing.{DepartsFromAt, IsDeparting}
@@ -43,7 +44,7 @@ module _ (us : List (Tree (List Written))) (node : ℕ) (ts ts2 : List (Tree See
       let t_same : d.made ≡ t = cc in
       let u_same : r.0 ≡ u = cc in
       room_for (λ ns both. (
-        subst (Within ns) t_same (departing.tests ns both.0 both.1),
+        subst (Within ns) t_same (within_both ns d.seen w.0 d.made departing.tests both.0 both.1),
         subst (Within ns) u_same (λ f v tested. both.0 f v (r.2.tests (Equal f v) tested)),
       )) (fits d.seen w.0 (tree_before ts ts2 root d.seen keeps within d.seen_is) w.1)
 
@@ -61,9 +62,6 @@ module _ (us : List (Tree (List Written))) (node : ℕ) (ts ts2 : List (Tree See
         made.1,
         record {
           gives = λ x. made.2.gives x ∙ (λ i. or_drop (departing.gives x i) (r.2.gives x i));
-          tests = λ ns seen writes f v tested. elim (made.2.tests (Equal f v) tested) [
-            | inl own ↦ departing.tests ns seen writes f v own
-            | inr own ↦ seen f v (r.2.tests (Equal f v) own)
-          ];
+          tests = λ q tested. elim (made.2.tests q tested) [ inl own ↦ departing.tests q own | inr own ↦ inl (r.2.tests q own) ];
         },
       )

@@ -1,8 +1,11 @@
 pub mod Arrivals
 pub mod Departed
 pub mod Dropping
+pub mod Examples
 pub mod Fronts
+pub mod Guards
 pub mod Joins
+pub mod Lacking
 pub mod Leavings
 pub mod Linking
 pub mod Mapping
@@ -10,4 +13,7 @@ pub mod PortTrees
 pub mod Puts
 pub mod Rooms
 pub mod Sights
+pub mod Soundness
 pub mod Tagged
+pub mod Testing
+pub mod ZeroPorts

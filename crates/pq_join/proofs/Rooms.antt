@@ -16,6 +16,7 @@ use Rattle.pq_store.proofs.RoomLemmas.{room_for}
 use Rattle.pq_apply.specs.Product.{FitTogetherAt}
 use Rattle.pq_apply.specs.Restriction.{RestrictsAt}
 use Rattle.pq_letters.specs.Letters.{LettersValue}
+use Rattle.pq_join.proofs.Mapping.{within_both}
 use Rattle.pq_join.specs.declared.departure.Departure.{Departure}
 use Rattle.pq_join.specs.declared.sight.Seen.{Seen}
 use Rattle.pq_join.specs.Drops.{DepartsOrDropsAt}
@@ -69,7 +70,7 @@ module _ (T : Topology) (us : List (Tree (List Written))) (policy : ℕ) (a : Le
           let made = departs sight.0 r.0 sight.1 r.1 in
           let made_is = made.1 in
           let same : made.0 ≡ t = cc in
-          room_for (λ ns both. subst (Within ns) same (made.2.tests ns both.0 both.1)) (policy_room sight.0 r.0 sight.1 r.1)
+          room_for (λ ns both. subst (Within ns) same (within_both ns sight.0 r.0 made.0 made.2.tests both.0 both.1)) (policy_room sight.0 r.0 sight.1 r.1)
 
       -- which are in the store
       pub departures_within : (whole : List (Tree (List Departure))) (node : ℕ) → DepartsOrDropsAt seen root us here whole node → node < length whole

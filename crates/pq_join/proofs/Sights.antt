@@ -65,6 +65,10 @@ module _ (T : Topology) (a : LettersValue) (d : ℕ) (k : ℕ) (ps : List (Tree 
         | inl own ↦ within.0 lt lt_is f v (letters.tests _ own)
         | inr own ↦ ports_within ns (ports_of T d) ports.0 ports.2.tests within.1 f v own
       ];
+      asks = λ s tested. elim (product.tests lr ports.0 lr_is ports.1 s tested) [
+        | inl own ↦ inl (λ t t_is. let same : lt ≡ t = cc in subst (IsTested s) same (letters.tests s own))
+        | inr own ↦ inr (ports.2.tests s own)
+      ];
       switch = λ s tested is. elim (product.tests lr ports.0 lr_is ports.1 s tested) [
         | inl own ↦ letters.untested s own is
         | inr own ↦

@@ -9,8 +9,9 @@ use Rattle.pq_layout.specs.Tagging.{up_to}
 use Rattle.pq_rewrite.specs.declared.trees.Arrive.{Arrive}
 use Rattle.pq_rewrite.specs.declared.trees.Key.{Key}
 use Rattle.pq_rewrite.specs.declared.trees.Key.TheVariants.{Plain, Tag}
+use Rattle.pq_store.specs.declared.test.Test.{Test}
 use Rattle.pq_store.specs.Diagram.{IsDiagram}
-use Rattle.pq_store.specs.Tree.{Tree, value}
+use Rattle.pq_store.specs.Tree.{Tree, IsTested, value}
 use Rattle.pq_store.specs.Store.{HasAt}
 use Rattle.pq_join.specs.declared.ports.PortKind.{PortKind}
 use Rattle.pq_join.specs.declared.ports.PortKind.TheVariants.{Missing, Edge, Linked}
@@ -32,9 +33,10 @@ abbrev pub arrival_of : Machine → Key → Seen → Option Arrive
 arrival_of m Plain s = arrival_by m 0 false s
 arrival_of m (Tag t) s = arrival_by m (t - 1) true s
 
--- the diagram has on each packet what a function makes of what is seen of it
+-- the diagram has on each packet what a function makes of another's leaf, and tests only what the other tests
 pub record IsMadeOf {A C : Type 0} (make : A → C) (t : Tree A) (r : Tree C) : Type 0 where
   pub gives : (x : Numbers) → value r x ≡ make (value t x)
+  pub tests : (s : Test) → IsTested s r → IsTested s t
   pub diagram : IsDiagram r
 
 abbrev pub MakesAt : {A C : Type 0} → (A → C) → List (Tree A) → ℕ → List (Tree C) → ℕ → Type 0

@@ -1,12 +1,10 @@
 -- The departures of packets at a switch, by the writes of a policy.
 use Rattle.std.specs.Prelude.{ℕ, ◌≡◌, ◌⊎◌, List, [], ◌∷◌, ◌++◌, Some, slice_get}
 use Rattle.std.specs.List.{flat_map}
-use Rattle.pq_fields.specs.declared.field.Field.{Field}
 use Rattle.pq_fields.specs.Packet.{Numbers}
 use Rattle.pq_fields.specs.Writes.{Written}
 use Rattle.pq_store.specs.declared.test.Test.{Test}
 use Rattle.pq_store.specs.Tree.{Tree, value, IsTested}
-use Rattle.pq_store.specs.Room.{Within}
 use Rattle.pq_store.specs.Store.{HasAt}
 use Rattle.pq_join.specs.declared.departure.Departure.{Departure}
 use Rattle.pq_join.specs.declared.ports.PortKind.{PortKind}
@@ -31,7 +29,7 @@ departures_of t x ws = flat_map (λ w. departures_by w (value t (put w x))) ws
 -- the tree has of each packet the departures by the writes of another tree, and tests only what that and the sight test
 pub record IsDeparting (t : Tree Seen) (u : Tree (List Written)) (r : Tree (List Departure)) : Type 0 where
   pub gives : (x : Numbers) → value r x ≡ departures_of t x (value u x)
-  pub tests : (ns : Field → List ℕ) → Within ns t → Within ns u → Within ns r
+  pub tests : (s : Test) → IsTested s r → IsTested s t ⊎ IsTested s u
 
 -- such a tree stands at a place, and the sight at a place of its own
 pub record DepartsAt (u : Tree (List Written)) (ts : List (Tree Seen)) (root : ℕ) (into : List (Tree (List Departure))) (id : ℕ) : Type 0 where

@@ -1,11 +1,9 @@
 -- Departures, with a drop of the packets that have none.
 use Rattle.std.specs.Prelude.{ℕ, ◌≡◌, ◌⊎◌, List, [], ◌∷◌, Some, slice_get}
-use Rattle.pq_fields.specs.declared.field.Field.{Field}
 use Rattle.pq_fields.specs.Packet.{Numbers}
 use Rattle.pq_fields.specs.Writes.{Written, no_writes}
 use Rattle.pq_store.specs.declared.test.Test.{Test}
 use Rattle.pq_store.specs.Tree.{Tree, value, IsTested}
-use Rattle.pq_store.specs.Room.{Within}
 use Rattle.pq_store.specs.Store.{HasAt}
 use Rattle.pq_join.specs.declared.departure.Departure.{Departure}
 use Rattle.pq_join.specs.declared.sight.Seen.{Seen}
@@ -32,7 +30,7 @@ departures_or_drop t x ws = or_drop (departures_of t x ws) (value t (record x { 
 -- the tree has of each packet the departures by the writes of another tree, or its drop
 pub record IsDepartingOrDropping (t : Tree Seen) (u : Tree (List Written)) (r : Tree (List Departure)) : Type 0 where
   pub gives : (x : Numbers) → value r x ≡ departures_or_drop t x (value u x)
-  pub tests : (ns : Field → List ℕ) → Within ns t → Within ns u → Within ns r
+  pub tests : (s : Test) → IsTested s r → IsTested s t ⊎ IsTested s u
 
 abbrev pub DepartsOrDropsAt : List (Tree Seen) → ℕ → List (Tree (List Written)) → ℕ → List (Tree (List Departure)) → ℕ → Type 0
 DepartsOrDropsAt ts root us node into id =

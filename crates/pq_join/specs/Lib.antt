@@ -10,3 +10,5 @@ pub mod Tags
 pub mod Arriving
 pub mod Leaving
 pub mod Switch
+pub mod Sound
+pub mod Examples

@@ -10,7 +10,11 @@ use Rattle.pq_layout.specs.Trees.{AreLeaving}
 use Rattle.pq_rewrite.specs.declared.outgoing.Outgoing.{Outgoing}
 use Rattle.pq_store.specs.Room.{HasRoom, IsAmong}
 use Rattle.pq_store.specs.Tree.{Tree, value}
+use Rattle.pq_rewrite.specs.declared.trees.Arrive.{Arrive}
+use Rattle.pq_rewrite.specs.declared.trees.Key.{Key}
+use Rattle.std.specs.declared.option.Option.{Option}
 use Rattle.pq_join.specs.Sight.{WithinAt}
+use Rattle.pq_join.specs.Sound.{TestsPortsOrZero}
 use Rattle.pq_join.specs.Tags.{tagging_of}
 
 -- the ports of the topology are among these
@@ -25,3 +29,12 @@ FitsAsSwitch T forward policy a = HasRoom (λ ns. WithinAt ns forward policy × 
 abbrev pub AreLeavingBy : Topology → LettersValue → Machine → ℕ → List (Tree (List Written)) → ℕ → List (Tree (List Outgoing)) → List (ℕ × ℕ) → Type 0
 AreLeavingBy T a m d forward policy second trees =
     (p : Tree (List Written)) → slice_get forward policy ≡ Some p → AreLeaving T (tagging_of a m) (departing T (value p)) d second trees
+
+-- the ports that the tree at a place tests have numbers of ports, or 0
+abbrev pub TestPortsAt : {L : Type 0} → List (Tree L) → ℕ → Type 0
+TestPortsAt {L} ts k = (t : Tree L) → slice_get ts k ≡ Some t → TestsPortsOrZero t
+
+-- where the policy and the letters test only such ports, so do the trees
+abbrev pub AllTestPorts : List (Tree (List Written)) → ℕ → LettersValue → List (Tree (Option Arrive)) → List (Key × ℕ) → List (Tree (List Outgoing)) → List (ℕ × ℕ) → Type 0
+AllTestPorts forward policy a first arriving second leaving =
+    TestPortsAt forward policy → TestPortsAt a.trees a.root → All (λ p. TestPortsAt first p.1) arriving × All (λ p. TestPortsAt second p.1) leaving

@@ -5,12 +5,16 @@ mod arriving;
 mod choices;
 mod departure;
 mod departures;
+mod laws;
 mod leaving;
 mod maps;
 mod overwriting;
 mod ports;
 mod sight;
 mod tags;
+#[cfg(test)]
+mod tests;
 mod trees;
 
+pub use laws::{tests_stand_below_prerequisites, trees_are_sound, trees_test_ports};
 pub use trees::switch_trees;

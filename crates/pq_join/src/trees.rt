@@ -10,7 +10,7 @@ ghost use Rattle.pq_apply.specs.Product.{FitTogetherAt};
 ghost use Rattle.pq_join.specs.Fronts.{StartsAt};
 ghost use Rattle.pq_join.specs.Drops.{DepartsOrDropsAt, DropsAt, or_drop};
 ghost use Rattle.pq_join.specs.Departing.{DepartsFromAt};
-ghost use Rattle.pq_join.specs.Switch.{AreLeavingBy, FitsAsSwitch};
+ghost use Rattle.pq_join.specs.Switch.{AllTestPorts, AreLeavingBy, FitsAsSwitch};
 ghost use Rattle.pq_join.specs.Tags.{tagging_of};
 
 use crate::arriving::arriving_trees;
@@ -52,6 +52,7 @@ pub fn switch_trees(
     requires fits { FitsAsSwitch topology.now forward.now policy letters.now }
     ensures arriving { IfOk result (λ trees. AreArriving topology.now (tagging_of letters.now classes.now) datapath first.new trees.arriving.items) }
     ensures leaving { IfOk result (λ trees. AreLeavingBy topology.now letters.now classes.now datapath forward.now policy second.new trees.leaving.items) }
+    ensures ports { IfOk result (λ trees. AllTestPorts forward.now policy letters.now first.new trees.arriving.items second.new trees.leaving.items) }
     ensures first { Keeps first.old first.new }
     ensures second { Keeps second.old second.new }
 {

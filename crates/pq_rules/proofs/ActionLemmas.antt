@@ -38,7 +38,8 @@ pub all_weaker : {A : Type 0} (P Q : A → Type 0) (xs : List A) → ((a : A) �
 all_weaker P Q [] less all = tt
 all_weaker P Q (x ∷ xs) less all = (less x all.0, all_weaker P Q xs less all.1)
 
-ascends_both : (k : ℕ) (as_ bs : List Action) → Ascends (map bucket_place as_) → Ascends (map bucket_place bs) → AllByRecursion (λ a. bucket_place a < k) as_ → AllByRecursion (λ a. k ≤ bucket_place a) bs
+ascends_both : (k : ℕ) (as_ bs : List Action) → Ascends (map bucket_place as_) → Ascends (map bucket_place bs) → AllByRecursion (λ a. bucket_place a < k) as_ → AllByRecursion
+    (λ a. k ≤ bucket_place a) bs
     → Ascends (map bucket_place (as_ ++ bs))
 ascends_both k [] bs first second below above = second
 ascends_both k (a ∷ []) [] first second below above = tt
@@ -118,7 +119,8 @@ buckets_few [] sound = tt
 buckets_few (c ∷ cs) sound = ((copy_ordered c sound.0).few, buckets_few cs sound.1)
 
 -- the actions of an arrival
-arrival_cases : (tagged capture : Bool) (t : ℕ) → IsTagNumber t → AllByRecursion IsLawfulAction (arrival_actions tagged (record { tag = t; capture = capture })) × (length (arrival_actions tagged (record { tag = t; capture = capture })) ≤ 10)
+arrival_cases : (tagged capture : Bool) (t : ℕ) → IsTagNumber t → AllByRecursion IsLawfulAction (arrival_actions tagged (record { tag = t; capture = capture })) ×
+    (length (arrival_actions tagged (record { tag = t; capture = capture })) ≤ 10)
 arrival_cases true true t h = ((tag_lawful t h, (inr (inr refl), tt)), omega arith)
 arrival_cases true false t h = ((tag_lawful t h, tt), omega arith)
 arrival_cases false true t h = ((tt, (tag_lawful t h, (inr (inr refl), tt))), omega arith)

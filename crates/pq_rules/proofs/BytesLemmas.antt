@@ -90,7 +90,15 @@ unfolding match_bytes
 match_short m =
     let front : List ℕ = 0 ∷ 1 ∷ (to_be_bytes w16 (4 + length (match_oxms m)) ++ match_oxms m) in
     let zeros : List ℕ = replicate (padding (length front)) 0 in
-    omega (arith, oxms_short m, length-append front zeros, length-replicate {A = ℕ} (padding (length front)) 0, padding_short (length front), length-append (to_be_bytes w16 (4 + length (match_oxms m))) (match_oxms m))
+    omega (
+      arith,
+      oxms_short m,
+      length-append front zeros,
+      length-replicate {A = ℕ} (padding (length front)) 0,
+      padding_short (length front),
+      length-append
+          (to_be_bytes w16 (4 + length (match_oxms m))) (match_oxms m),
+    )
 
 -- Messages.
 

@@ -44,7 +44,8 @@ module _ {L : Type 0} where
       )
 
   -- one tree more is counted
-  pub count_more : (ts : List (Tree L)) (roots : List (ℕ × ℕ)) (i : ℕ) (root : ℕ × ℕ) (old more new : ℕ) → i < length roots → root ≡ get_or roots i root → CountsAt ts root.1 more → new ≡ capped (old + more)
+  pub count_more : (ts : List (Tree L)) (roots : List (ℕ × ℕ)) (i : ℕ) (root : ℕ × ℕ) (old more new : ℕ) → i < length roots → root ≡ get_or roots i root → CountsAt ts root.1 more
+      → new ≡ capped (old + more)
       → capped (old + length (matches_of (trees_with ts (drop i roots)))) ≡ capped (length (matches_of (trees_with ts roots)))
       → capped (new + length (matches_of (trees_with ts (drop (i + 1) roots)))) ≡ capped (length (matches_of (trees_with ts roots)))
   count_more ts roots i root old more new within at counts sum before =
@@ -53,7 +54,8 @@ module _ {L : Type 0} where
       let next : drop i roots ≡ root ∷ drop (i + 1) roots = drop_more roots i root within ∙ ap (λ r. r ∷ drop (i + 1) roots) (sym at) in
       let one : trees_with ts (root ∷ drop (i + 1) roots) ≡ (root.0, t) ∷ trees_with ts (drop (i + 1) roots) = ap (λ o. with_word root.0 o ++ trees_with ts (drop (i + 1) roots)) counts.1 in
       let all : length (matches_of (trees_with ts (drop i roots))) ≡ path_count t + length rest =
-      ap (λ l. length (matches_of (trees_with ts l))) next ∙ ap (λ us. length (matches_of us)) one ∙ length-append (matches_below (vlan_match root.0) t) rest ∙ ap (λ k. k + length rest) (count_paths t (vlan_match root.0)) in
+      ap (λ l. length (matches_of (trees_with ts l))) next ∙ ap (λ us. length (matches_of us)) one ∙ length-append (matches_below (vlan_match root.0) t) rest ∙ ap (λ k. k + length rest)
+      (count_paths t (vlan_match root.0)) in
       let amount = counts.2 in
       let swap : capped (new + length rest) ≡ capped (old + (path_count t + length rest)) = omega (arith, sum, amount) in
       swap ∙ ap (λ k. capped (old + k)) (sym all) ∙ before

@@ -25,7 +25,8 @@ one_there x y same = cc
 
 module _ {L : Type 0} (ts : List (Tree L)) where
   -- a leaf is one entry
-  pub leaf_found : (k : ℕ) (l : L) (m : MatchFields) (old : List (MatchFields × ℕ)) → slice_get ts k ≡ Some (Tip l) → (t : Tree L) → slice_get ts k ≡ Some t → Finds ts (matches_below m t) old (old ++ (m, k) ∷ [])
+  pub leaf_found : (k : ℕ) (l : L) (m : MatchFields) (old : List (MatchFields × ℕ)) → slice_get ts k ≡ Some (Tip l) → (t : Tree L) → slice_get ts k ≡ Some t → Finds ts
+      (matches_below m t) old (old ++ (m, k) ∷ [])
   leaf_found k l m old at t is = subst (λ u. Finds ts (matches_below m u) old (old ++ (m, k) ∷ [])) (one_there (Tip l) t (sym at ∙ is)) ((m, k) ∷ [], refl, ((refl, at), tt))
 
   -- one list is found behind another
@@ -69,7 +70,8 @@ module _ {L : Type 0} (ts : List (Tree L)) where
       let next : drop i roots ≡ root ∷ drop (i + 1) roots = drop_more roots i root within ∙ ap (λ r. r ∷ drop (i + 1) roots) (sym is) in
       let one : trees_with ts (root ∷ drop (i + 1) roots) ≡ (root.0, tree) ∷ trees_with ts (drop (i + 1) roots) = ap (λ o. with_word root.0 o ++ trees_with ts (drop (i + 1) roots)) at in
       let both : AreFound ts (matches_of (trees_with ts (root ∷ drop (i + 1) roots))) (found.0 ++ more) =
-      subst (λ us. AreFound ts (matches_of us) (found.0 ++ more)) (sym one) (zip_both (IsFound ts) (matches_below (vlan_match root.0) tree) (matches_of (trees_with ts (drop (i + 1) roots))) found.0 more found.2 later) in
+      subst (λ us. AreFound ts (matches_of us) (found.0 ++ more)) (sym one)
+      (zip_both (IsFound ts) (matches_below (vlan_match root.0) tree) (matches_of (trees_with ts (drop (i + 1) roots))) found.0 more found.2 later) in
       let whole = completes (found.0 ++ more) (subst (λ rs. AreFound ts (matches_of (trees_with ts rs)) (found.0 ++ more)) (sym next) both) in
       subst (λ es. AreFound ts (matches_of (trees_with ts roots)) es) (sym (append_assoc old found.0 more) ∙ ap (λ l. l ++ more) (sym found.1)) whole
 
@@ -77,6 +79,28 @@ module _ {L : Type 0} (ts : List (Tree L)) where
   unfolding Completes
   all_complete roots i found last completes =
       subst (λ es. AreFound ts (matches_of (trees_with ts roots)) es) (append-nil found) (completes [] (subst (λ rs. AreFound ts (matches_of (trees_with ts rs)) []) (sym last) tt))
+
+  -- what is found below a place and a match completes what is found below an earlier place and match
+  pub CompletesBelow : (first at : ℕ) (m below : MatchFields) (old found : List (MatchFields × ℕ)) → Type 0
+  CompletesBelow first at m below old found =
+      (new : List (MatchFields × ℕ)) → ((t : Tree L) → slice_get ts at ≡ Some t → Finds ts (matches_below below t) found new) → (t : Tree L) → slice_get ts first ≡ Some t → Finds ts (matches_below m t) old new
+
+  pub none_below : (at : ℕ) (m : MatchFields) (old : List (MatchFields × ℕ)) → CompletesBelow at at m m old old
+  unfolding CompletesBelow
+  none_below at m old new found = found
+
+  -- after a yes side the no side is left
+  pub one_below : (first at i j : ℕ) (s : Test) (m below : MatchFields) (old found mid : List (MatchFields × ℕ)) → ShowsBranch ts at s i j
+      → ((t : Tree L) → slice_get ts i ≡ Some t → Finds ts (matches_below (passing s below) t) found mid)
+      → CompletesBelow first at m below old found → CompletesBelow first j m (failing s below) old mid
+  unfolding CompletesBelow
+  one_below first at i j s m below old found mid shows passed completes new failed = completes new (sides_found at i j s below found mid new shows passed failed)
+
+  -- at a leaf all is found
+  pub all_below : (first at : ℕ) (l : L) (m below : MatchFields) (old found : List (MatchFields × ℕ)) → slice_get ts at ≡ Some (Tip l) → CompletesBelow first at m below old found
+      → (t : Tree L) → slice_get ts first ≡ Some t → Finds ts (matches_below m t) old (found ++ (below, at) ∷ [])
+  unfolding CompletesBelow
+  all_below first at l m below old found is completes = completes (found ++ (below, at) ∷ []) (leaf_found at l below found is)
 
   -- a root among roots
   pub root_at : (roots : List (ℕ × ℕ)) (i : ℕ) (root : ℕ × ℕ) → All (IsRoot ts) roots → i < length roots → root ≡ get_or roots i root → IsRoot ts root

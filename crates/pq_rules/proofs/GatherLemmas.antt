@@ -24,7 +24,8 @@ module _ {L : Type 0} (blank : L → Bool) (ts : List (Tree L)) where
   one_with w k t ps at = ap (λ o. with_word w o ++ trees_with ts ps) at
 
   -- a root more
-  root_more : (roots : List (ℕ × ℕ)) (w k : ℕ) (t : Tree L) → slice_get ts k ≡ Some t → matches_of (trees_with ts (roots ++ (w, k) ∷ [])) ≡ matches_of (trees_with ts roots) ++ matches_below (vlan_match w) t
+  root_more : (roots : List (ℕ × ℕ)) (w k : ℕ) (t : Tree L) → slice_get ts k ≡ Some t → matches_of (trees_with ts (roots ++ (w, k) ∷ [])) ≡ matches_of (trees_with ts roots) ++ matches_below
+      (vlan_match w) t
   root_more roots w k t at =
       ap matches_of (flat_map-append (λ p. with_word p.0 (slice_get ts p.1)) roots ((w, k) ∷ []) ∙ ap (λ l. trees_with ts roots ++ l) (one_with w k t [] at))
       ∙ flat_map-append (λ p. matches_below (vlan_match p.0) p.1) (trees_with ts roots) ((w, t) ∷ [])
@@ -39,7 +40,8 @@ module _ {L : Type 0} (blank : L → Bool) (ts : List (Tree L)) where
           → Gathers blank ts ids (if b then roots else roots ++ (w, k) ∷ []) left
       by true is whole = ap (λ c. matches_of (trees_with ts roots) ++ ((if c then [] else matches_below (vlan_match w) t) ++ table_of blank (trees_with ts left))) is ∙ whole
       by false is whole =
-          ap (λ l. l ++ table_of blank (trees_with ts left)) (root_more roots w k t at) ∙ append_assoc (matches_of (trees_with ts roots)) (matches_below (vlan_match w) t) (table_of blank (trees_with ts left))
+          ap (λ l. l ++ table_of blank (trees_with ts left)) (root_more roots w k t at) ∙ append_assoc (matches_of (trees_with ts roots)) (matches_below (vlan_match w) t)
+          (table_of blank (trees_with ts left))
           ∙ ap (λ c. matches_of (trees_with ts roots) ++ ((if c then [] else matches_below (vlan_match w) t) ++ table_of blank (trees_with ts left))) is ∙ whole
 
   -- where none is left, the roots have all

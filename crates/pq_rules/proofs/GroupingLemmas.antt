@@ -1,5 +1,6 @@
 -- The groups of entries, entry after entry.
-use Rattle.std.proofs.Common.{◌≡◌, ◌==◌, ℕ, zero, suc, ◌+◌, ◌<◌, ◌≤◌, Bool, true, false, if◌then◌else◌, List, [], ◌∷◌, ◌++◌, Some, None, length, get_or, drop, map, refl, sym, ap, subst, ◌∙◌, arith, eqb-true}
+use Rattle.std.proofs.Common.{◌≡◌, ◌==◌, ℕ, zero, suc, ◌+◌, ◌<◌, ◌≤◌, Bool, true, false, if◌then◌else◌, List, []}
+use Rattle.std.proofs.Common.{◌∷◌, ◌++◌, Some, None, length, get_or, drop, map, refl, sym, ap, subst, ◌∙◌, arith, eqb-true}
 use Rattle.std.specs.Prelude.{slice_get, ◌||◌}
 use Rattle.std.specs.List.{list_any}
 use Rattle.std.specs.declared.option.Option.{Option}
@@ -71,7 +72,8 @@ pub none_placed : (gs : List (List Outgoing)) (es : List (MatchFields × List Ou
 none_placed gs es more rest grows places = places
 
 -- one place more
-pub one_placed : (old new : List (List Outgoing)) (es left : List (MatchFields × List Outgoing)) (e : MatchFields × List Outgoing) (places : List (Option ℕ)) (p : Option ℕ) → Grows old new → IsPlace new e.1 p
+pub one_placed : (old new : List (List Outgoing)) (es left : List (MatchFields × List Outgoing)) (e : MatchFields × List Outgoing) (places : List (Option ℕ)) (p : Option ℕ) → Grows old new
+    → IsPlace new e.1 p
     → PlacesComplete old es (e ∷ left) places → PlacesComplete new es left (places ++ p ∷ [])
 one_placed old new es left e places p grows place complete more rest later rests =
     subst (ArePlaces more es) (sym (append_assoc places (p ∷ []) rest))
@@ -112,5 +114,6 @@ entry_grouped ts es i e old new places placed p within is grown place pushed gro
     let grows : Grows old new = subst (Grows old) (sym grown) (group_grows old (group_copies (leaf_at [] ts e.1))) in (
       ap (λ gs. with_groups gs (resolved [] ts (drop (i + 1) es))) grown ∙ ap (with_groups old) (sym next) ∙ groups,
       subst (PlacesComplete new (resolved [] ts es) (resolved [] ts (drop (i + 1) es))) (sym pushed)
-          (one_placed old new (resolved [] ts es) (resolved [] ts (drop (i + 1) es)) (e.0, leaf_at [] ts e.1) places p grows place (subst (λ l. PlacesComplete old (resolved [] ts es) l places) next complete)),
+          (one_placed old new (resolved [] ts es) (resolved [] ts (drop (i + 1) es)) (e.0, leaf_at [] ts e.1) places p grows place
+          (subst (λ l. PlacesComplete old (resolved [] ts es) l places) next complete)),
     )

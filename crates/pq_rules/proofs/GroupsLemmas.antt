@@ -1,5 +1,6 @@
 -- The groups of entries as copies are the groups of their buckets.
-use Rattle.std.proofs.Common.{◌≡◌, ℕ, zero, suc, ◌+◌, ◌<◌, ◌≤◌, Bool, true, false, not, if◌then◌else◌, List, [], ◌∷◌, ◌++◌, Some, None, length, map, filter, rules, refl, sym, ap, ap₂, subst, ◌∙◌, arith, eqb-true}
+use Rattle.std.proofs.Common.{◌≡◌, ℕ, zero, suc, ◌+◌, ◌<◌, ◌≤◌, Bool, true, false, not, if◌then◌else◌, List, [], ◌∷◌}
+use Rattle.std.proofs.Common.{◌++◌, Some, None, length, map, filter, rules, refl, sym, ap, ap₂, subst, ◌∙◌, arith, eqb-true}
 use Rattle.std.specs.Prelude.{◌==◌, All, IfSome, slice_get}
 use Rattle.std.specs.Cmp.Lexicographic.{pointwise}
 use Rattle.std.specs.List.{AllByRecursion, IsDistinct, cons_option, filter_map, list_any}
@@ -90,7 +91,8 @@ once_made [] all = refl
 once_made (g ∷ gs) all =
     ap (λ l. buckets_of g ∷ filter (λ c. not (same_buckets (buckets_of g) c)) l) (once_made gs all.1)
     ∙ ap (λ l. buckets_of g ∷ l)
-    (filter_made IsShown buckets_of (λ c. not (same_buckets (buckets_of g) c)) (λ h. not (copies_eq g h)) (λ h shown. ap not (same_tests g h all.0 shown)) (once copies_eq gs) (once_keeps copies_eq IsShown gs all.1))
+    (filter_made IsShown buckets_of (λ c. not (same_buckets (buckets_of g) c)) (λ h. not (copies_eq g h)) (λ h shown. ap not (same_tests g h all.0 shown)) (once copies_eq gs)
+    (once_keeps copies_eq IsShown gs all.1))
 
 -- the groups that entries need, in order
 needed : List (MatchFields × List Outgoing) → List (List Outgoing)
@@ -152,7 +154,8 @@ unfolding needed
 taken_needed [] gs = refl
 taken_needed (e ∷ es) gs = by (group_copies e.1) (λ hs. taken_needed es hs)
   where
-    by : (o : Option (List Outgoing)) → ((hs : List (List Outgoing)) → with_groups hs es ≡ insert_all copies_eq hs (needed es)) → with_groups (with_group gs o) es ≡ insert_all copies_eq gs (cons_option o (filter_map (λ d. group_copies d.1) es))
+    by : (o : Option (List Outgoing)) → ((hs : List (List Outgoing)) → with_groups hs es ≡ insert_all copies_eq hs (needed es)) → with_groups (with_group gs o) es ≡ insert_all copies_eq gs
+        (cons_option o (filter_map (λ d. group_copies d.1) es))
     by None rest = rest gs
     by (Some g) rest = rest (insert_key copies_eq gs g)
 
@@ -184,7 +187,8 @@ shown_at (k ∷ gs) h zero all at = let one : k ≡ h = cc in subst IsShown one 
 shown_at (k ∷ gs) h (suc p) all at = shown_at gs h p all.1 at
 
 -- a group at a place has the number after it
-numbered : (gs : List (List Outgoing)) (h : List Outgoing) (p : ℕ) → IsDistinct copies_eq gs → AllByRecursion IsShown gs → slice_get gs p ≡ Some h → group_number (map buckets_of gs) (buckets_of h) ≡ p + 1
+numbered : (gs : List (List Outgoing)) (h : List Outgoing) (p : ℕ) → IsDistinct copies_eq gs → AllByRecursion IsShown gs → slice_get gs p ≡ Some h → group_number (map buckets_of gs)
+    (buckets_of h) ≡ p + 1
 unfolding IsDistinct
 numbered [] h p apart all at = absurd cc
 numbered (k ∷ gs) h zero apart all at =
@@ -195,7 +199,8 @@ numbered (k ∷ gs) h (suc p) apart all at =
     ap (λ b. if b then 1 else suc (group_number (map buckets_of gs) (buckets_of h))) other ∙ omega (arith, numbered gs h p apart.1 all.1 at)
 
 -- the actions of an entry by the place of its group
-actions_placed : (gs : List (List Outgoing)) (cs : List Outgoing) (p : Option ℕ) → IsDistinct copies_eq gs → AllByRecursion IsShown gs → IsPlace gs cs p → placed_actions cs p ≡ leaving_actions (map buckets_of gs) cs
+actions_placed : (gs : List (List Outgoing)) (cs : List Outgoing) (p : Option ℕ) → IsDistinct copies_eq gs → AllByRecursion IsShown gs → IsPlace gs cs p
+    → placed_actions cs p ≡ leaving_actions (map buckets_of gs) cs
 actions_placed gs [] None apart all place = refl
 actions_placed gs (c ∷ []) None apart all place = refl
 actions_placed gs (c ∷ d ∷ cs) None apart all place = absurd cc
@@ -235,7 +240,8 @@ place_below [] p g at = absurd cc
 place_below (h ∷ gs) zero g at = omega arith
 place_below (h ∷ gs) (suc p) g at = omega (arith, place_below gs p g at)
 
-places_below : (n : ℕ) (gs : List (List Outgoing)) (es : List (MatchFields × List Outgoing)) (ps : List (Option ℕ)) → length gs ≤ n → ArePlaces gs es ps → AllByRecursion (λ p. IfSome p (λ k. k < n)) ps
+places_below : (n : ℕ) (gs : List (List Outgoing)) (es : List (MatchFields × List Outgoing)) (ps : List (Option ℕ)) → length gs ≤ n → ArePlaces gs es ps → AllByRecursion
+    (λ p. IfSome p (λ k. k < n)) ps
 places_below n gs [] [] few places = tt
 places_below n gs [] (p ∷ ps) few places = absurd places
 places_below n gs (e ∷ es) [] few places = absurd places
@@ -268,9 +274,11 @@ unfolding needed
 needed_all P [] all = tt
 needed_all P (e ∷ es) all = by (group_copies e.1) (λ g is. all.0 g is) (needed_all P es all.1)
   where
-    by : (o : Option (List Outgoing)) → ((g : List Outgoing) → o ≡ Some g → P g) → AllByRecursion P (filter_map (λ d. group_copies d.1) es) → AllByRecursion P (cons_option o (filter_map (λ d. group_copies d.1) es))
+    by : (o : Option (List Outgoing)) → ((g : List Outgoing) → o ≡ Some g → P g) → AllByRecursion P (filter_map (λ d. group_copies d.1) es) → AllByRecursion P
+        (cons_option o (filter_map (λ d. group_copies d.1) es))
     by None here rest = rest
     by (Some g) here rest = (here g refl, rest)
 
-pub groups_all : (P : List Outgoing → Type 0) (es : List (MatchFields × List Outgoing)) → AllByRecursion (λ e. (g : List Outgoing) → group_copies e.1 ≡ Some g → P g) es → AllByRecursion P (with_groups [] es)
+pub groups_all : (P : List Outgoing → Type 0) (es : List (MatchFields × List Outgoing)) → AllByRecursion (λ e. (g : List Outgoing) → group_copies e.1 ≡ Some g → P g) es → AllByRecursion P
+    (with_groups [] es)
 groups_all P es all = subst (AllByRecursion P) (sym (all_once es)) (once_keeps copies_eq P (needed es) (needed_all P es all))

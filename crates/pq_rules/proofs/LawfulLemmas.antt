@@ -15,7 +15,8 @@ use Rattle.pq_store.specs.Tree.{Tree}
 use Rattle.pq_store.specs.Tree.Tree.{Tip, Fork}
 use Rattle.pq_layout.specs.Actions.{buckets_of, copy_actions}
 use Rattle.pq_layout.specs.Entries.{entries_of, failing, is_blank, matches_below, passing, table_of, vlan_match}
-use Rattle.pq_layout.specs.Messages.{ArrivingTrees, Buckets, LeavingTrees, Rule, adds_from, delete_entries, delete_groups, first_rule, first_rules, group_number, groups_from, groups_of, is_nothing, is_untagged}
+use Rattle.pq_layout.specs.Messages.{ArrivingTrees, Buckets, LeavingTrees, Rule, adds_from, delete_entries, delete_groups}
+use Rattle.pq_layout.specs.Messages.{first_rule, first_rules, group_number, groups_from, groups_of, is_nothing, is_untagged}
 use Rattle.pq_layout.specs.Messages.{is_without, leaving_entries, messages_of, same_buckets, second_rule, second_rules}
 use Rattle.pq_layout.specs.Sound.{AreSoundArriving, AreSoundLeaving, IsSoundArrival, IsSoundArriving, IsSoundCopy, IsSoundLeaving}
 use Rattle.pq_rules.specs.Found.{IsKeyWord}
@@ -37,7 +38,8 @@ module _ {L : Type 0} where
   below_lawful (Fork s y n) m lawful stays =
       all_both (λ e. IsLawfulMatch e.0) (matches_below (passing s m) y) (matches_below (failing s m) n) (below_lawful y (passing s m) stays.1 stays.3) (below_lawful n (failing s m) stays.2 stays.4)
 
-  table_lawful : (blank : L → Bool) (trees : List (ℕ × Tree L)) → AllByRecursion (λ p. IsKeyWord p.0 × StaysLawful (vlan_match p.0) p.1) trees → AllByRecursion (λ e. IsLawfulMatch e.0) (table_of blank trees)
+  table_lawful : (blank : L → Bool) (trees : List (ℕ × Tree L)) → AllByRecursion (λ p. IsKeyWord p.0 × StaysLawful (vlan_match p.0) p.1) trees → AllByRecursion (λ e. IsLawfulMatch e.0)
+      (table_of blank trees)
   table_lawful blank [] all = tt
   table_lawful blank (p ∷ ps) all = all_both (λ e. IsLawfulMatch e.0) (entries_of blank p) (table_of blank ps) (by (is_blank blank p.1)) (table_lawful blank ps all.1)
     where
@@ -93,7 +95,8 @@ second_lawful gs e few lawful sound = by e.1 sound
         let number = number_few gs (buckets_of (c ∷ d ∷ cs)) in
         record { matching = lawful; actions = (omega (arith, number, few), tt); few = omega arith; goto = tt }
 
-rules_lawful : {A : Type 0} (table : ℕ) (f : A → Rule) (P : A → Type 0) → ((a : A) → P a → IsLawfulRule table (f a)) → (xs : List A) → AllByRecursion P xs → AllByRecursion (IsLawfulRule table) (map f xs)
+rules_lawful : {A : Type 0} (table : ℕ) (f : A → Rule) (P : A → Type 0) → ((a : A) → P a → IsLawfulRule table (f a)) → (xs : List A) → AllByRecursion P xs → AllByRecursion
+    (IsLawfulRule table) (map f xs)
 rules_lawful table f P lawful [] all = tt
 rules_lawful table f P lawful (x ∷ xs) all = (lawful x all.0, rules_lawful table f P lawful xs all.1)
 
@@ -103,7 +106,8 @@ both_hold P Q (x ∷ xs) first second = ((first.0, second.0), both_hold P Q xs f
 
 -- Messages.
 
-adds_lawful : (rs : List Rule) (xid table index : ℕ) → table ≤ 254 → xid + length rs < 2 ^ 32 → AllByRecursion (IsLawfulRule table) rs → AllByRecursion IsLawfulMessage (map Flow (adds_from xid table index rs))
+adds_lawful : (rs : List Rule) (xid table index : ℕ) → table ≤ 254 → xid + length rs < 2 ^ 32 → AllByRecursion (IsLawfulRule table) rs → AllByRecursion IsLawfulMessage
+    (map Flow (adds_from xid table index rs))
 adds_lawful [] xid table index within few all = tt
 adds_lawful (r ∷ rs) xid table index within few all =
     let here = all.0 in (
@@ -151,7 +155,22 @@ away_lawful = record {
     xid = omega arith;
     cookie = omega arith;
     priority = omega arith;
-    matching = record { in_port = tt; vlan = tt; eth_type = tt; ip_proto = tt; eth_src = tt; eth_dst = tt; ipv4_src = tt; ipv4_dst = tt; tcp_src = tt; tcp_dst = tt; udp_src = tt; udp_dst = tt; ipv6_src = tt; ipv6_dst = tt };
+    matching = record {
+      in_port = tt;
+      vlan = tt;
+      eth_type = tt;
+      ip_proto = tt;
+      eth_src = tt;
+      eth_dst = tt;
+      ipv4_src = tt;
+      ipv4_dst = tt;
+      tcp_src = tt;
+      tcp_dst = tt;
+      udp_src = tt;
+      udp_dst = tt;
+      ipv6_src = tt;
+      ipv6_dst = tt;
+    };
     command = (refl, refl, refl, refl, (refl, refl));
   };
   short = entries_away_short;
@@ -166,7 +185,8 @@ few_each : (es : List (MatchFields × List Outgoing)) → many_copies es ≡ Non
 few_each [] few = tt
 few_each (e ∷ es) few = by (nat_lt 256 (length e.1)) refl few (few_each es)
   where
-    by : (b : Bool) → nat_lt 256 (length e.1) ≡ b → (if b then Some (length e.1) else many_copies es) ≡ None → (many_copies es ≡ None → AllByRecursion (λ d. length d.1 ≤ 256) es) → AllByRecursion (λ d. length d.1 ≤ 256) (e ∷ es)
+    by : (b : Bool) → nat_lt 256 (length e.1) ≡ b → (if b then Some (length e.1) else many_copies es) ≡ None → (many_copies es ≡ None → AllByRecursion (λ d. length d.1 ≤ 256) es)
+        → AllByRecursion (λ d. length d.1 ≤ 256) (e ∷ es)
     by true is none rest = absurd cc
     by false is none rest = (
       elim (leb_tells 257 (length e.1)) [
@@ -202,13 +222,16 @@ made_all f P Q such [] all = tt
 made_all f P Q such (x ∷ xs) all = (such x all.0, made_all f P Q such xs all.1)
 
 sound_entries : (seconds : LeavingTrees) → AreSoundLeaving seconds → SoundEntries (leaving_entries seconds)
-sound_entries seconds sound = all_weaker (λ e. All IsSoundCopy e.1) (λ e. AllByRecursion IsSoundCopy e.1) (leaving_entries seconds) (λ e h. recursion_from_All IsSoundCopy e.1 h) (leaving_leaves seconds sound)
+sound_entries seconds sound = all_weaker (λ e. All IsSoundCopy e.1) (λ e. AllByRecursion IsSoundCopy e.1) (leaving_entries seconds) (λ e h. recursion_from_All IsSoundCopy e.1 h)
+    (leaving_leaves seconds sound)
 
 groups_of_lawful : (es : List (MatchFields × List Outgoing)) → SoundEntries es → many_copies es ≡ None → AllByRecursion AreLawfulBuckets (groups_of es)
 groups_of_lawful es sound few =
-    let groups = groups_all IsGroup es (all_weaker (λ e. length e.1 ≤ 256) (λ e. (g : List Outgoing) → group_copies e.1 ≡ Some g → IsGroup g) es (λ e small g is. group_such e.1 g small is) (few_each es few)) in
+    let groups = groups_all IsGroup es (all_weaker (λ e. length e.1 ≤ 256) (λ e. (g : List Outgoing) → group_copies e.1 ≡ Some g → IsGroup g) es (λ e small g is. group_such e.1 g small is)
+    (few_each es few)) in
     subst (AllByRecursion AreLawfulBuckets) (sym (groups_made es sound))
-    (made_all buckets_of (λ g. IsShown g × IsGroup g) AreLawfulBuckets (λ g h. group_buckets g h.0 h.1) (with_groups [] es) (both_hold IsShown IsGroup (with_groups [] es) (groups_shown es sound) groups))
+    (made_all buckets_of (λ g. IsShown g × IsGroup g) AreLawfulBuckets (λ g h. group_buckets g h.0 h.1) (with_groups [] es)
+    (both_hold IsShown IsGroup (with_groups [] es) (groups_shown es sound) groups))
 
 groups_of_few : (es : List (MatchFields × List Outgoing)) → SoundEntries es → length (groups_of es) ≤ length es
 groups_of_few es sound =
@@ -216,7 +239,8 @@ groups_of_few es sound =
 
 -- The whole.
 
-module _ (limit : ℕ) (firsts : ArrivingTrees) (seconds : LeavingTrees) (arriving : AreSoundArriving firsts) (leaving : AreSoundLeaving seconds) (few : limit ≤ 16384) (fit : FitRules limit firsts seconds) where
+module _ (limit : ℕ) (firsts : ArrivingTrees) (seconds : LeavingTrees) (arriving : AreSoundArriving firsts) (leaving : AreSoundLeaving seconds) (few : limit ≤ 16384)
+    (fit : FitRules limit firsts seconds) where
   group_count : length (groups_of (leaving_entries seconds)) ≤ 16384
   group_count = let small = fit.tables.leaving in omega (arith, groups_of_few (leaving_entries seconds) (sound_entries seconds leaving), small, few)
 
@@ -233,7 +257,8 @@ module _ (limit : ℕ) (firsts : ArrivingTrees) (seconds : LeavingTrees) (arrivi
 
   seconds_lawful : AllByRecursion (IsLawfulRule 1) (second_rules seconds)
   seconds_lawful =
-      rules_lawful 1 (second_rule (groups_of (leaving_entries seconds))) (λ e. IsLawfulMatch e.0 × AllByRecursion IsSoundCopy e.1) (λ e h. second_lawful (groups_of (leaving_entries seconds)) e group_count h.0 h.1)
+      rules_lawful 1 (second_rule (groups_of (leaving_entries seconds))) (λ e. IsLawfulMatch e.0 × AllByRecursion IsSoundCopy e.1)
+      (λ e h. second_lawful (groups_of (leaving_entries seconds)) e group_count h.0 h.1)
       (leaving_entries seconds)
       (both_hold (λ e. IsLawfulMatch e.0) (λ e. AllByRecursion IsSoundCopy e.1) (leaving_entries seconds) (leaving_lawful seconds leaving) (sound_entries seconds leaving))
 
@@ -242,7 +267,8 @@ module _ (limit : ℕ) (firsts : ArrivingTrees) (seconds : LeavingTrees) (arrivi
       let n = length (groups_of (leaving_entries seconds)) in
       let a = length (first_rules firsts) in
       let b = length (second_rules seconds) in
-      let groups = groups_lawful (groups_of (leaving_entries seconds)) 4 1 (omega arith) (omega (arith, group_count)) (omega (arith, group_count)) (groups_of_lawful (leaving_entries seconds) (sound_entries seconds leaving) fit.groups) in
+      let groups = groups_lawful (groups_of (leaving_entries seconds)) 4 1 (omega arith) (omega (arith, group_count)) (omega (arith, group_count))
+      (groups_of_lawful (leaving_entries seconds) (sound_entries seconds leaving) fit.groups) in
       let first = adds_lawful (first_rules firsts) (suc (4 + n)) 0 0 (omega arith) (omega (arith, group_count, first_count)) firsts_lawful in
       let second = adds_lawful (second_rules seconds) (suc (4 + n) + a) 1 0 (omega arith) (omega (arith, group_count, first_count, second_count)) seconds_lawful in
       let adds : AllByRecursion IsLawfulMessage (map Flow (adds_from (suc (4 + n)) 0 0 (first_rules firsts) ++ adds_from (suc (4 + n) + a) 1 0 (second_rules seconds))) =

@@ -15,3 +15,4 @@ mod SwitchLemmas
 mod BytesLemmas
 mod ActionLemmas
 mod LawfulLemmas
+mod ExampleLemmas

@@ -56,7 +56,12 @@ masked_more w k b a within whole below same = by b
     less = omega (arith, half k, pow_pos k)
 
     by : (b : Bool) → IsMasked w (masked_with (2 ^ k) b a)
-    by true = (omega (arith, pow_pos k), fits, (λ i. bit_and (whole.value_is i + 2 ^ k) (whole.mask_is i + 2 ^ k)) ∙ common k p q (2 ^ k) (2 ^ k) less less fronts (and_self (2 ^ k)) ∙ ap (λ v. v + 2 ^ k) (sym whole.value_is))
+    by true = (
+      omega (arith, pow_pos k),
+      fits,
+      (λ i. bit_and (whole.value_is i + 2 ^ k) (whole.mask_is i + 2 ^ k)) ∙ common k p q (2 ^ k) (2 ^ k) less less fronts (and_self (2 ^ k)) ∙ ap
+          (λ v. v + 2 ^ k) (sym whole.value_is),
+    )
     by false =
         let none : bit_and 0 (2 ^ k) ≡ 0 = omega (arith, and_le_l 0 (2 ^ k)) in
         let zero_more : p * 2 ^ suc k ≡ p * 2 ^ suc k + 0 = omega arith in

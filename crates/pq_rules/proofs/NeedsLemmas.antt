@@ -83,7 +83,8 @@ lawful_number EthType v m h fits port fresh needs = record {
   in_port = h.in_port;
   vlan = h.vlan;
   eth_type = fits;
-  ip_proto = if_some (λ n. (n < 2 ^ 8) × ((m.eth_type ≡ Some 0x0800) ⊎ (m.eth_type ≡ Some 0x86dd))) (λ n. (n < 2 ^ 8) × ((Some v ≡ Some 0x0800) ⊎ (Some v ≡ Some 0x86dd))) m.ip_proto (λ n p. absurd (elim p.1 [ inl is ↦ cc | inr is ↦ cc ])) h.ip_proto;
+  ip_proto = if_some (λ n. (n < 2 ^ 8) × ((m.eth_type ≡ Some 0x0800) ⊎ (m.eth_type ≡ Some 0x86dd))) (λ n. (n < 2 ^ 8) × ((Some v ≡ Some 0x0800) ⊎ (Some v ≡ Some 0x86dd))) m.ip_proto
+      (λ n p. absurd (elim p.1 [ inl is ↦ cc | inr is ↦ cc ])) h.ip_proto;
   eth_src = h.eth_src;
   eth_dst = h.eth_dst;
   ipv4_src = if_some (λ a. IsMasked 32 a × (m.eth_type ≡ Some 0x0800)) (λ a. IsMasked 32 a × (Some v ≡ Some 0x0800)) m.ipv4_src (λ n p. absurd (let is = p.1 in cc)) h.ipv4_src;
@@ -372,7 +373,8 @@ unfolding stated_packet
 needed Switch m h = tt
 needed Port m h = tt
 needed EthType m h = tt
-needed IpProto m h = elim (either (unwrap_or m.eth_type 0 == 0x0800) (unwrap_or m.eth_type 0 == 0x86dd) h) [ inl is ↦ inl (is_stated m.eth_type 0x0800 (λ e. absurd (omega (arith, e))) is) | inr is ↦ inr (is_stated m.eth_type 0x86dd (λ e. absurd (omega (arith, e))) is) ]
+needed IpProto m h = elim (either (unwrap_or m.eth_type 0 == 0x0800) (unwrap_or m.eth_type 0 == 0x86dd) h)
+    [ inl is ↦ inl (is_stated m.eth_type 0x0800 (λ e. absurd (omega (arith, e))) is) | inr is ↦ inr (is_stated m.eth_type 0x86dd (λ e. absurd (omega (arith, e))) is) ]
 needed EthSrc m h = tt
 needed EthDst m h = tt
 needed Ipv4Src m h = is_stated m.eth_type 0x0800 (λ e. absurd (omega (arith, e))) h

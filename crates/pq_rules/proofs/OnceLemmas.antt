@@ -30,7 +30,8 @@ filter_keeps P p (x ∷ xs) all = by (p x) (filter_keeps P p xs all.1)
     by false rest = rest
 
 -- a filter of values that are made
-pub filter_made : {A B : Type 0} (P : A → Type 0) (f : A → B) (p : B → Bool) (q : A → Bool) → ((a : A) → P a → p (f a) ≡ q a) → (xs : List A) → AllByRecursion P xs → filter p (map f xs) ≡ map f (filter q xs)
+pub filter_made : {A B : Type 0} (P : A → Type 0) (f : A → B) (p : B → Bool) (q : A → Bool) → ((a : A) → P a → p (f a) ≡ q a) → (xs : List A) → AllByRecursion P xs → filter p
+    (map f xs) ≡ map f (filter q xs)
 filter_made P f p q same [] all = refl
 filter_made P f p q same (x ∷ xs) all = by (q x) (same x all.0) (filter_made P f p q same xs all.1)
   where
@@ -54,7 +55,8 @@ module _ {A : Type 0} (E : A → A → Bool) where
   apart x [] = tt
   apart x (y ∷ ys) = by (E x y) refl (apart x ys)
     where
-      by : (b : Bool) → E x y ≡ b → AllByRecursion (λ z. E x z ≡ false) (filter (λ z. not (E x z)) ys) → AllByRecursion (λ z. E x z ≡ false) (cond (not b) (y ∷ filter (λ z. not (E x z)) ys) (filter (λ z. not (E x z)) ys))
+      by : (b : Bool) → E x y ≡ b → AllByRecursion (λ z. E x z ≡ false) (filter (λ z. not (E x z)) ys) → AllByRecursion (λ z. E x z ≡ false)
+          (cond (not b) (y ∷ filter (λ z. not (E x z)) ys) (filter (λ z. not (E x z)) ys))
       by true is rest = rest
       by false is rest = (is, rest)
 
@@ -106,7 +108,8 @@ module _ {A : Type 0} (E : A → A → Bool) where
         others y = not (E x y)
 
         by : (b : Bool) → list_any (E x) ks ≡ b → ((us : List A) → insert_all E us xs ≡ us ++ filter (outside us) (once xs))
-            → insert_all E (if b then ks else ks ++ x ∷ []) xs ≡ ks ++ cond (not (list_any (E x) ks)) (x ∷ filter (outside ks) (filter (λ y. not (E x y)) (once xs))) (filter (outside ks) (filter (λ y. not (E x y)) (once xs)))
+            → insert_all E (if b then ks else ks ++ x ∷ []) xs ≡ ks ++ cond (not (list_any (E x) ks)) (x ∷ filter (outside ks) (filter (λ y. not (E x y)) (once xs)))
+            (filter (outside ks) (filter (λ y. not (E x y)) (once xs)))
         by true is rest =
             let kept : (y : A) → outside ks y ≡ (not (E x y) && outside ks y) = λ y. with_it y (E x y) refl in
             rest ks ∙ ap (λ l. ks ++ l) (sym (filter_twice (outside ks) (λ y. not (E x y)) (outside ks) kept (once xs))

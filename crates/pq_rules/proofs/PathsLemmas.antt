@@ -97,7 +97,22 @@ all_stated s m passed lawful other fresh stated = by (is_prerequisite s) refl
 
 -- the match of a VLAN_VID word is lawful
 pub word_lawful : (word : ℕ) → IsKeyWord word → IsLawfulMatch (vlan_match word)
-word_lawful word h = record { in_port = tt; vlan = h; eth_type = tt; ip_proto = tt; eth_src = tt; eth_dst = tt; ipv4_src = tt; ipv4_dst = tt; tcp_src = tt; tcp_dst = tt; udp_src = tt; udp_dst = tt; ipv6_src = tt; ipv6_dst = tt }
+word_lawful word h = record {
+  in_port = tt;
+  vlan = h;
+  eth_type = tt;
+  ip_proto = tt;
+  eth_src = tt;
+  eth_dst = tt;
+  ipv4_src = tt;
+  ipv4_dst = tt;
+  tcp_src = tt;
+  tcp_dst = tt;
+  udp_src = tt;
+  udp_dst = tt;
+  ipv6_src = tt;
+  ipv6_dst = tt;
+}
 
 module _ {L : Type 0} where
   -- a part of a tree that entries can stand for, below a match and the tests of prerequisites that are passed
@@ -150,8 +165,14 @@ module _ {L : Type 0} where
 
   stays : (t : Tree L) (passed : List Test) (m : MatchFields) → Stands passed m t → StaysLawful m t
   stays (Tip l) passed m h = tt
-  stays (Fork s y n) passed m h =
-      (h.lawful.0, yes_held passed m s y n h, no_held passed m s y n h, stays y (and_prerequisite s passed) (passing s m) (stands_yes passed m s y n h), stays n passed (failing s m) (stands_no passed m s y n h))
+  stays (Fork s y n) passed m h = (
+    h.lawful.0,
+    yes_held passed m s y n h,
+    no_held passed m s y n h,
+    stays y (and_prerequisite s passed) (passing s m) (stands_yes passed m s y n h),
+    stays n passed (failing s m)
+        (stands_no passed m s y n h),
+  )
 
   -- on the paths of such a tree the match of a VLAN_VID word stays lawful
   pub stays_lawful : (word : ℕ) (t : Tree L) → IsKeyWord word → IsMatchable t → StaysLawful (vlan_match word) t

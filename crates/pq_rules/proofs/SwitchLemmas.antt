@@ -76,12 +76,14 @@ module _ {L : Type 0} (ts : List (Tree L)) where
 pub arriving_sound : (ts : List (Tree (Option Arrive))) (ids : List (Key × ℕ)) → AreArrivingWithin ts ids → AreSoundArriving (arriving_trees ts ids) → All (IsArrivingId ts) ids
 arriving_sound ts ids within sound =
     All-from_recursion (IsArrivingId ts) ids
-    (trees_at ts IsSoundArriving (λ p. (key_word p.0, p.1)) ids (recursion_from_All (λ p. p.1 < length ts) ids within) (recursion_from_All (λ p. IsSoundArriving p.0 p.1) (arriving_trees ts ids) sound.each))
+    (trees_at ts IsSoundArriving (λ p. (key_word p.0, p.1)) ids (recursion_from_All (λ p. p.1 < length ts) ids within)
+    (recursion_from_All (λ p. IsSoundArriving p.0 p.1) (arriving_trees ts ids) sound.each))
 
 pub leaving_sound : (ts : List (Tree (List Outgoing))) (ids : List (ℕ × ℕ)) → AreWithin ts ids → AreSoundLeaving (leaving_trees ts ids) → All (IsLeavingId ts) ids
 leaving_sound ts ids within sound =
     All-from_recursion (IsLeavingId ts) ids
-    (trees_at ts IsSoundLeaving (λ p. (tag_word p.0, p.1)) ids (recursion_from_All (λ p. p.1 < length ts) ids within) (recursion_from_All (λ p. IsSoundLeaving p.0 p.1) (leaving_trees ts ids) sound.each))
+    (trees_at ts IsSoundLeaving (λ p. (tag_word p.0, p.1)) ids (recursion_from_All (λ p. p.1 < length ts) ids within)
+    (recursion_from_All (λ p. IsSoundLeaving p.0 p.1) (leaving_trees ts ids) sound.each))
 
 -- Leaves of entries.
 
@@ -122,7 +124,8 @@ leaving_leaves seconds sound =
 pub count_within : (count n limit : ℕ) → count ≡ capped n → count ≤ limit → limit ≤ 16384 → n ≤ limit
 count_within count n limit is small few = omega (arith, is, small, few)
 
-pub tables_filled : (limit : ℕ) (firsts : ArrivingTrees) (seconds : LeavingTrees) → AreSoundArriving firsts → AreSoundLeaving seconds → limit ≤ 16384 → FitTables limit firsts seconds → AreFilled firsts seconds
+pub tables_filled : (limit : ℕ) (firsts : ArrivingTrees) (seconds : LeavingTrees) → AreSoundArriving firsts → AreSoundLeaving seconds → limit ≤ 16384 → FitTables limit firsts seconds
+    → AreFilled firsts seconds
 tables_filled limit firsts seconds arriving leaving few fit = record {
   arriving = arriving;
   leaving = leaving;
@@ -152,7 +155,8 @@ pub record AreGrouped (ts : List (Tree (List Outgoing))) (es : List (MatchFields
   pub groups : map buckets_of gs ≡ groups_of (resolved [] ts es)
   pub rules : placed_rules (resolved [] ts es) ps ≡ map (second_rule (groups_of (resolved [] ts es))) (resolved [] ts es)
 
-pub are_grouped : (ts : List (Tree (List Outgoing))) (es : List (MatchFields × ℕ)) (gs : List (List Outgoing)) (ps : List (Option ℕ)) → All (λ (e : MatchFields × ℕ). IsLeavingLeaf ts e.1) es → length es ≤ few
+pub are_grouped : (ts : List (Tree (List Outgoing))) (es : List (MatchFields × ℕ)) (gs : List (List Outgoing)) (ps : List (Option ℕ)) → All
+    (λ (e : MatchFields × ℕ). IsLeavingLeaf ts e.1) es → length es ≤ few
     → gs ≡ with_groups [] (resolved [] ts es) → ArePlaces gs (resolved [] ts es) ps → AreGrouped ts es gs ps
 are_grouped ts es gs ps leaves small taken places =
     let entries = resolved [] ts es in
@@ -173,7 +177,8 @@ are_grouped ts es gs ps leaves small taken places =
 
 -- Causes.
 
-pub many_cause : (datapath limit : ℕ) (firsts : ArrivingTrees) (seconds : LeavingTrees) (es : List (MatchFields × List Outgoing)) (fault : RulesFault) → FitTables limit firsts seconds → es ≡ leaving_entries seconds
+pub many_cause : (datapath limit : ℕ) (firsts : ArrivingTrees) (seconds : LeavingTrees) (es : List (MatchFields × List Outgoing)) (fault : RulesFault) → FitTables limit firsts seconds
+    → es ≡ leaving_entries seconds
     → IsMany datapath es fault → IsRulesFault datapath limit firsts seconds fault
 many_cause datapath limit firsts seconds es (TableFull s n count) fit is many = absurd many
 many_cause datapath limit firsts seconds es (GroupFull s copies) fit is many = (many.0, fit, ap many_copies (sym is) ∙ many.1)

@@ -5,3 +5,4 @@ pub mod Tables
 pub mod Grouping
 pub mod Refusals
 pub mod Renewing
+pub mod Examples

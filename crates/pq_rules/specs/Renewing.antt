@@ -12,9 +12,10 @@ use Rattle.pq_model.specs.Renewal.{renewal_messages}
 use Rattle.pq_rewrite.specs.declared.outgoing.Outgoing.{Outgoing}
 use Rattle.pq_rewrite.specs.declared.trees.Arrive.{Arrive}
 use Rattle.pq_store.specs.Tree.{Tree}
+use Rattle.pq_layout.specs.Actions.{buckets_of}
 use Rattle.pq_layout.specs.Messages.{Buckets, Rule, first_rule, groups_of, renewal_with, second_rule}
 use Rattle.pq_layout.specs.Sound.{IsSoundArrival, IsSoundCopy}
-use Rattle.pq_rules.specs.Grouping.{IsLeafAt, leaf_at}
+use Rattle.pq_rules.specs.Grouping.{IsLeafAt, leaf_at, placed_rules}
 
 -- the Add of an entry
 abbrev pub add_of : (xid table index : ℕ) → Rule → FlowValue
@@ -42,6 +43,14 @@ few = 16384
 -- places of few groups
 abbrev pub AreFewPlaces : List (Option ℕ) → Type 0
 AreFewPlaces ps = All (λ p. IfSome p (λ n. n < few)) ps
+
+-- a rule with these parts
+abbrev pub rule_of : MatchFields → List Action → Option ℕ → Rule
+rule_of m actions goto = record { matching = m; actions = actions; goto = goto }
+
+-- the messages of groups, given as copies, and of the entries of both tables, those of table 1 with the places of their groups
+abbrev pub messages_by : List (List Outgoing) → List (Option ℕ) → List (MatchFields × Option Arrive) → List (MatchFields × List Outgoing) → List Message
+messages_by groups places first second = renewal_messages (renewal_with (map buckets_of groups) (map first_rule first) (placed_rules second places))
 
 -- the messages of the entries of both tables
 abbrev pub messages_for : List (MatchFields × Option Arrive) → List (MatchFields × List Outgoing) → List Message

@@ -74,7 +74,7 @@ fn vlan_match(vlan: u16) -> Match
     }
 }
 
-/// Appends the matches and the leaves of a tree below a match.
+/// Appends the matches and the leaves of a tree below a match. It recurs on yes sides alone, of which a path has few.
 fn push_below<L: Leaf>(
     store: &Store<L>,
     node: NodeId,
@@ -85,17 +85,20 @@ fn push_below<L: Leaf>(
     requires stays { (t : Tree L) → slice_get store.now node ≡ Some t → StaysLawful matching.now t }
     ensures { OnOk result ((t : Tree L) → slice_get store.now node ≡ Some t → Finds store.now (matches_below matching.now t) found.old.items found.new.items) }
 {
-    match store.view(node) {
-        View::Leaf(_) => {
-            found.push((*matching, node))?;
-            Ok(())
-        }
-        View::Node(test, yes, no) => {
-            let passed = passing(test, matching);
-            push_below(store, yes, &passed, found)?;
-            let failed = failing(test, matching);
-            push_below(store, no, &failed, found)?;
-            Ok(())
+    let mut at = node;
+    let mut below = *matching;
+    loop {
+        match store.view(at) {
+            View::Leaf(_) => {
+                found.push((below, at))?;
+                return Ok(());
+            }
+            View::Node(test, yes, no) => {
+                let passed = passing(test, &below);
+                push_below(store, yes, &passed, found)?;
+                below = failing(test, &below);
+                at = no;
+            }
         }
     }
 }

@@ -1,5 +1,5 @@
 //! The groups of entries with more than one copy.
-ghost use Rattle.std.specs.Prelude.{◌≡◌, ◌<◌, ◌≤◌, ◌==◌, [], All, Some, length, map, slice_get, IfOk, OnOk};
+ghost use Rattle.std.specs.Prelude.{◌≡◌, ◌==◌, [], All, Some, map, slice_get, IfOk, OnOk};
 ghost use Rattle.indexmap.specs.IndexSet.{insert_key};
 ghost use Rattle.pq_apply.specs.Memo.{Remembers};
 ghost use Rattle.pq_rewrite.specs.Leaves.{copies_eq};

@@ -1,7 +1,6 @@
 //! The messages that fill a switch's tables (OpenFlow 1.3.5, sections 7.3.4 and 7.3.8).
-ghost use Rattle.std.specs.Prelude.{◌≡◌, ◌<◌, ◌≤◌, ◌+◌, ◌^◌, ◌++◌, ◌∷◌, [], All, IfOk, IfSome, OnOk, length, map, not, None};
+ghost use Rattle.std.specs.Prelude.{◌≡◌, ◌<◌, ◌≤◌, ◌+◌, ◌^◌, ◌++◌, ◌∷◌, [], All, IfOk, IfSome, OnOk, length, map, None};
 ghost use Rattle.pq_model.specs.declared.message.Message.TheVariants.{Barrier, Flow, Group};
-ghost use Rattle.pq_model.specs.Renewal.{renewal_messages};
 ghost use Rattle.pq_layout.specs.Actions.{buckets_of};
 ghost use Rattle.pq_layout.specs.Messages.{
   adds_from,
@@ -10,11 +9,10 @@ ghost use Rattle.pq_layout.specs.Messages.{
   first_rule,
   groups_from,
   is_untagged,
-  renewal_with,
 };
 ghost use Rattle.pq_layout.specs.Sound.{IsSoundCopy};
-ghost use Rattle.pq_rules.specs.Grouping.{IsLeafAt, leaf_at, placed_actions, placed_rule, placed_rules, resolved};
-ghost use Rattle.pq_rules.specs.Renewing.{AreFewPlaces, IsArrivingLeaf, IsLeavingLeaf, IsRule, add_of, few, group_of};
+ghost use Rattle.pq_rules.specs.Grouping.{leaf_at, placed_actions, placed_rules, resolved};
+ghost use Rattle.pq_rules.specs.Renewing.{AreFewPlaces, IsArrivingLeaf, IsLeavingLeaf, IsRule, add_of, few, group_of, messages_by, rule_of};
 
 use crate::actions::{arrival_actions, copy_actions};
 use crate::grouping::{Grouping, leaf_copies};
@@ -50,7 +48,7 @@ pub(crate) fn renewal(
     requires groups { All (All IsSoundCopy) grouping.now.groups.keys }
     requires places { AreFewPlaces grouping.now.places.items }
     requires placed { length grouping.now.places.items ≡ length second_entries.now }
-    ensures { IfOk result (λ ms. ms.items ≡ renewal_messages (renewal_with (map buckets_of grouping.now.groups.keys) (map first_rule (resolved None first.now first_entries.now)) (placed_rules (resolved [] second.now second_entries.now) grouping.now.places.items))) }
+    ensures { IfOk result (λ ms. ms.items ≡ messages_by grouping.now.groups.keys grouping.now.places.items (resolved None first.now first_entries.now) (resolved [] second.now second_entries.now)) }
 {
     let mut messages = Vec::new(first.allocator());
     push_deletes(&mut messages)?;
@@ -263,7 +261,7 @@ fn push_add(
     goto: Option<u8>,
 ) -> Result<(), AllocError>
     requires { length messages.old.items < 2 ^ 31 }
-    ensures { OnOk result (messages.new.items ≡ messages.old.items ++ Flow (add_of (length messages.old.items + 1) table index (record { matching = matching.now; actions = actions.items; goto = goto })) ∷ []) }
+    ensures { OnOk result (messages.new.items ≡ messages.old.items ++ Flow (add_of (length messages.old.items + 1) table index (rule_of matching.now actions.items goto)) ∷ []) }
 {
     let xid = next_xid(messages);
     messages.push(Message::Flow(FlowMod {

@@ -41,7 +41,8 @@ loop-index-preserved c =
           let pushed = ap (λ v. v.items) w.all-is ∙ w.in-Ok-push.ensures.items in
           record {
             fault = fits_next ss all k s u whole full below c.index-switches-index.is among here c.loop-index.invariant.fault c.match-rules.full w.full-is fit;
-            lawful = one_lawful IsLawfulList (λ ms. ms.items) c.loop-index.all.items c.match-rules.all.items w.in-Ok.messages pushed (w.in-Ok.ensures.few, w.in-Ok.ensures.lawful) c.loop-index.invariant.lawful;
+            lawful = one_lawful IsLawfulList (λ ms. ms.items) c.loop-index.all.items c.match-rules.all.items w.in-Ok.messages pushed
+                (w.in-Ok.ensures.few, w.in-Ok.ensures.lawful) c.loop-index.invariant.lawful;
             filled = λ none. one_filled (λ ms. ms.items) all k u c.loop-index.all.items c.match-rules.all.items w.in-Ok.messages among here pushed
                 (record { messages = w.in-Ok.ensures.ok; filled = w.in-Ok.ensures.filled }) (c.loop-index.invariant.filled (sym w.full-is ∙ none));
           }
@@ -49,9 +50,11 @@ loop-index-preserved c =
           let d = w.in-Err-GroupFull.switch in
           let n = w.in-Err-GroupFull.copies in
           let is : IsRulesFault s.datapath s.limit u.first u.second (GroupFull d n) =
-          subst (λ z. IsRulesFault z.datapath z.limit u.first u.second (GroupFull d n)) c.switch.view_is (subst (IsRulesFault c.switch.inside.datapath c.switch.inside.limit u.first u.second) w.in-Err-GroupFull.field-0-is w.in-Err-GroupFull.ensures.cause) in
+          subst (λ z. IsRulesFault z.datapath z.limit u.first u.second (GroupFull d n)) c.switch.view_is
+          (subst (IsRulesFault c.switch.inside.datapath c.switch.inside.limit u.first u.second) w.in-Err-GroupFull.field-0-is w.in-Err-GroupFull.ensures.cause) in
           record {
-            fault = first_next ss all k s u whole full below c.index-switches-index.is among here c.loop-index.invariant.fault c.match-rules.full d n (is_nowhere full w.if-is_none.ensures) w.full-is is;
+            fault = first_next ss all k s u whole full below c.index-switches-index.is among here c.loop-index.invariant.fault c.match-rules.full d n
+                (is_nowhere full w.if-is_none.ensures) w.full-is is;
             lawful = subst (λ v. All IsLawfulList (map (λ ms. ms.items) v.items)) (sym w.all-is) c.loop-index.invariant.lawful;
             filled = λ none. absurd (none-some (d, n) (sym none ∙ w.full-is));
           }
@@ -59,7 +62,8 @@ loop-index-preserved c =
           let d = w.in-Err-GroupFull.switch in
           let n = w.in-Err-GroupFull.copies in
           let is : IsRulesFault s.datapath s.limit u.first u.second (GroupFull d n) =
-          subst (λ z. IsRulesFault z.datapath z.limit u.first u.second (GroupFull d n)) c.switch.view_is (subst (IsRulesFault c.switch.inside.datapath c.switch.inside.limit u.first u.second) w.in-Err-GroupFull.field-0-is w.in-Err-GroupFull.ensures.cause) in
+          subst (λ z. IsRulesFault z.datapath z.limit u.first u.second (GroupFull d n)) c.switch.view_is
+          (subst (IsRulesFault c.switch.inside.datapath c.switch.inside.limit u.first u.second) w.in-Err-GroupFull.field-0-is w.in-Err-GroupFull.ensures.cause) in
           let some = is_somewhere full w.if-is_none.ensures in
           record {
             fault = later_next ss all k s u whole full below c.index-switches-index.is among here c.loop-index.invariant.fault c.match-rules.full d n some.0 some.1 w.full-is is;

@@ -6,6 +6,7 @@ use Rattle.pq_join.proofs.Arrivals.{arriving_whole}
 use Rattle.pq_join.proofs.Leavings.{leaving_whole}
 use Rattle.pq_join.proofs.Linking.{no_port_zero}
 use Rattle.pq_join.proofs.Rooms.{departures_room, departures_within, policy_room, seen_room, sight_room}
+use Rattle.pq_join.proofs.Testing.{arriving_ports, leaving_ports}
 use Rattle.pq_join.proofs.trees.switch_trees.Goals as goal
 
 pub sight-requires : goal.sight-requires
@@ -48,3 +49,12 @@ returns-clause-leaving c p p_is =
     c.in_ok-seen.seen c.in_ok-seen.root c.in_ok-seen.ensures c.args.forward.now c.args.policy c.at_number-here.result c.at_number-here.ensures.restricts
     c.in_ok-departures.departures c.in_ok-departures.node c.in_ok-departures.ensures p p_is (c.requires.idle_free p p_is)
     c.leaving_trees.new.second c.in_ok-leaving.leaving.items c.in_ok-leaving.ensures.leaves
+
+pub returns-clause-ports : goal.returns-clause-ports
+returns-clause-ports c policy letters = (
+  arriving_ports c.args.topology.now c.args.letters.now c.args.datapath c.switches-named.ensures.lawful.lawful c.count.ensures.lettered.root letters
+      c.in_ok-seen.seen c.in_ok-seen.root c.in_ok-seen.ensures c.args.classes.now c.arriving_trees.new.first c.in_ok-arriving.arriving.items c.in_ok-arriving.ensures.arrives,
+  leaving_ports c.args.topology.now c.args.letters.now c.args.datapath c.switches-named.ensures.lawful.lawful c.count.ensures.lettered.root letters
+      c.in_ok-seen.seen c.in_ok-seen.root c.in_ok-seen.ensures c.args.classes.now c.args.forward.now c.args.policy c.at_number-here.result c.requires.policy c.at_number-here.ensures.restricts policy
+      c.in_ok-departures.departures c.in_ok-departures.node c.in_ok-departures.ensures c.leaving_trees.new.second c.in_ok-leaving.leaving.items c.in_ok-leaving.ensures.leaves,
+)

@@ -25,4 +25,5 @@ loop-root-preserved g c =
     root.1.0 root.1.1 (c.in_ok-push_tree.ensures root.1.0 root.1.1) c.loop-root.invariant
 
 pub returns : goal.returns
-returns g c = all_complete c.args.store.now c.args.roots.now c.loop-root.root-index c.loop-root.found.items (drop_all c.loop-root.root-index c.args.roots.now c.loop-root-test.false) c.loop-root.invariant
+returns g c = all_complete c.args.store.now c.args.roots.now c.loop-root.root-index c.loop-root.found.items
+    (drop_all c.loop-root.root-index c.args.roots.now c.loop-root-test.false) c.loop-root.invariant

@@ -10,7 +10,8 @@ group_place-requires-clause-leaf c = element (λ e. IsLeafAt c.args.store.now e.
 
 pub loop-entry-preserved : goal.loop-entry-preserved
 loop-entry-preserved c =
-    let both = entry_grouped c.args.store.now c.args.entries.now c.loop-entry.entry-index c.entry-item.result c.loop-entry.groups.keys c.group_place.new.groups.keys c.loop-entry.places.items c.push.new.self.items
+    let both = entry_grouped c.args.store.now c.args.entries.now c.loop-entry.entry-index c.entry-item.result c.loop-entry.groups.keys c.group_place.new.groups.keys
+    c.loop-entry.places.items c.push.new.self.items
     c.in_ok-place.place c.loop-entry-test.true c.entry-item.is c.in_ok-place.ensures.groups c.in_ok-place.ensures.place c.in_ok-push.ensures.items c.loop-entry.invariant.0 c.loop-entry.invariant.1 in
     (both.0, both.1, c.in_ok-place.ensures.known)
 

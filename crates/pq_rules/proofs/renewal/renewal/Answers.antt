@@ -16,9 +16,11 @@ grouped c =
     ∙ ap (λ k. 3 + k) (length-map c.args.grouping.now.groups.keys buckets_of)
 
 -- and the barrier behind them
-fourth : (c : In_ok-push_barrier-2) → length c.push_groups.new.messages.items ≡ 3 + length c.args.grouping.now.groups.keys → length c.push_barrier-2.new.messages.items ≡ 4 + length c.args.grouping.now.groups.keys
+fourth : (c : In_ok-push_barrier-2) → length c.push_groups.new.messages.items ≡ 3 + length c.args.grouping.now.groups.keys
+    → length c.push_barrier-2.new.messages.items ≡ 4 + length c.args.grouping.now.groups.keys
 fourth c long =
-    let one = one_longer c.push_groups.new.messages.items c.push_barrier-2.new.messages.items (Barrier (length c.push_groups.new.messages.items + 1)) c.in_ok-push_barrier-2.ensures in omega (arith, one, long)
+    let one = one_longer c.push_groups.new.messages.items c.push_barrier-2.new.messages.items (Barrier (length c.push_groups.new.messages.items + 1)) c.in_ok-push_barrier-2.ensures in omega
+    (arith, one, long)
 
 -- and the entries of table 0
 fifth : (c : In_ok-push_first) → length c.push_barrier-2.new.messages.items ≡ 4 + length c.args.grouping.now.groups.keys
@@ -74,6 +76,7 @@ returns c =
       grouped = c.in_ok-push_barrier-2.ensures;
       entries = c.in_ok-push_first.ensures;
       others = c.in_ok-push_second.ensures
-          ∙ ap (λ ps. c.push_first.new.messages.items ++ map Flow (adds_from (length c.push_first.new.messages.items + 1) 1 0 (placed_rules (resolved [] c.args.second.now c.args.second_entries.now) ps))) c.deref.ensures.value;
+          ∙ ap (λ ps. c.push_first.new.messages.items ++ map Flow
+          (adds_from (length c.push_first.new.messages.items + 1) 1 0 (placed_rules (resolved [] c.args.second.now c.args.second_entries.now) ps))) c.deref.ensures.value;
       filled = c.in_ok-push_barrier-3.ensures;
     })

@@ -20,6 +20,7 @@ key_word-requires c = (tree (goal.at.key_word-requires c).After-id-item).2.vlan
 pub loop-id-preserved : goal.loop-id-preserved
 loop-id-preserved c =
     let it = tree (goal.at.loop-id-preserved c).After-id-item in
-    root_pushed is_nothing c.args.store.now (λ p. (key_word p.0, p.1)) c.args.ids.now c.loop-id.id-index c.id-item.result c.loop-id.roots.items c.push_root.new.roots.items it.0 c.is_nothing-blank.result
+    root_pushed is_nothing c.args.store.now (λ p. (key_word p.0, p.1)) c.args.ids.now c.loop-id.id-index c.id-item.result c.loop-id.roots.items
+    c.push_root.new.roots.items it.0 c.is_nothing-blank.result
     c.loop-id-test.true c.id-item.is it.1 (it.2.vlan) it.2.matchable c.is_nothing-blank.ensures
     (c.in_ok-push_root.ensures ∙ ap (λ w. if c.is_nothing-blank.result then c.loop-id.roots.items else c.loop-id.roots.items ++ (w, c.id-item.result.1) ∷ []) c.key_word.ensures) c.loop-id.invariant

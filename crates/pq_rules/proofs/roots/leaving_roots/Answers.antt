@@ -20,5 +20,6 @@ overflow_add-id c = let it = tree (goal.at.overflow_add-id c).After-id-item in l
 pub loop-id-preserved : goal.loop-id-preserved
 loop-id-preserved c =
     let it = tree (goal.at.loop-id-preserved c).After-id-item in
-    root_pushed is_without c.args.store.now (λ p. (tag_word p.0, p.1)) c.args.ids.now c.loop-id.id-index c.id-item.result c.loop-id.roots.items c.push_root.new.roots.items it.0 c.is_without-blank.result
+    root_pushed is_without c.args.store.now (λ p. (tag_word p.0, p.1)) c.args.ids.now c.loop-id.id-index c.id-item.result c.loop-id.roots.items
+    c.push_root.new.roots.items it.0 c.is_without-blank.result
     c.loop-id-test.true c.id-item.is it.1 (inr it.2.vlan) it.2.matchable c.is_without-blank.ensures c.in_ok-push_root.ensures c.loop-id.invariant

@@ -33,11 +33,13 @@ limited_entries-requires-2-clause-roots c = subst (All (IsRoot c.args.second.now
 -- their entries
 first_same : (c : In_ok-first_entries) → matches_of (trees_with c.args.first.now c.deref-2.result.now) ≡ table_of is_nothing (arriving_trees c.args.first.now c.args.trees.now.arriving.items)
 first_same c =
-    ap (λ r. matches_of (trees_with c.args.first.now r)) c.deref-2.ensures.value ∙ c.in_ok-arriving.ensures.entries ∙ ap (λ i. table_of is_nothing (arriving_trees c.args.first.now i)) c.deref.ensures.value
+    ap (λ r. matches_of (trees_with c.args.first.now r)) c.deref-2.ensures.value ∙ c.in_ok-arriving.ensures.entries ∙ ap
+    (λ i. table_of is_nothing (arriving_trees c.args.first.now i)) c.deref.ensures.value
 
 second_same : (c : In_ok-second_entries) → matches_of (trees_with c.args.second.now c.deref-4.result.now) ≡ leaving_entries (leaving_trees c.args.second.now c.args.trees.now.leaving.items)
 second_same c =
-    ap (λ r. matches_of (trees_with c.args.second.now r)) c.deref-4.ensures.value ∙ c.in_ok-leaving.ensures.entries ∙ ap (λ i. table_of is_without (leaving_trees c.args.second.now i)) c.deref-3.ensures.value
+    ap (λ r. matches_of (trees_with c.args.second.now r)) c.deref-4.ensures.value ∙ c.in_ok-leaving.ensures.entries ∙ ap
+    (λ i. table_of is_without (leaving_trees c.args.second.now i)) c.deref-3.ensures.value
 
 first_found : (c : In_ok-first_entries) → AreFound c.args.first.now (table_of is_nothing (arriving_trees c.args.first.now c.args.trees.now.arriving.items)) c.in_ok-first_entries.first_entries.items
 first_found c = subst (λ ms. AreFound c.args.first.now ms c.in_ok-first_entries.first_entries.items) (first_same c) c.in_ok-first_entries.ensures.found
@@ -83,7 +85,8 @@ pub messages-requires-clause-first_leaves : goal.messages-requires-clause-first_
 messages-requires-clause-first_leaves c =
     let at = (goal.at.messages-requires-clause-first_leaves c).In_ok-first_entries in
     subst (All (λ (e : MatchFields × ℕ). IsArrivingLeaf c.args.first.now e.1)) (sym c.deref-6.ensures.value)
-    (found_leaves c.args.first.now IsSoundArrival None (table_of is_nothing (arriving_trees c.args.first.now c.args.trees.now.arriving.items)) c.in_ok-first_entries.first_entries.items (first_found at)
+    (found_leaves c.args.first.now IsSoundArrival None (table_of is_nothing (arriving_trees c.args.first.now c.args.trees.now.arriving.items)) c.in_ok-first_entries.first_entries.items
+    (first_found at)
     (arriving_leaves (arriving_trees c.args.first.now c.args.trees.now.arriving.items) c.requires.arriving))
 
 pub messages-requires-clause-second_leaves : goal.messages-requires-clause-second_leaves
@@ -94,7 +97,8 @@ pub returns-in_err-few_copies-clause-cause : goal.returns-in_err-few_copies-clau
 returns-in_err-few_copies-clause-cause c =
     let at = goal.at.returns-in_err-few_copies-clause-cause c in
     let same = ap (resolved [] c.args.second.now) c.deref-5.ensures.value
-    ∙ found_resolved c.args.second.now [] (leaving_entries (leaving_trees c.args.second.now c.args.trees.now.leaving.items)) c.in_ok-second_entries.second_entries.items (second_found at.In_ok-second_entries) in
+    ∙ found_resolved c.args.second.now [] (leaving_entries (leaving_trees c.args.second.now c.args.trees.now.leaving.items)) c.in_ok-second_entries.second_entries.items
+    (second_found at.In_ok-second_entries) in
     err_such c.from_residual-in_err-few_copies.result c.in_err-few_copies.field-0.0
     (IsRulesFault c.args.datapath c.args.limit (arriving_trees c.args.first.now c.args.trees.now.arriving.items) (leaving_trees c.args.second.now c.args.trees.now.leaving.items))
     c.from_residual-in_err-few_copies.ensures.1
@@ -133,14 +137,16 @@ pub returns-clause-lawful : goal.returns-clause-lawful
 returns-clause-lawful c =
     let at = goal.at.returns-clause-lawful c in
     subst (All IsLawfulMessage) (sym (made c (first_found at.In_ok-first_entries) (second_found at.In_ok-second_entries)))
-    (messages_lawful c.args.limit (arriving_trees c.args.first.now c.args.trees.now.arriving.items) (leaving_trees c.args.second.now c.args.trees.now.leaving.items) c.requires.arriving c.requires.leaving c.requires.limit
+    (messages_lawful c.args.limit (arriving_trees c.args.first.now c.args.trees.now.arriving.items)
+    (leaving_trees c.args.second.now c.args.trees.now.leaving.items) c.requires.arriving c.requires.leaving c.requires.limit
     (fits c (fit at.In_ok-second_entries (first_few at.In_ok-first_entries)) (second_found at.In_ok-second_entries)))
 
 pub returns-clause-few : goal.returns-clause-few
 returns-clause-few c =
     let at = goal.at.returns-clause-few c in
     subst (λ (ms : List Message). length ms < 2 ^ 32) (sym (made c (first_found at.In_ok-first_entries) (second_found at.In_ok-second_entries)))
-    (messages_few c.args.limit (arriving_trees c.args.first.now c.args.trees.now.arriving.items) (leaving_trees c.args.second.now c.args.trees.now.leaving.items) c.requires.arriving c.requires.leaving c.requires.limit
+    (messages_few c.args.limit (arriving_trees c.args.first.now c.args.trees.now.arriving.items)
+    (leaving_trees c.args.second.now c.args.trees.now.leaving.items) c.requires.arriving c.requires.leaving c.requires.limit
     (fits c (fit at.In_ok-second_entries (first_few at.In_ok-first_entries)) (second_found at.In_ok-second_entries)))
 
 pub returns-clause-fits : goal.returns-clause-fits
@@ -151,12 +157,14 @@ returns-clause-fits c =
 pub returns-clause-filled : goal.returns-clause-filled
 returns-clause-filled c =
     let at = goal.at.returns-clause-filled c in
-    tables_filled c.args.limit (arriving_trees c.args.first.now c.args.trees.now.arriving.items) (leaving_trees c.args.second.now c.args.trees.now.leaving.items) c.requires.arriving c.requires.leaving c.requires.limit
+    tables_filled c.args.limit (arriving_trees c.args.first.now c.args.trees.now.arriving.items)
+    (leaving_trees c.args.second.now c.args.trees.now.leaving.items) c.requires.arriving c.requires.leaving c.requires.limit
     (fit at.In_ok-second_entries (first_few at.In_ok-first_entries))
 
 pub returns-clause-renewing : goal.returns-clause-renewing
 returns-clause-renewing c =
     let at = goal.at.returns-clause-renewing c in
     renewing (arriving_trees c.args.first.now c.args.trees.now.arriving.items) (leaving_trees c.args.second.now c.args.trees.now.leaving.items)
-    (tables_filled c.args.limit (arriving_trees c.args.first.now c.args.trees.now.arriving.items) (leaving_trees c.args.second.now c.args.trees.now.leaving.items) c.requires.arriving c.requires.leaving c.requires.limit
+    (tables_filled c.args.limit (arriving_trees c.args.first.now c.args.trees.now.arriving.items)
+    (leaving_trees c.args.second.now c.args.trees.now.leaving.items) c.requires.arriving c.requires.leaving c.requires.limit
     (fit at.In_ok-second_entries (first_few at.In_ok-first_entries)))

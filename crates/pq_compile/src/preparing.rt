@@ -1,0 +1,243 @@
+//! What the tables of a document's network are made from.
+ghost use Rattle.std.specs.Prelude.{IfErr, IfOk, OnOk};
+ghost use Rattle.pq_compile.specs.Documents.{document_tree};
+ghost use Rattle.pq_store.specs.Store.{HasAt};
+ghost use Rattle.pq_meaning.specs.Parts.{IsUnionOfParts};
+ghost use Rattle.pq_compile.specs.Prepared.{
+  HasFewValues,
+  IsClassified,
+  IsCompilable,
+  IsPrepareFault,
+  IsPrepared,
+  IsTold,
+  parts_in,
+  queries_in,
+};
+ghost use Rattle.pq_query.specs.Instances.{IsCause, label_sum};
+
+use crate::document::Document;
+use pq_classes::{QueryClasses, query_classes};
+use pq_emit::all_trees;
+use pq_fields::Field;
+use pq_io::Steps;
+use pq_join::{tests_stand_below_prerequisites, trees_are_sound, trees_test_ports};
+use pq_letters::Letters;
+use pq_meaning::{parts_depart, parts_forward, parts_ignore_lacking};
+use pq_min::Classes;
+use pq_query::{Instance, InstancesFault};
+use pq_rewrite::{Arrive, Copies, SwitchTrees, WriteSet};
+use pq_store::{NodeId, Store};
+use pq_values::values_full;
+use std::alloc::{AllocError, Global};
+use std::sync::ledger::Ledger;
+use thiserror::Error;
+
+/// The most classes of words: each has a tag.
+const MOST_CLASSES: u64 = 4094;
+
+/// Diagrams, letters and classes of a document, and the trees of its network.
+#[derive(Drop)]
+pub struct Prepared {
+    /// The store of the policy's diagram, and its place.
+    pub forward: Store<WriteSet>,
+    pub policy: NodeId,
+    /// The letters of packets that the queries tell apart, and the classes of words over them.
+    pub letters: Letters,
+    pub classes: Classes,
+    /// The instances of the queries.
+    pub instances: Vec<Instance>,
+    /// The stores of the trees of the first and of the second table.
+    pub first: Store<Option<Arrive>>,
+    pub second: Store<Copies>,
+    /// The trees of each switch, in the topology's order.
+    pub trees: Vec<SwitchTrees>,
+}
+
+/// Why a document can't be prepared.
+#[derive(Debug, Drop, Error)]
+pub enum PrepareFault {
+    /// This is the first field, in field order, with more stated values than its limit: so many.
+    #[error("{field:?} has {count} stated values")]
+    ValuesFull { field: Field, count: u64 },
+    /// There are more than 1,024 instances: so many, or 4,294,967,295 where there are more.
+    #[error("{count} instances")]
+    InstancesFull { count: u32 },
+    /// There are more than 4,094 classes of words: so many.
+    #[error("{classes} classes")]
+    TagWidth { classes: u64 },
+    /// There is not enough memory.
+    #[error("out of memory")]
+    Memory,
+}
+
+impl From<AllocError> for PrepareFault {
+    fn from(_fault: AllocError) -> PrepareFault {
+        PrepareFault::Memory
+    }
+}
+
+/// The first field, in field order, for which a document states more numbers than its limit allows, is a fault.
+fn few_values(alloc: Global, document: &Document) -> Result<(), PrepareFault>
+    ensures few { OnOk result (HasFewValues (document_tree document.now)) }
+    ensures cause { IfErr result (IsPrepareFault (document_tree document.now)) }
+{
+    match values_full(
+        alloc,
+        &document.topology,
+        &document.parts,
+        &document.queries,
+    ) {
+        Ok(None) => Ok(()),
+        Ok(Some((field, count))) => Err(PrepareFault::ValuesFull { field, count }),
+        Err(_) => Err(PrepareFault::Memory),
+    }
+}
+
+/// What the queries of a document tell apart.
+fn told<L: Ledger>(
+    alloc: Global,
+    document: &Document,
+    steps: &mut Steps<L>,
+) -> Result<QueryClasses, InstancesFault>
+    requires compilable { IsCompilable (document_tree document.now) }
+    requires values { HasFewValues (document_tree document.now) }
+    ensures told { IfOk result (IsTold (document_tree document.now)) }
+    ensures cause { IfErr result (λ fault. IsCause fault (label_sum document.now.topology (queries_in (document_tree document.now)))) }
+{
+    let mut tests = Store::new(alloc);
+    match query_classes(
+        alloc,
+        &document.queries,
+        &document.topology,
+        &mut tests,
+        steps,
+    ) {
+        Ok(told) => Ok(told),
+        Err(fault) => Err(fault),
+    }
+}
+
+/// The instances of a document's queries, the letters that they tell apart and the classes of words, of which there are at most
+/// 4,094.
+fn classified<L: Ledger>(
+    alloc: Global,
+    document: &Document,
+    steps: &mut Steps<L>,
+) -> Result<QueryClasses, PrepareFault>
+    requires compilable { IsCompilable (document_tree document.now) }
+    requires values { HasFewValues (document_tree document.now) }
+    ensures classified { IfOk result (IsClassified (document_tree document.now)) }
+    ensures cause { IfErr result (IsPrepareFault (document_tree document.now)) }
+{
+    match told(alloc, document, steps) {
+        Ok(told) => {
+            let classes = told.classes.count();
+            if classes > MOST_CLASSES {
+                return Err(PrepareFault::TagWidth { classes });
+            }
+            Ok(told)
+        }
+        Err(InstancesFault::InstancesFull { count }) => Err(PrepareFault::InstancesFull { count }),
+        Err(InstancesFault::Memory) => Err(PrepareFault::Memory),
+    }
+}
+
+/// The diagram of what the parts of a document forward.
+fn forwarded<L: Ledger>(
+    document: &Document,
+    store: &mut Store<WriteSet>,
+    steps: &mut Steps<L>,
+) -> Result<NodeId, AllocError>
+    requires compilable { IsCompilable (document_tree document.now) }
+    requires values { HasFewValues (document_tree document.now) }
+    ensures policy { IfOk result (λ id. HasAt (IsUnionOfParts document.now.topology (parts_in (document_tree document.now))) store.new id) }
+{
+    let mut tests = Store::new(store.allocator());
+    let id = parts_forward(
+        &mut tests,
+        store,
+        &document.parts,
+        &document.topology,
+        steps,
+    )?;
+    Ok(id)
+}
+
+/// The trees of a document's network, from what its queries tell apart.
+fn joined<L: Ledger>(
+    document: &Document,
+    told: QueryClasses,
+    steps: &mut Steps<L>,
+) -> Result<Prepared, AllocError>
+    requires compilable { IsCompilable (document_tree document.now) }
+    requires values { HasFewValues (document_tree document.now) }
+    requires told { IsClassified (document_tree document.now) told }
+    ensures { IfOk result (IsPrepared (document_tree document.now)) }
+{
+    let QueryClasses {
+        instances,
+        letters,
+        classes,
+    } = told;
+    let alloc = *instances.allocator();
+    let mut forward = Store::new(alloc);
+    let policy = forwarded(document, &mut forward, steps)?;
+    // What is lawful of topologies, letters, classes and diagrams, and the laws of trees.
+    document.topology.switches();
+    letters.count();
+    classes.is_lawful();
+    forward.has_diagrams();
+    parts_depart();
+    parts_ignore_lacking();
+    trees_are_sound();
+    tests_stand_below_prerequisites();
+    trees_test_ports();
+    let mut first = Store::new(alloc);
+    let mut second = Store::new(alloc);
+    let trees = all_trees(
+        &document.topology,
+        &forward,
+        policy,
+        &letters,
+        &classes,
+        &mut first,
+        &mut second,
+    )?;
+    Ok(Prepared {
+        forward,
+        policy,
+        letters,
+        classes,
+        instances,
+        first,
+        second,
+        trees,
+    })
+}
+
+/// The diagrams, letters and classes of a document and the trees of its network, or the first limit that it goes beyond.
+///
+/// The document is lawful, and each query has fewer than 2^19 atoms. Each union and sequence of diagrams, and each step of a
+/// state, is counted.
+pub fn prepare<L: Ledger>(
+    alloc: Global,
+    document: &Document,
+    steps: &mut Steps<L>,
+) -> Result<Prepared, PrepareFault>
+    requires { IsCompilable (document_tree document.now) }
+    ensures prepared { IfOk result (IsPrepared (document_tree document.now)) }
+    ensures cause { IfErr result (IsPrepareFault (document_tree document.now)) }
+{
+    match few_values(alloc, document) {
+        Ok(()) => {}
+        Err(fault) => return Err(fault),
+    }
+    let told = match classified(alloc, document, steps) {
+        Ok(told) => told,
+        Err(fault) => return Err(fault),
+    };
+    match joined(document, told, steps) {
+        Ok(prepared) => Ok(prepared),
+        Err(_) => Err(PrepareFault::Memory),
+    }
+}

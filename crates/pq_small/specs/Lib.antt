@@ -1,6 +1,0 @@
-pub mod Compiled
-pub mod Reading
-pub mod Slots
-pub mod SmallForm
-pub mod SmallInstall
-pub mod SmallSpelling
