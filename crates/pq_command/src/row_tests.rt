@@ -30,7 +30,7 @@ fn answer(alloc: Global, command: &str, bytes: &[u8]) -> Result<(Outcome, Vec<u8
     let mut words = Vec::new(alloc);
     words.push(String::from_str(alloc, command)?)?;
     let mut source = MemorySource::new(Vec::from_slice(alloc, bytes)?, Vec::new(alloc));
-    let mut sink = MemorySink::new(alloc, Vec::new(alloc), 0, 600_000)?;
+    let mut sink = MemorySink::new(alloc, Vec::new(alloc), 0, 3_000_000)?;
     let outcome = run(alloc, &words, &mut source, &mut sink);
     Ok((outcome, Vec::from_slice(alloc, sink.put())?))
 }
