@@ -124,7 +124,7 @@ fn each_document_has_its_install(rt: HostRuntime) -> Result<(), Fail> {
             bytes: None,
             entries: 17,
             groups: 0,
-            schedule: "inject 1 1 eth_type=2048 ip_proto=17 udp_dst=80 tcp_dst=80\nhop 0\ninject 1 1 eth_type=2054 tcp_dst=80\nhop 0\n",
+            schedule: "inject 1 1 eth_type=2048 ip_proto=17 tcp_dst=80 udp_dst=80\nhop 0\ninject 1 1 eth_type=2054 tcp_dst=80\nhop 0\n",
             output: "",
         },
         Row {
