@@ -1,67 +1,27 @@
 -- The first match of a tree's entries that covers a packet has the leaf that the packet reaches.
-use Rattle.std.proofs.Common.{◌≡◌, ◌≢◌, inl, inr, ℕ, ◌-◌, ◌<◌, Bool, true, false, not, if◌then◌else◌, List, [], ◌∷◌, ◌++◌, Some, None, refl, sym, ap, subst, ◌∙◌, arith}
+use Rattle.std.proofs.Common.{◌≡◌, ◌≢◌, inl, inr, ℕ, ◌-◌, Bool, true, false, not, if◌then◌else◌, List, [], ◌∷◌, ◌++◌, Some, None, refl, sym, ap, subst, ◌∙◌}
 use Rattle.std.specs.Prelude.{◌&&◌}
 use Rattle.std.specs.declared.option.Option.{Option}
-use Rattle.std.proofs.lemmas.Bool.{cases_eq, eq-eqb, ne_eqb}
-use Rattle.pq_fields.specs.declared.field.Field.{Field}
+use Rattle.std.proofs.lemmas.Bool.{eq-eqb, ne_eqb}
 use Rattle.pq_fields.specs.declared.field.Field.TheVariants.{Switch}
-use Rattle.pq_fields.specs.Packet.{bit_in, rank, width_of}
+use Rattle.pq_fields.specs.Packet.{bit_in, width_of}
 use Rattle.pq_model.specs.MatchFields.{MatchFields, covers, vlan_word}
 use Rattle.pq_model.specs.Tagged.{TaggedPacket}
 use Rattle.pq_store.specs.declared.test.Test.{Test}
 use Rattle.pq_store.specs.declared.test.Test.TheVariants.{Equal, Bit}
-use Rattle.pq_store.specs.Test.{IsLawful, Precedes, field_of, passes}
+use Rattle.pq_store.specs.Test.{IsLawful, field_of, passes}
 use Rattle.pq_store.specs.Tree.{Tree, value, IsTested}
 use Rattle.pq_store.specs.Tree.Tree.{Tip, Fork}
-use Rattle.pq_store.specs.Diagram.{AllLawful, Ascends, AsksOnce, Skips, SkipsBelow}
+use Rattle.pq_store.specs.Diagram.{AllLawful, Ascends, AsksOnce}
 use Rattle.pq_store.specs.Laws.{IsUntested}
-use Rattle.pq_store.proofs.Order.{before_tested, rank_injective}
-use Rattle.pq_layout.specs.Entries.{with_bit, with_number, passing, failing, matches_below, vlan_match}
+use Rattle.pq_store.proofs.Order.{before_tested}
+use Rattle.pq_layout.specs.Entries.{passing, failing, matches_below, vlan_match}
 use Rattle.pq_layout.specs.Sound.{IsMatchable}
 use Rattle.pq_lookup.specs.Lookup.{EntriesAnswer, EntriesPassOver, first_covering}
-use Rattle.pq_lookup.proofs.MaskedBits.{AreWhole, stated_whole}
-use Rattle.pq_lookup.proofs.Views.{stated_number, stated_bits, covers-number, covers-bit, narrowed, number_vlan, bit_vlan}
-use Rattle.pq_lookup.proofs.Views.{other_number, same_bits, same_number, other_bits, own_bits, no_number, no_bits, covers-vlan}
-
--- what a test asks isn't stated yet: its number, or its bit and those below
-abbrev IsFresh : Test → MatchFields → Type 0
-IsFresh (Equal f v) m = stated_number f m ≡ None
-IsFresh (Bit f i) m = AreWhole (width_of f - i) (stated_bits f m)
-
--- tests of numbers are of other fields
-abbrev AreOther : Test → Test → Type 0
-AreOther (Equal f v) (Equal g u) = rank f ≢ rank g
-AreOther (Equal f v) (Bit g j) = Unit {0}
-AreOther (Bit f i) s = Unit {0}
-
-earlier : (f g : Field) (i j : ℕ) → Precedes (Bit f i) (Bit g j) → rank f ≡ rank g → i < j
-earlier f g i j (inl less) same = omega arith
-earlier f g i j (inr less) same = less.1
-
--- with a bit stated, what a later test asks still isn't
-fresh-bit : (f : Field) (i : ℕ) (b : Bool) (s : Test) (m : MatchFields) → IsLawful (Bit f i) → IsLawful s → Precedes (Bit f i) s → IsFresh (Bit f i) m → IsFresh s m → IsFresh s (with_bit f i b m)
-fresh-bit f i b (Equal g u) m lawful other before own fresh = same_number f g i b m ∙ fresh
-fresh-bit f i b (Bit g j) m lawful other before own fresh = elim (cases_eq (rank f) (rank g)) [
-  | inl same ↦
-      let less : i < j = earlier f g i j before same in
-      subst (λ h. j < width_of h → IsFresh (Bit h j) (with_bit f i b m)) (rank_injective f g same)
-      (λ within. subst (AreWhole (width_of f - j)) (sym (own_bits f i b m lawful.0))
-      (stated_whole (width_of f - j) (width_of f - 1 - i) b (stated_bits f m) (omega arith) (narrowed (width_of f) i (stated_bits f m) lawful.1 own)))
-      other.1
-  | inr apart ↦ subst (AreWhole (width_of g - j)) (sym (other_bits f g i b m lawful.0 apart)) fresh
-]
-
-fresh-number : (f : Field) (v : ℕ) (s : Test) (m : MatchFields) → IsLawful (Equal f v) → f ≢ Switch → AreOther (Equal f v) s → IsFresh s m → IsFresh s (with_number f v m)
-fresh-number f v (Equal g u) m lawful numbered other fresh = other_number f g v m lawful.0 numbered other ∙ fresh
-fresh-number f v (Bit g j) m lawful numbered other fresh = subst (AreWhole (width_of g - j)) (sym (same_bits f g v m)) fresh
-
-fresh-passing : (t s : Test) (m : MatchFields) → IsLawful t → IsLawful s → field_of t ≢ Switch → Precedes t s → AreOther t s → IsFresh t m → IsFresh s m → IsFresh s (passing t m)
-fresh-passing (Equal f v) s m lawful later numbered before other own fresh = fresh-number f v s m lawful numbered other fresh
-fresh-passing (Bit f i) s m lawful later numbered before other own fresh = fresh-bit f i true s m lawful later before own fresh
-
-fresh-failing : (t s : Test) (m : MatchFields) → IsLawful t → IsLawful s → Precedes t s → IsFresh t m → IsFresh s m → IsFresh s (failing t m)
-fresh-failing (Equal f v) s m lawful later before own fresh = fresh
-fresh-failing (Bit f i) s m lawful later before own fresh = fresh-bit f i false s m lawful later before own fresh
+use Rattle.pq_lookup.proofs.Fresh.{IsFresh, fresh_failing, fresh_passing, lawful_tested, others}
+use Rattle.pq_lookup.proofs.MaskedBits.{AreWhole}
+use Rattle.pq_lookup.proofs.Views.{covers-number, covers-bit, number_vlan, bit_vlan}
+use Rattle.pq_lookup.proofs.Views.{no_number, no_bits, covers-vlan}
 
 -- the packets that a match covers on a side of a test
 
@@ -93,27 +53,6 @@ failing-vlan (Equal f v) m = refl
 failing-vlan (Bit f i) m = bit_vlan f i false m
 
 module _ {L : Type 0} where
-  -- a tested number is of a field that isn't skipped
-  skips-tested : (f g : Field) (u : ℕ) (t : Tree L) → Skips f t → IsTested (Equal g u) t → rank f ≢ rank g
-  skips-tested f g u (Tip l) skips tested = absurd tested
-  skips-tested f g u (Fork (Equal h w) y n) skips (inl is) = λ same. skips.0 (same ∙ ap (λ s. rank (field_of s)) is)
-  skips-tested f g u (Fork (Equal h w) y n) skips (inr (inl in_yes)) = skips-tested f g u y skips.1 in_yes
-  skips-tested f g u (Fork (Equal h w) y n) skips (inr (inr in_no)) = skips-tested f g u n skips.2 in_no
-  skips-tested f g u (Fork (Bit h i) y n) skips (inl is) = cc
-  skips-tested f g u (Fork (Bit h i) y n) skips (inr (inl in_yes)) = skips-tested f g u y skips.0 in_yes
-  skips-tested f g u (Fork (Bit h i) y n) skips (inr (inr in_no)) = skips-tested f g u n skips.1 in_no
-
-  others : (s r : Test) (t : Tree L) → SkipsBelow s t → IsTested r t → AreOther s r
-  others (Equal f v) (Equal g u) t skips tested = skips-tested f g u t skips tested
-  others (Equal f v) (Bit g j) t skips tested = tt
-  others (Bit f i) r t skips tested = tt
-
-  lawful-tested : (s : Test) (t : Tree L) → AllLawful t → IsTested s t → IsLawful s
-  lawful-tested s (Tip l) lawful tested = absurd tested
-  lawful-tested s (Fork r y n) lawful (inl is) = subst IsLawful (sym is) lawful.0
-  lawful-tested s (Fork r y n) lawful (inr (inl in_yes)) = lawful-tested s y lawful.1 in_yes
-  lawful-tested s (Fork r y n) lawful (inr (inr in_no)) = lawful-tested s n lawful.2 in_no
-
   -- what a tree needs below a match: it has the tests of a diagram, none of the switch, and asks what isn't stated
   record Stands (m : MatchFields) (t : Tree L) : Type 0 where
     lawful : AllLawful t
@@ -128,7 +67,7 @@ module _ {L : Type 0} where
     ascends = h.ascends.2;
     once = h.once.1;
     switch = λ r tested. h.switch r (inr (inl tested));
-    fresh = λ r tested. fresh-passing s r m h.lawful.0 (lawful-tested r y h.lawful.1 tested) (h.switch s (inl refl))
+    fresh = λ r tested. fresh_passing s r m h.lawful.0 (lawful_tested r y h.lawful.1 tested) (h.switch s (inl refl))
         (before_tested s r y h.ascends.0 h.ascends.2 tested) (others s r y h.once.0 tested)
         (h.fresh s (inl refl)) (h.fresh r (inr (inl tested)));
   }
@@ -139,7 +78,7 @@ module _ {L : Type 0} where
     ascends = h.ascends.3;
     once = h.once.2;
     switch = λ r tested. h.switch r (inr (inr tested));
-    fresh = λ r tested. fresh-failing s r m h.lawful.0 (lawful-tested r n h.lawful.2 tested) (before_tested s r n h.ascends.1 h.ascends.3 tested) (h.fresh s (inl refl)) (h.fresh r (inr (inr tested)));
+    fresh = λ r tested. fresh_failing s r m h.lawful.0 (lawful_tested r n h.lawful.2 tested) (before_tested s r n h.ascends.1 h.ascends.3 tested) (h.fresh s (inl refl)) (h.fresh r (inr (inr tested)));
   }
 
   module _ (x : TaggedPacket) where

@@ -25,7 +25,7 @@ use Rattle.pq_layout.specs.Messages.{Buckets, each_once, group_needed, group_num
 use Rattle.pq_lookup.specs.Lookup.{first_covering}
 
 -- actions that compare as equal are one
-action_exact : (a b : Action) → actions.eq a b ≡ true → a ≡ b
+pub action_exact : (a b : Action) → actions.eq a b ≡ true → a ≡ b
 action_exact (Output p) (Output q) h = ap Output (eqb-true p q h)
 action_exact PushVlan PushVlan h = refl
 action_exact PopVlan PopVlan h = refl
@@ -49,10 +49,10 @@ items_itself : {A : Type 0} (E : A → A → Bool) → ((a : A) → E a a ≡ tr
 items_itself E same [] = refl
 items_itself E same (x ∷ xs) = and_from (E x x) (pointwise E xs xs) (same x) (items_itself E same xs)
 
-buckets_exact : (b c : Buckets) → same_buckets b c ≡ true → b ≡ c
+pub buckets_exact : (b c : Buckets) → same_buckets b c ≡ true → b ≡ c
 buckets_exact = same_items (pointwise actions.eq) (same_items actions.eq action_exact)
 
-buckets_itself : (b : Buckets) → same_buckets b b ≡ true
+pub buckets_itself : (b : Buckets) → same_buckets b b ≡ true
 buckets_itself = items_itself (pointwise actions.eq) (items_itself actions.eq action_itself)
 
 -- the value stands in the list

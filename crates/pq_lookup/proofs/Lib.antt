@@ -1,5 +1,6 @@
 pub mod MaskedBits
 pub mod Views
+pub mod Fresh
 pub mod Covering
 pub mod Taken
 pub mod Tables

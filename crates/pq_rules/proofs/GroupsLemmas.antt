@@ -1,67 +1,28 @@
 -- The groups of entries as copies are the groups of their buckets.
 use Rattle.std.proofs.Common.{◌≡◌, ℕ, zero, suc, ◌+◌, ◌<◌, ◌≤◌, Bool, true, false, not, if◌then◌else◌, List, [], ◌∷◌}
-use Rattle.std.proofs.Common.{◌++◌, Some, None, length, map, filter, rules, refl, sym, ap, ap₂, subst, ◌∙◌, arith, eqb-true}
-use Rattle.std.specs.Prelude.{◌==◌, All, IfSome, slice_get}
-use Rattle.std.specs.Cmp.Lexicographic.{pointwise}
+use Rattle.std.proofs.Common.{◌++◌, Some, None, length, map, filter, refl, sym, ap, subst, ◌∙◌, arith}
+use Rattle.std.specs.Prelude.{All, IfSome, slice_get}
 use Rattle.std.specs.List.{AllByRecursion, IsDistinct, cons_option, filter_map, list_any}
 use Rattle.std.specs.declared.option.Option.{Option}
-use Rattle.std.proofs.lemmas.Bool.{and_from, and_parts, eq-eqb}
 use Rattle.std.proofs.lemmas.List.{length-append}
 use Rattle.std.proofs.lemmas.List.Elements.{All-from_recursion}
-use denote.Enum.Bare.{same_true, true_same}
 use Rattle.indexmap.specs.IndexSet.{insert_all, insert_key}
-use Rattle.pq_fields.specs.contracts.field.Field.{the_type}
-use Rattle.pq_fields.specs.contracts.field.FieldPartialEq.TheImpl.{ghosts as fields}
 use Rattle.pq_model.specs.contracts.action.ActionPartialEq.TheImpl.{ghosts as actions}
-use Rattle.pq_model.specs.declared.action.Action.{Action}
-use Rattle.pq_model.specs.declared.action.Action.TheVariants.{Output, PushVlan, PopVlan, Group, SetVlan, SetField}
+use Rattle.pq_model.specs.declared.action.Action.TheVariants.{Group}
 use Rattle.pq_model.specs.MatchFields.{MatchFields}
 use Rattle.pq_fields.specs.Writes.{AllFit, Written}
 use Rattle.pq_rewrite.specs.declared.outgoing.OutKind.{OutKind}
 use Rattle.pq_rewrite.specs.declared.outgoing.OutKind.TheVariants.{Send, CaptureOut}
 use Rattle.pq_rewrite.specs.declared.outgoing.Outgoing.{Outgoing}
 use Rattle.pq_rewrite.specs.Leaves.{copies_eq, copies_equiv, same_copies}
-use Rattle.pq_rewrite.specs.Order.{same_items}
 use Rattle.pq_layout.specs.Actions.{buckets_of}
-use Rattle.pq_layout.specs.Messages.{Buckets, each_once, group_needed, group_number, groups_of, leaving_actions, same_buckets, second_rule}
+use Rattle.pq_layout.specs.Messages.{each_once, group_needed, group_number, groups_of, leaving_actions, same_buckets, second_rule}
 use Rattle.pq_layout.specs.Sound.{IsSoundCopy}
+use Rattle.pq_lookup.proofs.Grouped.{buckets_exact, buckets_itself}
 use Rattle.pq_rules.specs.Grouping.{ArePlaces, IsPlace, group_copies, in_bucket, placed_actions, placed_rules, shown_writes, with_group, with_groups}
 use Rattle.pq_rules.specs.Renewing.{AreFewPlaces, few}
 use Rattle.pq_rules.proofs.OnceLemmas.{filter_made, once, once_distinct, once_keeps, taken_once}
 use Rattle.pq_rules.proofs.ReadLemmas.{same_shown, shown_again, shown_buckets, shown_port}
-
--- Comparison of buckets.
-
--- actions that compare as equal are one
-action_exact : (a b : Action) → actions.eq a b ≡ true → a ≡ b
-action_exact (Output p) (Output q) h = ap Output (eqb-true p q h)
-action_exact PushVlan PushVlan h = refl
-action_exact PopVlan PopVlan h = refl
-action_exact (Group m) (Group n) h = ap Group (eqb-true m n h)
-action_exact (SetVlan v) (SetVlan w) h = ap SetVlan (eqb-true v w h)
-action_exact (SetField f m) (SetField g n) h =
-    let p = and_parts (fields.eq f g) (m == n) h in
-    ap₂ SetField (same_true the_type (search rules) f g p.0) (eqb-true m n p.1)
-action_exact a b h = absurd cc
-
--- an action compares as equal to itself
-action_itself : (a : Action) → actions.eq a a ≡ true
-action_itself (Output p) = eq-eqb p p refl
-action_itself PushVlan = refl
-action_itself PopVlan = refl
-action_itself (Group n) = eq-eqb n n refl
-action_itself (SetVlan w) = eq-eqb w w refl
-action_itself (SetField f n) = and_from (fields.eq f f) (n == n) (true_same the_type f f refl) (eq-eqb n n refl)
-
-items_itself : {A : Type 0} (E : A → A → Bool) → ((a : A) → E a a ≡ true) → (xs : List A) → pointwise E xs xs ≡ true
-items_itself E same [] = refl
-items_itself E same (x ∷ xs) = and_from (E x x) (pointwise E xs xs) (same x) (items_itself E same xs)
-
-buckets_exact : (b c : Buckets) → same_buckets b c ≡ true → b ≡ c
-buckets_exact = same_items (pointwise actions.eq) (same_items actions.eq action_exact)
-
-buckets_itself : (b : Buckets) → same_buckets b b ≡ true
-buckets_itself = items_itself (pointwise actions.eq) (items_itself actions.eq action_itself)
 
 -- sound copies that are as their buckets show them
 pub record IsShown (g : List Outgoing) : Type 0 where

@@ -1,5 +1,4 @@
 mod MasksLemmas
-mod FreshLemmas
 mod NeedsLemmas
 mod PathsLemmas
 mod FoundLemmas

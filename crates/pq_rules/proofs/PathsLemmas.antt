@@ -19,7 +19,7 @@ use Rattle.pq_lookup.proofs.MaskedBits.{AreWhole}
 use Rattle.pq_lookup.proofs.Views.{stated_number, other_number, same_number, no_number, no_bits}
 use Rattle.pq_rules.specs.Found.{IsKeyWord}
 use Rattle.pq_rules.specs.Paths.{StaysLawful}
-use Rattle.pq_rules.proofs.FreshLemmas.{IsFresh, fresh_failing, fresh_passing, lawful_tested, others}
+use Rattle.pq_lookup.proofs.Fresh.{IsFresh, fresh_failing, fresh_passing, lawful_tested, others}
 use Rattle.pq_rules.proofs.NeedsLemmas.{AllStated, IsPortTest, IsStated, Needs, lawful_bit, lawful_number, needs_met}
 
 -- on the yes side of a test the match is lawful
