@@ -1,28 +1,20 @@
 -- What is read whole of a known input, and when a command is done.
-use Rattle.std.proofs.Common.{◌≡◌, ℕ, ◌≤◌, ◌<◌, List, ◌++◌, length, ap, refl, sym, ◌∙◌, subst, arith, length-append, append-nil, IfSome, Option, Some, None, inl, inr}
+use Rattle.std.proofs.Common.{◌≡◌, ℕ, ◌≤◌, List, ◌++◌, length, ap, sym, ◌∙◌, subst, arith, length-append, append-nil, Option, Some, None, inl, inr}
 use Rattle.std.proofs.lemmas.Option.{same_Some}
 use Rattle.std.specs.Io.KnownBytes.{Consumes, IsAtEnd}
-use Rattle.std.specs.declared.option.Option.TheVariants as declared
-use Rattle.pq_fields.specs.declared.field.Field.{Field}
-use Rattle.pq_io.specs.Faults.{Rose}
-use Rattle.pq_classes.proofs.Counted.{one_count}
 use Rattle.pq_compile.proofs.OneDocument.{no_document_fault, one_document}
-use Rattle.pq_compile.specs.declared.compiling.CompileFault.{CompileFault}
-use Rattle.pq_compile.specs.declared.compiling.CompileFault.TheVariants as compile
-use Rattle.pq_compile.specs.Compiled.{IsCompileFault, IsWithinLimits}
-use Rattle.pq_compile.specs.Documents.{DocumentTree}
-use Rattle.pq_compile.specs.Prepared.{languages_in}
-use Rattle.pq_rules.specs.declared.fault.RulesFault.TheVariants as rules
+use Rattle.pq_compile.proofs.OneFault.{no_compile_fault}
+use Rattle.pq_compile.specs.Compiled.{IsWithinLimits}
 use Rattle.pq_inspect.proofs.Unspoiled.{not_spoiled}
 use Rattle.pq_install.specs.declared.fault.InstallFault.TheVariants as install
 use Rattle.pq_replay.specs.declared.fault.ReplayFault.TheVariants as replay
 use Rattle.pq_replay.proofs.Replayable.{not_damaged, no_syntax_fault, not_too_many}
 use Rattle.pq_command.specs.declared.words.Command.{Command}
-use Rattle.pq_command.specs.declared.words.Command.TheVariants.{Compile, Replay, Inspect}
+use Rattle.pq_command.specs.declared.words.Command.TheVariants.{Compile, Replay, Inspect, Summary, SummaryOf, Generate}
 use Rattle.pq_command.specs.declared.outcome.Outcome.{Outcome}
 use Rattle.pq_command.specs.declared.outcome.Outcome.TheVariants.{Done, Words, ReadFault, TooLong, Lex, Syntax, Name, ValuesFull, InstancesFull, TagWidth, TableFull, GroupFull, Damaged, ScheduleFull, WriteFault, Memory}
-use Rattle.pq_command.specs.Answers.{Task, ReadsWhole, ReadsMore, IsAnswer, HasReadFaults, HasWriteFaults, IsDoneOrMemory}
-use Rattle.pq_command.specs.Tasks.{compile_outcome, document_outcome, task_of}
+use Rattle.pq_command.specs.Answers.{Completes, HasNoFault, HasReadFaults, HasWriteFaults, IsAnswer, IsAnswerOn, IsDoneOrMemory, ReadsMore, ReadsWhole, StopsReading, Streams, Task, streams}
+use Rattle.pq_command.specs.Tasks.{CompletesAs, IsAnswerTo, compile_outcome, compile_task, document_outcome, given_to, inspect_task, replay_task, task_of}
 
 -- known bytes that were read to their end are what was read
 whole_text : (bytes text : List ℕ) (now : Option (List ℕ)) → Consumes (Some bytes) now text → IsAtEnd now → bytes ≡ text
@@ -45,90 +37,95 @@ not_more : (bytes : List ℕ) (now before after : Option (List ℕ)) (limit : �
 not_more bytes now before after limit (text, taken, (long, short)) fits = let most = no_longer bytes text now taken in absurd (omega arith)
 
 -- what a command accepts is refused for want of memory alone
-abbrev Completes : Task → Type 0
-Completes task = (o : Outcome) (bytes : List ℕ) → task.Accepts bytes → task.Refuses o bytes → IsDoneOrMemory o
+abbrev Completing : Task → Type 0
+Completing task = (o : Outcome) (text : List ℕ) → task.Accepts text → task.Refuses o text → IsDoneOrMemory o
 
--- and then the command is done, where no read and no write failed
-is_done : (task : Task) → Completes task → (o : Outcome) (left now before after : Option (List ℕ)) (reads read writes written : ℕ)
-    → IsAnswer task o (record { left = left; rest = now; before = before; after = after }) → HasReadFaults o reads read → HasWriteFaults o writes written
-    → (Rose reads read → ⊥) → (Rose writes written → ⊥)
-    → IfSome left (λ bytes. length bytes ≤ task.limit → task.Accepts bytes → IsDoneOrMemory o)
-is_done task completes o None now before after reads read writes written answer read_faults write_faults no_read no_write = tt
-is_done task completes Done (Some bytes) now before after reads read writes written answer read_faults write_faults no_read no_write = λ short accepted. tt
-is_done task completes Memory (Some bytes) now before after reads read writes written answer read_faults write_faults no_read no_write = λ short accepted. tt
-is_done task completes Words (Some bytes) now before after reads read writes written answer read_faults write_faults no_read no_write = absurd answer
-is_done task completes ReadFault (Some bytes) now before after reads read writes written answer read_faults write_faults no_read no_write =
-    λ short accepted. no_read read_faults
-is_done task completes WriteFault (Some bytes) now before after reads read writes written answer read_faults write_faults no_read no_write =
-    λ short accepted. no_write write_faults
-is_done task completes TooLong (Some bytes) now before after reads read writes written answer read_faults write_faults no_read no_write =
-    λ short accepted. not_more bytes now before after task.limit answer short
-is_done task completes (Lex at) (Some bytes) now before after reads read writes written answer read_faults write_faults no_read no_write =
-    λ short accepted. completes (Lex at) bytes accepted (of_whole bytes now before after task.limit (task.Refuses (Lex at)) answer)
-is_done task completes (Syntax at) (Some bytes) now before after reads read writes written answer read_faults write_faults no_read no_write =
-    λ short accepted. completes (Syntax at) bytes accepted (of_whole bytes now before after task.limit (task.Refuses (Syntax at)) answer)
-is_done task completes (Name at kind) (Some bytes) now before after reads read writes written answer read_faults write_faults no_read no_write =
-    λ short accepted. completes (Name at kind) bytes accepted (of_whole bytes now before after task.limit (task.Refuses (Name at kind)) answer)
-is_done task completes (ValuesFull field count) (Some bytes) now before after reads read writes written answer read_faults write_faults no_read no_write =
-    λ short accepted. completes (ValuesFull field count) bytes accepted (of_whole bytes now before after task.limit (task.Refuses (ValuesFull field count)) answer)
-is_done task completes (InstancesFull count) (Some bytes) now before after reads read writes written answer read_faults write_faults no_read no_write =
-    λ short accepted. completes (InstancesFull count) bytes accepted (of_whole bytes now before after task.limit (task.Refuses (InstancesFull count)) answer)
-is_done task completes (TagWidth classes) (Some bytes) now before after reads read writes written answer read_faults write_faults no_read no_write =
-    λ short accepted. completes (TagWidth classes) bytes accepted (of_whole bytes now before after task.limit (task.Refuses (TagWidth classes)) answer)
-is_done task completes (TableFull switch table entries) (Some bytes) now before after reads read writes written answer read_faults write_faults no_read no_write =
-    λ short accepted. completes (TableFull switch table entries) bytes accepted (of_whole bytes now before after task.limit (task.Refuses (TableFull switch table entries)) answer)
-is_done task completes (GroupFull switch copies) (Some bytes) now before after reads read writes written answer read_faults write_faults no_read no_write =
-    λ short accepted. completes (GroupFull switch copies) bytes accepted (of_whole bytes now before after task.limit (task.Refuses (GroupFull switch copies)) answer)
-is_done task completes (Damaged at) (Some bytes) now before after reads read writes written answer read_faults write_faults no_read no_write =
-    λ short accepted. completes (Damaged at) bytes accepted (of_whole bytes now before after task.limit (task.Refuses (Damaged at)) answer)
-is_done task completes ScheduleFull (Some bytes) now before after reads read writes written answer read_faults write_faults no_read no_write =
-    λ short accepted. completes ScheduleFull bytes accepted (of_whole bytes now before after task.limit (task.Refuses ScheduleFull) answer)
+-- then the command is done on such a text, where no write failed
+on_done : (task : Task) (s : Streams) (text : List ℕ) (writes written : ℕ) → Completing task → task.Accepts text → HasNoFault writes written
+    → (o : Outcome) → IsAnswerOn task text o s → HasWriteFaults o writes written → IsDoneOrMemory o
+on_done task s text writes written completes accepted none Done answer faults = tt
+on_done task s text writes written completes accepted none Memory answer faults = tt
+on_done task s text writes written completes accepted none Words answer faults = absurd answer
+on_done task s text writes written completes accepted none ReadFault answer faults = absurd answer
+on_done task s text writes written completes accepted none TooLong answer faults = absurd answer
+on_done task s text writes written completes accepted none WriteFault answer faults = none faults
+on_done task s text writes written completes accepted none (Lex at) answer faults = completes (Lex at) text accepted answer
+on_done task s text writes written completes accepted none (Syntax at) answer faults = completes (Syntax at) text accepted answer
+on_done task s text writes written completes accepted none (Name at kind) answer faults = completes (Name at kind) text accepted answer
+on_done task s text writes written completes accepted none (ValuesFull f n) answer faults = completes (ValuesFull f n) text accepted answer
+on_done task s text writes written completes accepted none (InstancesFull n) answer faults = completes (InstancesFull n) text accepted answer
+on_done task s text writes written completes accepted none (TagWidth n) answer faults = completes (TagWidth n) text accepted answer
+on_done task s text writes written completes accepted none (TableFull d t n) answer faults = completes (TableFull d t n) text accepted answer
+on_done task s text writes written completes accepted none (GroupFull d n) answer faults = completes (GroupFull d n) text accepted answer
+on_done task s text writes written completes accepted none (Damaged at) answer faults = completes (Damaged at) text accepted answer
+on_done task s text writes written completes accepted none ScheduleFull answer faults = completes ScheduleFull text accepted answer
+
+-- where no read failed and there isn't more to read, reading stops for want of memory alone
+stopped : (task : Task) (s : Streams) (reads read : ℕ) → (ReadsMore s task.limit → ⊥) → HasNoFault reads read
+    → (o : Outcome) → StopsReading task o s → HasReadFaults o reads read → IsDoneOrMemory o
+stopped task s reads read no_more none TooLong more faults = no_more more
+stopped task s reads read no_more none ReadFault part faults = none faults
+stopped task s reads read no_more none Memory stops faults = tt
+stopped task s reads read no_more none Done stops faults = absurd stops
+stopped task s reads read no_more none Words stops faults = absurd stops
+stopped task s reads read no_more none WriteFault stops faults = absurd stops
+stopped task s reads read no_more none (Lex at) stops faults = absurd stops
+stopped task s reads read no_more none (Syntax at) stops faults = absurd stops
+stopped task s reads read no_more none (Name at kind) stops faults = absurd stops
+stopped task s reads read no_more none (ValuesFull f n) stops faults = absurd stops
+stopped task s reads read no_more none (InstancesFull n) stops faults = absurd stops
+stopped task s reads read no_more none (TagWidth n) stops faults = absurd stops
+stopped task s reads read no_more none (TableFull d t n) stops faults = absurd stops
+stopped task s reads read no_more none (GroupFull d n) stops faults = absurd stops
+stopped task s reads read no_more none (Damaged at) stops faults = absurd stops
+stopped task s reads read no_more none ScheduleFull stops faults = absurd stops
+
+-- and so the command is done, where no read and no write failed
+is_done : (task : Task) (given left now before after : Option (List ℕ)) (reads read writes written : ℕ) → Completing task → HasNoFault reads read → HasNoFault writes written
+    → (o : Outcome) → IsAnswer task given o (streams left now before after) → HasReadFaults o reads read → HasWriteFaults o writes written → Completes task given left o
+is_done task (Some text) left now before after reads read writes written completes no_read no_write o answer read_faults write_faults =
+    λ accepted. on_done task (streams left now before after) text writes written completes accepted no_write o answer write_faults
+is_done task None None now before after reads read writes written completes no_read no_write o answer read_faults write_faults = tt
+is_done task None (Some bytes) now before after reads read writes written completes no_read no_write o (inl whole) read_faults write_faults =
+    let s : Streams = streams (Some bytes) now before after in
+    λ short accepted. on_done task s bytes writes written completes accepted no_write o
+    (of_whole bytes now before after task.limit (λ text. IsAnswerOn task text o s) whole) write_faults
+is_done task None (Some bytes) now before after reads read writes written completes no_read no_write o (inr stops) read_faults write_faults =
+    λ short accepted. stopped task (streams (Some bytes) now before after) reads read
+    (λ more. not_more bytes now before after task.limit more short) no_read o stops read_faults
 
 -- an outcome that is Memory
 memory : (o : Outcome) → o ≡ Memory → IsDoneOrMemory o
 memory o is = subst IsDoneOrMemory (sym is) tt
 
-none_some : {A : Type 0} (x : A) → declared.None ≡ declared.Some x → ⊥
-none_some x e = cc
-
--- a document within all limits is beyond none
-no_limit_fault : (d : DocumentTree) → IsWithinLimits d → (f : CompileFault) → IsCompileFault d f → f ≡ compile.Memory
-no_limit_fault d is (compile.ValuesFull field count) fault = let pair : Field × ℕ = (field, count) in absurd (none_some pair (sym is.within.values ∙ fault))
-no_limit_fault d is (compile.InstancesFull count) fault = let most = is.within.instances in let more = fault.1.0 in absurd (omega (arith, most, more))
-no_limit_fault d is (compile.TagWidth classes) fault =
-    let most = is.within.classes in
-    let same = one_count (languages_in d) classes most.0 fault.2 most.1 in
-    let few = most.2 in
-    let more = fault.3 in
-    absurd (omega (arith, same, few, more))
-no_limit_fault d is (compile.TableFull switch table entries) (within, (g, writes, laid, full)) = absurd (apart (is.tables g writes laid (rules.TableFull switch table entries) full))
-  where
-    apart : rules.TableFull switch table entries ≡ rules.Memory → ⊥
-    apart e = cc
-no_limit_fault d is (compile.GroupFull switch copies) (within, (g, writes, laid, full)) = absurd (apart (is.tables g writes laid (rules.GroupFull switch copies) full))
-  where
-    apart : rules.GroupFull switch copies ≡ rules.Memory → ⊥
-    apart e = cc
-no_limit_fault d is compile.Memory fault = refl
-
 -- each command completes
-completes : (command : Command) → Completes (task_of command)
-completes Compile o bytes (d, spells, within) (inl (f, is, fault)) = memory o (is ∙ ap document_outcome (no_document_fault bytes d f spells fault))
-completes Compile o bytes (d, spells, within) (inr (e, spelt, (f, is, fault))) =
-    memory o (is ∙ ap compile_outcome (no_limit_fault e (subst IsWithinLimits (one_document bytes d e spells spelt) within) f fault))
-completes Replay o bytes accepted (replay.Damaged at, is, fault) = absurd (not_damaged bytes at accepted fault)
-completes Replay o bytes accepted (replay.Syntax at, is, fault) = absurd (no_syntax_fault bytes at accepted fault)
-completes Replay o bytes accepted (replay.Full, is, fault) = absurd (not_too_many bytes accepted fault)
-completes Replay o bytes accepted (replay.Memory, is, fault) = memory o is
-completes Inspect o bytes accepted (install.Damaged at, is, fault) = absurd (not_spoiled bytes at accepted fault)
-completes Inspect o bytes accepted (install.Memory, is, fault) = memory o is
+document_completes : Completing compile_task
+document_completes o text (d, spells, within) (inl (f, is, fault)) = memory o (is ∙ ap document_outcome (no_document_fault text d f spells fault))
+document_completes o text (d, spells, within) (inr (e, spelt, (f, is, fault))) =
+    memory o (is ∙ ap compile_outcome (no_compile_fault e f (subst IsWithinLimits (one_document text d e spells spelt) within) fault))
+
+replay_completes : Completing replay_task
+replay_completes o text accepted (replay.Damaged at, is, fault) = absurd (not_damaged text at accepted fault)
+replay_completes o text accepted (replay.Syntax at, is, fault) = absurd (no_syntax_fault text at accepted fault)
+replay_completes o text accepted (replay.Full, is, fault) = absurd (not_too_many text accepted fault)
+replay_completes o text accepted (replay.Memory, is, fault) = memory o is
+
+inspect_completes : Completing inspect_task
+inspect_completes o text accepted (install.Damaged at, is, fault) = absurd (not_spoiled text at accepted fault)
+inspect_completes o text accepted (install.Memory, is, fault) = memory o is
+
+completing : (command : Command) → Completing (task_of command)
+completing Compile = document_completes
+completing Replay = replay_completes
+completing Inspect = inspect_completes
+completing Summary = document_completes
+completing (SummaryOf n) = document_completes
+completing (Generate n) = λ o text accepted refused. absurd refused
 
 -- a command that was asked for is done, where no read and no write failed
-pub completed : (asked command : Command) → Some asked ≡ Some command → (o : Outcome) (left now before after : Option (List ℕ)) (reads read writes written : ℕ)
-    → IsAnswer (task_of asked) o (record { left = left; rest = now; before = before; after = after }) → HasReadFaults o reads read → HasWriteFaults o writes written
-    → (Rose reads read → ⊥) → (Rose writes written → ⊥)
-    → IfSome left (λ bytes. length bytes ≤ (task_of command).limit → (task_of command).Accepts bytes → IsDoneOrMemory o)
-completed asked command same o left now before after reads read writes written answer read_faults write_faults no_read no_write =
-    let IsDone : Command → Type 0 = λ k. IfSome left (λ bytes. length bytes ≤ (task_of k).limit → (task_of k).Accepts bytes → IsDoneOrMemory o) in
-    subst IsDone (same_Some asked command same)
-    (is_done (task_of asked) (completes asked) o left now before after reads read writes written answer read_faults write_faults no_read no_write)
+pub completed : (asked command : Command) → Some asked ≡ Some command → (left now before after : Option (List ℕ)) (reads read writes written : ℕ)
+    → HasNoFault reads read → HasNoFault writes written → (o : Outcome) → IsAnswerTo asked o (streams left now before after)
+    → HasReadFaults o reads read → HasWriteFaults o writes written → CompletesAs command left o
+completed asked command same left now before after reads read writes written no_read no_write o answer read_faults write_faults =
+    subst (λ (k : Command). CompletesAs k left o) (same_Some asked command same)
+    (is_done (task_of asked) (given_to asked) left now before after reads read writes written (completing asked) no_read no_write o answer read_faults write_faults)

@@ -1,5 +1,5 @@
 -- What each outcome says of the input, and what it leaves in the source and the sink.
-use Rattle.std.specs.Prelude.{◌≡◌, ℕ, ◌+◌, ◌<◌, ◌≤◌, List, length, Option}
+use Rattle.std.specs.Prelude.{◌≡◌, ℕ, ◌+◌, ◌<◌, ◌≤◌, ◌⊎◌, List, length, Option, Some, None, IfSome}
 use Rattle.std.specs.Io.KnownBytes.{Appends, Consumes, IsAtEnd}
 use Rattle.pq_io.specs.Faults.{Rose}
 use Rattle.pq_io.specs.Pieces.{AppendsPart}
@@ -36,23 +36,35 @@ Puts s P = (written : List ℕ) × P written × Appends s.before s.after written
 abbrev pub PutsPart : Streams → (List ℕ → Type 0) → Type 0
 PutsPart s P = (written : List ℕ) × P written × AppendsPart s.before s.after written
 
--- a command that reads to the end of input and then writes: how many bytes it reads at most, which texts have an output, which output
--- that is, and which outcome says why a text has none
+-- a command that makes something of a whole text: how many bytes it reads at most, which texts have an output, which output that is, and
+-- which outcome says why a text has none
 pub record Task : Type 1 where
   pub limit : ℕ
   pub Accepts : List ℕ → Type 0
   pub Writes : List ℕ → List ℕ → Type 0
   pub Refuses : Outcome → List ℕ → Type 0
 
--- what the outcome of such a command says
-abbrev pub IsAnswer : Task → Outcome → Streams → Type 0
-IsAnswer task Done s = ReadsWhole s task.limit (λ text. Puts s (task.Writes text))
-IsAnswer task WriteFault s = ReadsWhole s task.limit (λ text. PutsPart s (task.Writes text))
-IsAnswer task TooLong s = ReadsMore s task.limit
-IsAnswer task ReadFault s = Reads s (λ text. length text ≤ task.limit)
-IsAnswer task Memory s = Unit {0}
-IsAnswer task Words s = ⊥
-IsAnswer task outcome s = ReadsWhole s task.limit (task.Refuses outcome)
+-- what the outcome of such a command says of a text
+abbrev pub IsAnswerOn : Task → List ℕ → Outcome → Streams → Type 0
+IsAnswerOn task text Done s = Puts s (task.Writes text)
+IsAnswerOn task text WriteFault s = PutsPart s (task.Writes text)
+IsAnswerOn task text Memory s = Unit {0}
+IsAnswerOn task text Words s = ⊥
+IsAnswerOn task text ReadFault s = ⊥
+IsAnswerOn task text TooLong s = ⊥
+IsAnswerOn task text outcome s = task.Refuses outcome text
+
+-- and of an input that was not read to its end
+abbrev pub StopsReading : Task → Outcome → Streams → Type 0
+StopsReading task TooLong s = ReadsMore s task.limit
+StopsReading task ReadFault s = Reads s (λ text. length text ≤ task.limit)
+StopsReading task Memory s = Unit {0}
+StopsReading task outcome s = ⊥
+
+-- what it says where the command works on a text that is given, or, where none is, on the whole input
+abbrev pub IsAnswer : Task → Option (List ℕ) → Outcome → Streams → Type 0
+IsAnswer task (Some text) outcome s = IsAnswerOn task text outcome s
+IsAnswer task None outcome s = ReadsWhole s task.limit (λ text. IsAnswerOn task text outcome s) ⊎ StopsReading task outcome s
 
 -- the outcome says something of a text that was read, or that memory ran out
 abbrev pub IsOfText : Outcome → Type 0
@@ -79,8 +91,17 @@ OnRefusal Done fact = Unit {0}
 OnRefusal WriteFault fact = Unit {0}
 OnRefusal _ fact = fact
 
+-- no fault came
+abbrev pub HasNoFault : ℕ → ℕ → Type 0
+HasNoFault before now = Rose before now → ⊥
+
 -- the output was written, or memory ran out
 abbrev pub IsDoneOrMemory : Outcome → Type 0
 IsDoneOrMemory Done = Unit {0}
 IsDoneOrMemory Memory = Unit {0}
 IsDoneOrMemory _ = ⊥
+
+-- so it is where the text that is given, or else the known input, is one that the command accepts
+abbrev pub Completes : Task → Option (List ℕ) → Option (List ℕ) → Outcome → Type 0
+Completes task (Some text) left outcome = task.Accepts text → IsDoneOrMemory outcome
+Completes task None left outcome = IfSome left (λ bytes. length bytes ≤ task.limit → task.Accepts bytes → IsDoneOrMemory outcome)

@@ -1,5 +1,6 @@
 -- What each command does.
-use Rattle.std.specs.Prelude.{◌≡◌, ◌⊎◌, ℕ, List}
+use Rattle.std.specs.Prelude.{◌≡◌, ◌≤◌, ◌⊎◌, ℕ, List, length, Option, Some, None}
+use Rattle.pq_model.specs.Classes.{HasClasses}
 use Rattle.pq_model.specs.Install.{Install, IsSpelled}
 use Rattle.pq_compile.specs.declared.compiling.CompileFault.{CompileFault}
 use Rattle.pq_compile.specs.declared.compiling.CompileFault.TheVariants as compile
@@ -7,6 +8,11 @@ use Rattle.pq_compile.specs.Compiled.{IsCompileFault, IsInstalled, IsWithinLimit
 use Rattle.pq_compile.specs.declared.fault.DocumentFault.{DocumentFault}
 use Rattle.pq_compile.specs.declared.fault.DocumentFault.TheVariants as document
 use Rattle.pq_compile.specs.Documents.{DocumentTree, IsDocumentFault, Spells}
+use Rattle.pq_compile.specs.Prepared.{languages_in, queries_in}
+use Rattle.pq_generate.specs.Generated.{generated_text}
+use Rattle.pq_query.specs.Instances.{label_sum}
+use Rattle.pq_summary.specs.declared.summary.Counts.{Counts}
+use Rattle.pq_summary.specs.Summary.{summary_of, summary_text}
 use Rattle.pq_install.specs.declared.fault.InstallFault.{InstallFault}
 use Rattle.pq_install.specs.declared.fault.InstallFault.TheVariants as install
 use Rattle.pq_inspect.specs.Inspected.{IsInspectFault, IsInspected, IsWholeInstall}
@@ -14,10 +20,10 @@ use Rattle.pq_replay.specs.declared.fault.ReplayFault.{ReplayFault}
 use Rattle.pq_replay.specs.declared.fault.ReplayFault.TheVariants as replay
 use Rattle.pq_replay.specs.Replay.{IsReplay, IsReplayFault, IsReplayable}
 use Rattle.pq_command.specs.declared.words.Command.{Command}
-use Rattle.pq_command.specs.declared.words.Command.TheVariants.{Compile, Replay, Inspect}
+use Rattle.pq_command.specs.declared.words.Command.TheVariants.{Compile, Replay, Inspect, Summary, SummaryOf, Generate}
 use Rattle.pq_command.specs.declared.outcome.Outcome.{Outcome}
 use Rattle.pq_command.specs.declared.outcome.Outcome.TheVariants.{Lex, Syntax, Name, ValuesFull, InstancesFull, TagWidth, TableFull, GroupFull, Damaged, ScheduleFull, Memory}
-use Rattle.pq_command.specs.Answers.{Task}
+use Rattle.pq_command.specs.Answers.{Completes, IsAnswer, Streams, Task}
 
 -- the most bytes of a document, and of an install with what follows it
 abbrev pub document_limit : ℕ
@@ -84,19 +90,86 @@ abbrev pub install_outcome : InstallFault → Outcome
 install_outcome (install.Damaged at) = Damaged at
 install_outcome install.Memory = Memory
 
+-- Summary.
+
+-- what is counted of a document, with so many classes of words
+abbrev pub counts_of : DocumentTree → ℕ → Counts
+counts_of d classes = record {
+  parts = length d.parts;
+  queries = length d.queries;
+  instances = label_sum d.topology (queries_in d);
+  classes = classes;
+}
+
+-- these bytes are the summary of the document, of its install and of the number of its classes
+abbrev pub IsSummarized : DocumentTree → List ℕ → Type 0
+IsSummarized d written =
+    (i : Install) × (classes : ℕ) × IsInstalled d i × HasClasses (languages_in d) classes × (written ≡ summary_text (summary_of (counts_of d classes) i))
+
+-- the text is a document, and these bytes are its summary
+abbrev pub IsSummaryOf : List ℕ → List ℕ → Type 0
+IsSummaryOf text written = (d : DocumentTree) × Spells text d × IsSummarized d written
+
 -- Commands.
 
-abbrev pub task_of : Command → Task
-task_of Compile = record { limit = document_limit; Accepts = IsWithinDocument; Writes = IsInstallOf; Refuses = HasNoInstall }
-task_of Replay = record {
+abbrev pub compile_task : Task
+compile_task = record { limit = document_limit; Accepts = IsWithinDocument; Writes = IsInstallOf; Refuses = HasNoInstall }
+
+abbrev pub replay_task : Task
+replay_task = record {
   limit = install_limit;
   Accepts = IsReplayable;
   Writes = IsReplay;
   Refuses = λ outcome text. (f : ReplayFault) × (outcome ≡ replay_outcome f) × IsReplayFault text f;
 }
-task_of Inspect = record {
+
+abbrev pub inspect_task : Task
+inspect_task = record {
   limit = install_limit;
   Accepts = IsWholeInstall;
   Writes = IsInspected;
   Refuses = λ outcome text. (f : InstallFault) × (outcome ≡ install_outcome f) × IsInspectFault text f;
 }
+
+-- a document that `compile` refuses is refused alike
+abbrev pub summary_task : Task
+summary_task = record { limit = document_limit; Accepts = IsWithinDocument; Writes = IsSummaryOf; Refuses = HasNoInstall }
+
+-- a generated document is written as it is
+abbrev pub generate_task : Task
+generate_task = record { limit = document_limit; Accepts = λ text. Unit {0}; Writes = λ text written. written ≡ text; Refuses = λ outcome text. ⊥ }
+
+abbrev pub task_of : Command → Task
+task_of Compile = compile_task
+task_of Replay = replay_task
+task_of Inspect = inspect_task
+task_of Summary = summary_task
+task_of (SummaryOf n) = summary_task
+task_of (Generate n) = generate_task
+
+-- the text that a command works on in place of its input
+abbrev pub given_to : Command → Option (List ℕ)
+given_to (SummaryOf n) = Some (generated_text n)
+given_to (Generate n) = Some (generated_text n)
+given_to command = None
+
+-- a fact for each command that reads nothing; words that name none read nothing either
+abbrev pub OnUnread : Option Command → Type 0 → Type 0
+OnUnread None fact = fact
+OnUnread (Some (SummaryOf n)) fact = fact
+OnUnread (Some (Generate n)) fact = fact
+OnUnread (Some command) fact = Unit {0}
+
+-- the number of switches, where a command states one
+abbrev pub HasSize : Command → Type 0
+HasSize (SummaryOf n) = (2 ≤ n) × (n ≤ 64)
+HasSize (Generate n) = (2 ≤ n) × (n ≤ 64)
+HasSize command = Unit {0}
+
+-- what the outcome of a command says
+abbrev pub IsAnswerTo : Command → Outcome → Streams → Type 0
+IsAnswerTo command outcome s = IsAnswer (task_of command) (given_to command) outcome s
+
+-- the command is done, or memory ran out, where it accepts its text
+abbrev pub CompletesAs : Command → Option (List ℕ) → Outcome → Type 0
+CompletesAs command left outcome = Completes (task_of command) (given_to command) left outcome

@@ -1,7 +1,8 @@
 -- The words that name a command.
-use Rattle.std.specs.Prelude.{ℕ, List, [], ◌∷◌, codes, bytes_eq, if◌then◌else◌, Option, Some, None}
+use Rattle.std.specs.Prelude.{ℕ, List, [], ◌∷◌, codes, bytes_eq, nat_lt, if◌then◌else◌, Option, Some, None}
+use Rattle.pq_term.specs.Numbers.{decimal_of}
 use Rattle.pq_command.specs.declared.words.Command.{Command}
-use Rattle.pq_command.specs.declared.words.Command.TheVariants.{Compile, Replay, Inspect}
+use Rattle.pq_command.specs.declared.words.Command.TheVariants.{Compile, Replay, Inspect, Summary, SummaryOf, Generate}
 
 -- the command that is one word
 abbrev pub command_named : List ℕ → Option Command
@@ -9,10 +10,29 @@ command_named word =
     if bytes_eq word (codes "compile") then Some Compile
     else (if bytes_eq word (codes "replay") then Some Replay
     else (if bytes_eq word (codes "inspect") then Some Inspect
-    else None))
+    else (if bytes_eq word (codes "summary") then Some Summary
+    else None)))
+
+-- a number that is not below another
+abbrev pub not_below : ℕ → Option ℕ → Option ℕ
+not_below least None = None
+not_below least (Some n) = if nat_lt n least then None else Some n
+
+-- a number of switches: a decimal number from 2 to 64 without leading zeros
+abbrev pub size_of : List ℕ → Option ℕ
+size_of word = not_below 2 (decimal_of 64 word)
+
+-- the command that is a word and a number of switches
+abbrev pub command_on : List ℕ → Option ℕ → Option Command
+command_on word None = None
+command_on word (Some n) =
+    if bytes_eq word (codes "summary") then Some (SummaryOf n)
+    else (if bytes_eq word (codes "generate") then Some (Generate n)
+    else None)
 
 -- the command that the words have the form of
 abbrev pub command_of : List (List ℕ) → Option Command
 command_of [] = None
 command_of (word ∷ []) = command_named word
-command_of (word ∷ next ∷ words) = None
+command_of (word ∷ number ∷ []) = command_on word (size_of number)
+command_of (word ∷ number ∷ next ∷ words) = None

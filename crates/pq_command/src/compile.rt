@@ -1,14 +1,15 @@
-ghost use Rattle.std.specs.Prelude.{◌≡◌, ◌<◌, ◌≤◌, IfErr, IfOk, length};
+ghost use Rattle.std.specs.Prelude.{◌≡◌, ◌<◌, ◌≤◌, IfErr, IfOk, OnOk, length};
 ghost use Rattle.pq_compile.specs.Compiled.{IsCompileFault, IsInstalled};
 ghost use Rattle.pq_compile.specs.Documents.{Spells, document_tree};
-ghost use Rattle.pq_compile.specs.Prepared.{IsCompilable};
+ghost use Rattle.pq_compile.specs.Prepared.{HasFewInstances, IsCompilable, languages_in};
+ghost use Rattle.pq_model.specs.Classes.{HasClasses};
 ghost use Rattle.pq_model.specs.Install.{IsLawfulInstall, spelling};
 ghost use Rattle.pq_command.specs.Answers.{IsOfText};
 ghost use Rattle.pq_command.specs.Tasks.{HasNoInstall, IsInstallOf, IsLimitFault, IsTextFault, IsWrittenFor, compile_outcome, document_limit};
 
 use crate::outcome::Outcome;
 use pq_compile::{
-    CompileFault, Document, DocumentFault, compile, documents_that_are_read_are_lawful,
+    CompileFault, Document, DocumentFault, compile_classes, documents_that_are_read_are_lawful,
     queries_that_are_read_have_few_atoms, read_document,
 };
 use pq_install::{Install, write_install};
@@ -18,7 +19,7 @@ use std::marker::Brand;
 use std::sync::ledger::{Blank, Ledger};
 
 /// The document of a text of at most 524,288 bytes, which may be compiled, or the text's first fault.
-fn document_of(alloc: Global, text: &[u8]) -> Result<Document, Outcome>
+pub(crate) fn document_of(alloc: Global, text: &[u8]) -> Result<Document, Outcome>
     requires { length text.now ≤ document_limit }
     ensures spells { IfOk result (λ d. Spells text.now (document_tree d)) }
     ensures compilable { IfOk result (λ d. IsCompilable (document_tree d)) }
@@ -59,24 +60,44 @@ fn outcome_of(fault: CompileFault) -> Outcome
     }
 }
 
-/// The install of a document, or the first limit that it goes beyond.
+/// The install of a document and the number of its classes, or the first limit that it goes beyond.
 fn compiled<L: Ledger>(
     alloc: Global,
     document: &Document,
     blank: Blank,
-) -> Result<Install, CompileFault>
+) -> Result<(Install, u64), CompileFault>
     requires name { blank.name ≡ L.name }
     requires parts { blank.parts ≡ L.parts }
     requires some { 0 < blank.parts }
     requires compilable { IsCompilable (document_tree document.now) }
-    ensures installed { IfOk result (IsInstalled (document_tree document.now)) }
+    ensures installed { IfOk result (λ made. IsInstalled (document_tree document.now) made.0) }
+    ensures classes { IfOk result (λ made. HasClasses (languages_in (document_tree document.now)) made.1) }
+    ensures instances { OnOk result (HasFewInstances (document_tree document.now)) }
     ensures cause { IfErr result (IsCompileFault (document_tree document.now)) }
 {
     let (book, share) = blank.open();
     let mut steps: Steps<L> = Steps::start(book, share);
-    match compile(alloc, document, &mut steps) {
-        Ok(install) => Ok(install),
+    match compile_classes(alloc, document, &mut steps) {
+        Ok(made) => Ok(made),
         Err(fault) => Err(fault),
+    }
+}
+
+/// The install of a document and the number of its classes, or the first limit that it goes beyond, as an outcome.
+pub(crate) fn compiled_document(
+    alloc: Global,
+    document: &Document,
+) -> Result<(Install, u64), Outcome>
+    requires compilable { IsCompilable (document_tree document.now) }
+    ensures installed { IfOk result (λ made. IsInstalled (document_tree document.now) made.0) }
+    ensures classes { IfOk result (λ made. HasClasses (languages_in (document_tree document.now)) made.1) }
+    ensures instances { OnOk result (HasFewInstances (document_tree document.now)) }
+    ensures err { IfErr result (λ outcome. IsLimitFault outcome (document_tree document.now)) }
+    ensures of_text { IfErr result IsOfText }
+{
+    match compiled::<Brand>(alloc, document, Blank::new(1)) {
+        Ok(made) => Ok(made),
+        Err(fault) => Err(outcome_of(fault)),
     }
 }
 
@@ -97,9 +118,9 @@ fn written(alloc: Global, document: &Document) -> Result<Vec<u8>, Outcome>
     ensures err { IfErr result (λ outcome. IsLimitFault outcome (document_tree document.now)) }
     ensures of_text { IfErr result IsOfText }
 {
-    let install = match compiled::<Brand>(alloc, document, Blank::new(1)) {
-        Ok(install) => install,
-        Err(fault) => return Err(outcome_of(fault)),
+    let (install, _) = match compiled_document(alloc, document) {
+        Ok(made) => made,
+        Err(outcome) => return Err(outcome),
     };
     match spelled(alloc, &install) {
         Ok(bytes) => Ok(bytes),

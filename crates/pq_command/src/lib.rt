@@ -7,6 +7,7 @@ mod inspect;
 mod outcome;
 mod reading;
 mod replay;
+mod summary;
 mod top;
 mod words;
 
@@ -21,6 +22,8 @@ mod inspect_tests;
 mod replay_tests;
 #[cfg(test)]
 mod row_tests;
+#[cfg(test)]
+mod summary_tests;
 #[cfg(test)]
 mod tests;
 #[cfg(test)]

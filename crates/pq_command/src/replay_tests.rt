@@ -508,6 +508,21 @@ fn each_schedule_has_its_outcome(rt: HostRuntime) -> Result<(), Fail> {
 }
 
 #[test]
+fn an_install_of_the_old_spelling_is_replayed(rt: HostRuntime) -> Result<(), Fail> {
+    let alloc = rt.alloc();
+    let mut bytes = two_ports(alloc)?;
+    assert_eq!(rt; bytes.len(), 290);
+    bytes.extend_from_slice(b"inject 1 1 eth_type=2054\nhop 0\n")?;
+    let (outcome, put) = replay(alloc, bytes)?;
+    assert_eq!(rt; outcome, Outcome::Done);
+    assert_eq!(rt;
+        put.as_slice(),
+        b"delivered switch=1 port=2 eth_type=2054 eth_src=00:00:00:00:00:00 eth_dst=00:00:00:00:00:00\n".as_slice()
+    );
+    Ok(())
+}
+
+#[test]
 fn a_cut_install_is_damaged_at_the_unit_that_is_cut(rt: HostRuntime) -> Result<(), Fail> {
     let alloc = rt.alloc();
     let whole = two_ports(alloc)?;

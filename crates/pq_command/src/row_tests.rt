@@ -21,6 +21,8 @@ struct Row {
     /// The entries and the groups that the install adds.
     entries: usize,
     groups: usize,
+    /// The report, where it is known: a line for each tag, with the query and the label of each instance.
+    report: Option<&'static str>,
     schedule: &'static str,
     output: &'static str,
 }
@@ -60,6 +62,21 @@ fn added(alloc: Global, bytes: &[u8]) -> (usize, usize) {
     (entries, groups)
 }
 
+/// The report of an install, a line for each tag with its instances, each a query with the values of a label.
+fn report(alloc: Global, bytes: &[u8]) -> Result<String, AllocError> {
+    let mut text = String::new(alloc);
+    if let Ok((install, _)) = read_install(alloc, bytes) {
+        for row in &install.report {
+            write!(text, "{}", row.tag)?;
+            for pair in &row.pairs {
+                write!(text, " {}{:?}", pair.query, pair.label.values())?;
+            }
+            text.push_str("\n")?;
+        }
+    }
+    Ok(text)
+}
+
 #[test]
 fn each_document_has_its_install(rt: HostRuntime) -> Result<(), Fail> {
     let alloc = rt.alloc();
@@ -70,6 +87,7 @@ fn each_document_has_its_install(rt: HostRuntime) -> Result<(), Fail> {
             bytes: Some(12),
             entries: 0,
             groups: 0,
+            report: Some(""),
             schedule: "",
             output: "",
         },
@@ -79,6 +97,7 @@ fn each_document_has_its_install(rt: HostRuntime) -> Result<(), Fail> {
             bytes: Some(302),
             entries: 2,
             groups: 0,
+            report: Some(""),
             schedule: "inject 1 1 eth_type=2054\nhop 0\n",
             output: "",
         },
@@ -88,6 +107,7 @@ fn each_document_has_its_install(rt: HostRuntime) -> Result<(), Fail> {
             bytes: None,
             entries: 4,
             groups: 0,
+            report: Some(""),
             schedule: "inject 1 1 eth_type=2054\nhop 0\n",
             output: "delivered switch=1 port=1 eth_type=2054 eth_src=00:00:00:00:00:00 eth_dst=00:00:00:00:00:00\n",
         },
@@ -97,6 +117,7 @@ fn each_document_has_its_install(rt: HostRuntime) -> Result<(), Fail> {
             bytes: None,
             entries: 7,
             groups: 2,
+            report: Some(""),
             schedule: "inject 1 1 eth_type=2054 eth_dst=02:00:00:00:00:0a\nhop 0\n",
             output: "delivered switch=1 port=2 eth_type=2054 eth_src=00:00:00:00:00:00 eth_dst=02:00:00:00:00:0a\n",
         },
@@ -106,6 +127,7 @@ fn each_document_has_its_install(rt: HostRuntime) -> Result<(), Fail> {
             bytes: None,
             entries: 7,
             groups: 2,
+            report: None,
             schedule: "inject 1 1 eth_type=2054\nhop 0\n",
             output: "delivered switch=1 port=2 eth_type=2054 eth_src=00:00:00:00:00:00 eth_dst=00:00:00:00:00:00\ndelivered switch=1 port=2 eth_type=2054 eth_src=00:00:00:00:00:00 eth_dst=02:00:00:00:00:0a\n",
         },
@@ -115,6 +137,7 @@ fn each_document_has_its_install(rt: HostRuntime) -> Result<(), Fail> {
             bytes: None,
             entries: 8,
             groups: 4,
+            report: Some(""),
             schedule: "inject 1 2 eth_type=2054\nhop 0\n",
             output: "delivered switch=1 port=1 eth_type=2054 eth_src=00:00:00:00:00:00 eth_dst=00:00:00:00:00:00\ndelivered switch=1 port=3 eth_type=2054 eth_src=00:00:00:00:00:00 eth_dst=00:00:00:00:00:00\n",
         },
@@ -124,6 +147,7 @@ fn each_document_has_its_install(rt: HostRuntime) -> Result<(), Fail> {
             bytes: None,
             entries: 17,
             groups: 0,
+            report: None,
             schedule: "inject 1 1 eth_type=2048 ip_proto=17 tcp_dst=80 udp_dst=80\nhop 0\ninject 1 1 eth_type=2054 tcp_dst=80\nhop 0\n",
             output: "",
         },
@@ -133,6 +157,7 @@ fn each_document_has_its_install(rt: HostRuntime) -> Result<(), Fail> {
             bytes: None,
             entries: 17,
             groups: 0,
+            report: None,
             schedule: "inject 1 1 eth_type=2054\nhop 0\n",
             output: "delivered switch=1 port=2 eth_type=2054 eth_src=00:00:00:00:00:00 eth_dst=00:00:00:00:00:00\n",
         },
@@ -142,6 +167,7 @@ fn each_document_has_its_install(rt: HostRuntime) -> Result<(), Fail> {
             bytes: None,
             entries: 23,
             groups: 0,
+            report: None,
             schedule: "inject 1 1 eth_type=2048 ipv4_dst=10.1.2.3\nhop 0\ninject 1 1 eth_type=2048 ipv4_dst=11.1.2.3\nhop 0\n",
             output: "delivered switch=1 port=2 eth_type=2048 ip_proto=0 eth_src=00:00:00:00:00:00 eth_dst=00:00:00:00:00:00 ipv4_src=0.0.0.0 ipv4_dst=11.1.2.3\n",
         },
@@ -151,6 +177,7 @@ fn each_document_has_its_install(rt: HostRuntime) -> Result<(), Fail> {
             bytes: Some(3706),
             entries: 37,
             groups: 0,
+            report: Some("3 0[]\n"),
             schedule: "inject 1 1 eth_type=2054\nhop 0\nhop 0\nhop 0\n",
             output: "delivered switch=3 port=2 eth_type=2054 eth_src=00:00:00:00:00:00 eth_dst=00:00:00:00:00:00\nbucket q [] switch=1 port=1 eth_type=2054 eth_src=00:00:00:00:00:00 eth_dst=00:00:00:00:00:00\nbucket q [] switch=2 port=1 eth_type=2054 eth_src=00:00:00:00:00:00 eth_dst=00:00:00:00:00:00\n",
         },
@@ -160,6 +187,7 @@ fn each_document_has_its_install(rt: HostRuntime) -> Result<(), Fail> {
             bytes: Some(2344),
             entries: 20,
             groups: 2,
+            report: Some("1 0[]\n3 0[]\n4 0[]\n"),
             schedule: "inject 1 1 eth_type=2054\nhop 0\nhop 0\n",
             output: "delivered switch=2 port=2 eth_type=2054 eth_src=00:00:00:00:00:00 eth_dst=00:00:00:00:00:00\nbucket q [] switch=1 port=1 eth_type=2054 eth_src=00:00:00:00:00:00 eth_dst=00:00:00:00:00:00\nbucket q [] switch=2 port=1 eth_type=2054 eth_src=00:00:00:00:00:00 eth_dst=00:00:00:00:00:00\nbucket q [] switch=2 port=1 eth_type=2054 eth_src=00:00:00:00:00:00 eth_dst=00:00:00:00:00:00\n",
         },
@@ -169,6 +197,7 @@ fn each_document_has_its_install(rt: HostRuntime) -> Result<(), Fail> {
             bytes: Some(5110),
             entries: 48,
             groups: 4,
+            report: Some("10 0[1]\n11 0[2]\n"),
             schedule: "inject 1 1 eth_type=2054\nhop 0\n",
             output: "flight tag=6 switch=2 port=1 eth_type=2054 eth_src=00:00:00:00:00:00 eth_dst=00:00:00:00:00:00\n",
         },
@@ -178,6 +207,7 @@ fn each_document_has_its_install(rt: HostRuntime) -> Result<(), Fail> {
             bytes: Some(5110),
             entries: 48,
             groups: 4,
+            report: Some("10 0[1]\n11 0[2]\n"),
             schedule: "inject 1 1 eth_type=2054\nhop 0\nhop 0\n",
             output: "delivered switch=2 port=3 eth_type=2054 eth_src=00:00:00:00:00:00 eth_dst=00:00:00:00:00:00\nbucket g [1] switch=2 port=1 eth_type=2054 eth_src=00:00:00:00:00:00 eth_dst=00:00:00:00:00:00\n",
         },
@@ -187,6 +217,7 @@ fn each_document_has_its_install(rt: HostRuntime) -> Result<(), Fail> {
             bytes: Some(3302),
             entries: 32,
             groups: 0,
+            report: None,
             schedule: "inject 1 1 eth_type=2054\nhop 0\nhop 0\nhop 0\nhop 0\nhop 0\nhop 0\n",
             output: "flight tag=7 switch=1 port=2 eth_type=2054 eth_src=00:00:00:00:00:00 eth_dst=00:00:00:00:00:00\nbucket r [] switch=2 port=2 eth_type=2054 eth_src=00:00:00:00:00:00 eth_dst=00:00:00:00:00:00\nbucket r [] switch=2 port=2 eth_type=2054 eth_src=00:00:00:00:00:00 eth_dst=00:00:00:00:00:00\nbucket r [] switch=2 port=2 eth_type=2054 eth_src=00:00:00:00:00:00 eth_dst=00:00:00:00:00:00\n",
         },
@@ -196,6 +227,7 @@ fn each_document_has_its_install(rt: HostRuntime) -> Result<(), Fail> {
             bytes: Some(1692),
             entries: 16,
             groups: 0,
+            report: None,
             schedule: "inject 1 1 eth_type=2054\ninject 1 1 eth_type=35020\nhop 0\nlose 0\nhop 0\nhop 9\n",
             output: "delivered switch=2 port=2 eth_type=2054 eth_src=00:00:00:00:00:00 eth_dst=00:00:00:00:00:00\nbucket q [] switch=2 port=1 eth_type=2054 eth_src=00:00:00:00:00:00 eth_dst=00:00:00:00:00:00\n",
         },
@@ -205,6 +237,7 @@ fn each_document_has_its_install(rt: HostRuntime) -> Result<(), Fail> {
             bytes: Some(2344),
             entries: 20,
             groups: 2,
+            report: Some("1 0[]\n3 0[]\n4 0[]\n"),
             schedule: "inject 1 1 vlan=3 eth_type=2054\nhop 0\ninject 1 1 vlan=5 eth_type=2054\nhop 0\ninject 1 1 vlan=0 eth_type=2054\nhop 0\n",
             output: "",
         },
@@ -214,6 +247,7 @@ fn each_document_has_its_install(rt: HostRuntime) -> Result<(), Fail> {
             bytes: Some(806),
             entries: 7,
             groups: 0,
+            report: Some("3 0[]\n"),
             schedule: "inject 1 2 eth_type=2054\nhop 0\n",
             output: "bucket d [] switch=1 port=2 eth_type=2054 eth_src=00:00:00:00:00:00 eth_dst=00:00:00:00:00:00\n",
         },
@@ -223,6 +257,7 @@ fn each_document_has_its_install(rt: HostRuntime) -> Result<(), Fail> {
             bytes: Some(806),
             entries: 7,
             groups: 0,
+            report: Some("3 0[]\n"),
             schedule: "inject 1 1 eth_type=2054\nhop 0\n",
             output: "delivered switch=1 port=2 eth_type=2054 eth_src=00:00:00:00:00:00 eth_dst=00:00:00:00:00:00\n",
         },
@@ -232,6 +267,7 @@ fn each_document_has_its_install(rt: HostRuntime) -> Result<(), Fail> {
             bytes: None,
             entries: 27,
             groups: 0,
+            report: Some("7 0[]\n"),
             schedule: "inject 1 1 eth_type=2054\nhop 0\nhop 0\n",
             output: "bucket d [] switch=2 port=1 eth_type=2054 eth_src=00:00:00:00:00:00 eth_dst=00:00:00:00:00:00\n",
         },
@@ -241,6 +277,7 @@ fn each_document_has_its_install(rt: HostRuntime) -> Result<(), Fail> {
             bytes: None,
             entries: 71,
             groups: 0,
+            report: None,
             schedule: "inject 1 1 eth_type=34525 ip_proto=6 tcp_dst=80 ipv6_dst=2001:db8:0:0:0:0:0:1\nhop 0\n",
             output: "delivered switch=1 port=2 eth_type=34525 ip_proto=6 eth_src=00:00:00:00:00:00 eth_dst=00:00:00:00:00:00 tcp_src=0 tcp_dst=80 ipv6_src=0:0:0:0:0:0:0:0 ipv6_dst=2001:db8:0:0:0:0:0:1\n",
         },
@@ -256,6 +293,9 @@ fn each_document_has_its_install(rt: HostRuntime) -> Result<(), Fail> {
             "{}",
             row.what
         );
+        if let Some(expected) = row.report {
+            assert_eq!(rt; report(alloc, &install)?.as_str(), expected, "{}", row.what);
+        }
         install.extend_from_slice(row.schedule.as_bytes())?;
         let (outcome, left) = answer(alloc, "replay", &install)?;
         assert_eq!(rt; outcome, Outcome::Done, "{}", row.what);
@@ -354,8 +394,11 @@ fn chain(alloc: Global, last: &str) -> Result<String, AllocError> {
 #[test]
 fn limits_hold_at_their_edge(rt: HostRuntime) -> Result<(), Fail> {
     let alloc = rt.alloc();
+    let last = chain(alloc, "in_atom(true)")?;
+    let (_, install) = answer(alloc, "compile", last.as_bytes())?;
+    assert_eq!(rt; report(alloc, &install)?.as_str(), "4092 0[]\n");
     for (text, bytes, entries, groups) in [
-        (chain(alloc, "in_atom(true)")?, Some(430), 3, 0),
+        (last, Some(430), 3, 0),
         (protocols(alloc, 120)?, Some(52_666), 489, 0),
         (grouped(alloc, 32)?, Some(26_928), 2, 0),
         (flood(alloc, 256)?, None, 514, 257),

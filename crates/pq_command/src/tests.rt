@@ -171,7 +171,14 @@ fn a_document_has_524288_bytes_at_the_most(rt: HostRuntime) -> Result<(), Fail> 
     let alloc = rt.alloc();
     let spaces = vec![in alloc; b' '; 524_289]?;
     assert_eq!(rt; outcome_of(alloc, &spaces)?, Outcome::TooLong);
-    assert_eq!(rt; outcome_of(alloc, &spaces[1..])?, Outcome::Done);
+    let words = words(alloc, &["compile"])?;
+    let mut source = source(alloc, &spaces[1..], &[])?;
+    let mut sink = sink(alloc, &[], 0)?;
+    assert_eq!(rt; run(alloc, &words, &mut source, &mut sink), Outcome::Done);
+    assert_eq!(rt;
+        hexadecimal(alloc, sink.put())?.as_str(),
+        "505149320000000000000000"
+    );
     Ok(())
 }
 

@@ -1,15 +1,13 @@
-ghost use Rattle.std.specs.Prelude.{◌≡◌, ◌↔◌, ◌≤◌, IfSome, None, Some, length, map};
+ghost use Rattle.std.specs.Prelude.{◌≡◌, ◌↔◌, None, Some, map};
 ghost use Rattle.std.specs.String.{string_bytes};
-ghost use Rattle.pq_io.specs.Faults.{Rose};
 ghost use Rattle.pq_command.specs.Answers.{
+  HasNoFault,
   HasReadFaults,
   HasWriteFaults,
-  IsAnswer,
-  IsDoneOrMemory,
   OnRefusal,
   streams,
 };
-ghost use Rattle.pq_command.specs.Tasks.{task_of};
+ghost use Rattle.pq_command.specs.Tasks.{CompletesAs, IsAnswerTo, OnUnread};
 ghost use Rattle.pq_command.specs.Words.{command_of};
 
 use crate::answer::answer;
@@ -21,7 +19,9 @@ use std::alloc::Global;
 /// Does what the words after the program's name ask for, from the source to the sink.
 ///
 /// `compile` reads a document to its end and writes its install. `replay` reads an install and at once behind it a
-/// schedule, and writes where every packet is. `inspect` reads an install and writes it as JSON text.
+/// schedule, and writes where every packet is. `inspect` reads an install and writes it as JSON text. `summary` reads a
+/// document and writes how large it and its install are. `generate N` writes the document of a row of N switches, 2 to 64, and
+/// `summary N` the summary of that document; both read nothing.
 pub fn run<S: Source, K: Sink>(
     alloc: Global,
     words: &[String],
@@ -29,12 +29,12 @@ pub fn run<S: Source, K: Sink>(
     sink: &mut K,
 ) -> Outcome
     ensures words { (result ≡ Outcome.Words) ↔ (command_of (map string_bytes words.now) ≡ None) }
-    ensures untouched { result ≡ Outcome.Words → source.new ≡ source.old }
-    ensures answers { (command : Command) → command_of (map string_bytes words.now) ≡ Some command → IsAnswer (task_of command) result (streams (S.left source.old) (S.left source.new) (K.put sink.old) (K.put sink.new)) }
+    ensures untouched { OnUnread (command_of (map string_bytes words.now)) (source.new ≡ source.old) }
+    ensures answers { (command : Command) → command_of (map string_bytes words.now) ≡ Some command → IsAnswerTo command result (streams (S.left source.old) (S.left source.new) (K.put sink.old) (K.put sink.new)) }
     ensures read_faults { HasReadFaults result (S.faults source.old) (S.faults source.new) }
     ensures write_faults { HasWriteFaults result (K.faults sink.old) (K.faults sink.new) }
     ensures refusal { OnRefusal result (sink.new ≡ sink.old) }
-    ensures completes { (Rose (S.faults source.old) (S.faults source.new) → ⊥) → (Rose (K.faults sink.old) (K.faults sink.new) → ⊥) → (command : Command) → command_of (map string_bytes words.now) ≡ Some command → IfSome (S.left source.old) (λ bytes. length bytes ≤ (task_of command).limit → (task_of command).Accepts bytes → IsDoneOrMemory result) }
+    ensures completes { (command : Command) → command_of (map string_bytes words.now) ≡ Some command → HasNoFault (S.faults source.old) (S.faults source.new) → HasNoFault (K.faults sink.old) (K.faults sink.new) → CompletesAs command (S.left source.old) result }
 {
     match Command::of_words(words) {
         Some(command) => answer(alloc, command, source, sink),

@@ -1,6 +1,9 @@
-ghost use Rattle.std.specs.Prelude.{◌≡◌, map};
+ghost use Rattle.std.specs.Prelude.{◌≡◌, ◌≤◌, IfSome, map};
 ghost use Rattle.std.specs.String.{string_bytes};
-ghost use Rattle.pq_command.specs.Words.{command_named, command_of};
+ghost use Rattle.pq_command.specs.Tasks.{HasSize};
+ghost use Rattle.pq_command.specs.Words.{command_named, command_of, command_on, size_of};
+
+use pq_term::decimal_value;
 
 /// What the program can be asked to do.
 #[derive(Clone, Copy, Debug, PartialEq, Eq)]
@@ -11,11 +14,29 @@ pub enum Command {
     Replay,
     /// Write an install as JSON text.
     Inspect,
+    /// Write how large a document and its install are.
+    Summary,
+    /// Write how large the generated document of so many switches and its install are.
+    SummaryOf { number: u32 },
+    /// Write the generated document of so many switches.
+    Generate { number: u32 },
+}
+
+/// A number of switches: a decimal number from 2 to 64 without leading zeros.
+fn size_of(word: &[u8]) -> Option<u32>
+    ensures value { result ≡ size_of word.now }
+    ensures within { IfSome result (λ n. (2 ≤ n) × (n ≤ 64)) }
+{
+    match decimal_value(64, word) {
+        Some(number) if number >= 2 => Some(number as u32),
+        _ => None,
+    }
 }
 
 impl Command {
     fn of_word(word: &[u8]) -> Option<Command>
-        ensures { result ≡ command_named word.now }
+        ensures value { result ≡ command_named word.now }
+        ensures sized { IfSome result HasSize }
     {
         if word == b"compile".as_slice() {
             return Some(Command::Compile);
@@ -26,15 +47,36 @@ impl Command {
         if word == b"inspect".as_slice() {
             return Some(Command::Inspect);
         }
+        if word == b"summary".as_slice() {
+            return Some(Command::Summary);
+        }
+        None
+    }
+
+    fn of_word_and_number(word: &[u8], number: &[u8]) -> Option<Command>
+        ensures value { result ≡ command_on word.now (size_of number.now) }
+        ensures sized { IfSome result HasSize }
+    {
+        let Some(number) = size_of(number) else {
+            return None;
+        };
+        if word == b"summary".as_slice() {
+            return Some(Command::SummaryOf { number });
+        }
+        if word == b"generate".as_slice() {
+            return Some(Command::Generate { number });
+        }
         None
     }
 
     /// The command that the words after the program's name ask for, if they have the form of one.
     pub fn of_words(words: &[String]) -> Option<Command>
-        ensures { result ≡ command_of (map string_bytes words.now) }
+        ensures value { result ≡ command_of (map string_bytes words.now) }
+        ensures sized { IfSome result HasSize }
     {
         match words {
             [word] => Command::of_word(word.as_bytes()),
+            [word, number] => Command::of_word_and_number(word.as_bytes(), number.as_bytes()),
             _ => None,
         }
     }

@@ -30,11 +30,12 @@ use Rattle.pq_meaning.specs.Laws.{CompiledImplements, HasMeaning, MeaningsAreLai
 use Rattle.pq_meaning.specs.Tags.{ClassesTag}
 use Rattle.pq_compile.specs.declared.document.Document.{Document}
 use Rattle.pq_compile.specs.declared.preparing.Prepared.{Prepared}
-use Rattle.pq_compile.specs.Compiled.{AreTablesFault, AreTablesWithin, IsCompileFault, IsInstalled, IsLaidFor, IsWithin, rules_fault}
+use Rattle.pq_compile.specs.Compiled.{AreTablesFault, AreTablesWithin, IsCompileFault, IsInstalled, IsLaidFor, rules_fault}
 use Rattle.pq_compile.specs.Documents.{DocumentTree, document_tree, named_query_tree}
 use Rattle.pq_compile.specs.Lawful.{names_in}
-use Rattle.pq_compile.specs.Prepared.{IsCompilable, IsPrepared, languages_in, parts_in, queries_in}
+use Rattle.pq_compile.specs.Prepared.{IsCompilable, IsPrepared, IsWithin, languages_in, parts_in, queries_in}
 use Rattle.pq_compile.proofs.Labelled.{lawful_instances}
+use Rattle.pq_compile.proofs.OneFault.{tables_within}
 use Rattle.pq_compile.proofs.Values.{bare_long, lawful_queries}
 
 -- the names of the queries
@@ -137,8 +138,8 @@ module _ (depart : PartsDepart) (tag : ClassesTag) (d : DocumentTree) (p : Prepa
   tables_fault (rules.GroupFull switch copies) full = (tags, writes, laid, full)
   tables_fault rules.Memory full = tt
 
-  pub tables_within : HasNoFault d.topology tags writes → AreTablesWithin d
-  tables_within none = (tags, writes, laid, none)
+  pub all_within : IsCompilable d → HasNoFault d.topology tags writes → AreTablesWithin d
+  all_within can none = tables_within d can.lawful.topology.lawful tags writes laid none
 
 -- a document whose trees are made is within the limits on what they are made from
 pub is_within : (d : DocumentTree) (p : Prepared) → IsPrepared d p → IsWithin d

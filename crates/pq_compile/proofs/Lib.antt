@@ -6,6 +6,7 @@ mod LawfulPolicies
 mod LawfulPreds
 mod LawfulQueries
 pub mod OneDocument
+pub mod OneFault
 pub mod Statements
 pub mod Values
 pub mod Labelled

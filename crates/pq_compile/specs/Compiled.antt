@@ -15,7 +15,7 @@ use Rattle.pq_compile.specs.declared.preparing.PrepareFault.{PrepareFault}
 use Rattle.pq_compile.specs.declared.preparing.PrepareFault.TheVariants as prepare
 use Rattle.pq_compile.specs.Documents.{DocumentTree}
 use Rattle.pq_compile.specs.Lawful.{names_in}
-use Rattle.pq_compile.specs.Prepared.{HasFewClasses, HasFewInstances, HasFewValues, IsPrepareFault, parts_in, queries_in}
+use Rattle.pq_compile.specs.Prepared.{IsPrepareFault, IsWithin, parts_in, queries_in}
 
 -- the install is that of the document
 abbrev pub IsInstallOf : DocumentTree → Install → Type 0
@@ -35,12 +35,6 @@ pub record IsInstalled (d : DocumentTree) (i : Install) : Type 0 where
   pub filled : IsFilled d.topology install.tags install.writes i
   pub lawful : IsLawfulInstall i
   pub implements : (m : Meaning) → IsMeaningOf d m → Implements i m
-
--- the document is within the limits on what tables are made from
-pub record IsWithin (d : DocumentTree) : Type 0 where
-  pub values : HasFewValues d
-  pub instances : HasFewInstances d
-  pub classes : HasFewClasses d
 
 -- its tables have this fault
 abbrev pub AreTablesFull : DocumentTree → RulesFault → Type 0
@@ -73,15 +67,11 @@ IsCompileFault d (TableFull switch table entries) = IsWithin d × AreTablesFull 
 IsCompileFault d (GroupFull switch copies) = IsWithin d × AreTablesFull d (rules.GroupFull switch copies)
 IsCompileFault d Memory = Unit {0}
 
--- no table is too large, and no entry has too many copies, for some tags and departures of the document, which has only these
+-- no table is too large, and no entry has too many copies, by whatever tags and departures the document is laid out
 abbrev pub AreTablesWithin : DocumentTree → Type 0
-AreTablesWithin d = (g : Tagging) × (writes : Departures) × IsLaidFor d g writes × HasNoFault d.topology g writes
+AreTablesWithin d = (g : Tagging) (writes : Departures) → IsLaidFor d g writes → HasNoFault d.topology g writes
 
 -- the document is within all limits
-abbrev pub IsWithinAll : DocumentTree → Type 0
-IsWithinAll d = IsWithin d × AreTablesWithin d
-
--- the document is within all limits, whatever tags and departures it is laid out by
 pub record IsWithinLimits (d : DocumentTree) : Type 0 where
   pub within : IsWithin d
-  pub tables : (g : Tagging) (writes : Departures) → IsLaidFor d g writes → HasNoFault d.topology g writes
+  pub tables : AreTablesWithin d

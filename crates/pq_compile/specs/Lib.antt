@@ -3,3 +3,4 @@ pub mod Lawful
 pub mod Names
 pub mod Prepared
 pub mod Compiled
+pub mod Laws

@@ -1,6 +1,8 @@
 -- What the tables of a document's network are made from.
 use Rattle.std.specs.Prelude.{◌≡◌, ◌<◌, ◌≤◌, ◌^◌, ℕ, List, map, length, All, Some}
+use Rattle.std.specs.declared.option.Option.{Option}
 use Rattle.std.specs.declared.option.Option.TheVariants.{None}
+use Rattle.pq_fields.specs.declared.field.Field.{Field}
 use Rattle.pq_model.specs.Classes.{HasClasses, Languages}
 use Rattle.pq_policy.specs.Policy.{PolicyTree}
 use Rattle.pq_query.specs.Atoms.{query_atoms}
@@ -39,9 +41,13 @@ pub record IsCompilable (d : DocumentTree) : Type 0 where
   pub lawful : IsLawfulDocument d
   pub atoms : All (λ q. query_atoms q < 2 ^ 19) (queries_in d)
 
+-- the first field for which the document states more numbers than its limit allows, with how many these are
+abbrev pub full_field : DocumentTree → Option (Field × ℕ)
+full_field d = first_full (stated d.topology (parts_in d) (queries_in d))
+
 -- no field is above its limit of stated values
 abbrev pub HasFewValues : DocumentTree → Type 0
-HasFewValues d = first_full (stated d.topology (parts_in d) (queries_in d)) ≡ None
+HasFewValues d = full_field d ≡ None
 
 -- there are at most 1,024 instances
 abbrev pub HasFewInstances : DocumentTree → Type 0
@@ -51,9 +57,15 @@ HasFewInstances d = label_sum d.topology (queries_in d) ≤ 1024
 abbrev pub HasFewClasses : DocumentTree → Type 0
 HasFewClasses d = (n : ℕ) × HasClasses (languages_in d) n × (n ≤ 4094)
 
+-- the document is within the limits on what tables are made from
+pub record IsWithin (d : DocumentTree) : Type 0 where
+  pub values : HasFewValues d
+  pub instances : HasFewInstances d
+  pub classes : HasFewClasses d
+
 -- the first limit on what tables are made from that the document is beyond; want of memory may come at any time
 abbrev pub IsPrepareFault : DocumentTree → PrepareFault → Type 0
-IsPrepareFault d (ValuesFull field count) = first_full (stated d.topology (parts_in d) (queries_in d)) ≡ Some (field, count)
+IsPrepareFault d (ValuesFull field count) = full_field d ≡ Some (field, count)
 IsPrepareFault d (InstancesFull count) = HasFewValues d × IsCause (listing.InstancesFull count) (label_sum d.topology (queries_in d))
 IsPrepareFault d (TagWidth classes) = HasFewValues d × HasFewInstances d × HasClasses (languages_in d) classes × (4094 < classes)
 IsPrepareFault d Memory = Unit {0}

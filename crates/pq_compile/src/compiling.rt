@@ -6,7 +6,7 @@ ghost use Rattle.pq_compile.specs.Compiled.{
   AreTablesWithin,
   IsCompileFault,
   IsInstalled,
-  IsWithinAll,
+  IsWithinLimits,
   prepare_fault,
   rules_fault,
 };
@@ -152,7 +152,7 @@ pub fn compile_classes<L: Ledger>(
     ensures installed { IfOk result (λ r. IsInstalled (document_tree document.now) r.0) }
     ensures classes { IfOk result (λ r. HasClasses (languages_in (document_tree document.now)) r.1) }
     ensures cause { IfErr result (IsCompileFault (document_tree document.now)) }
-    ensures complete { OnOk result (IsWithinAll (document_tree document.now)) }
+    ensures complete { OnOk result (IsWithinLimits (document_tree document.now)) }
 {
     let prepared = match prepare(alloc, document, steps) {
         Ok(prepared) => prepared,
@@ -174,7 +174,7 @@ pub fn compile<L: Ledger>(
     requires { IsCompilable (document_tree document.now) }
     ensures installed { IfOk result (IsInstalled (document_tree document.now)) }
     ensures cause { IfErr result (IsCompileFault (document_tree document.now)) }
-    ensures complete { OnOk result (IsWithinAll (document_tree document.now)) }
+    ensures complete { OnOk result (IsWithinLimits (document_tree document.now)) }
 {
     match compile_classes(alloc, document, steps) {
         Ok((install, _)) => Ok(install),

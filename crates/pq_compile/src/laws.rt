@@ -1,8 +1,9 @@
-//! What makes the answer to a text the only one.
+//! What makes the answer to a text, and to a document, the only one.
 ghost use Rattle.std.specs.Prelude.{◌≡◌, ℕ, List};
 ghost use Rattle.pq_compile.specs.declared.fault.DocumentFault.{DocumentFault};
 ghost use Rattle.pq_compile.specs.declared.fault.DocumentFault.TheVariants.{Memory};
 ghost use Rattle.pq_compile.specs.Documents.{DocumentTree, IsDocumentFault, Spells};
+ghost use Rattle.pq_compile.specs.Laws.{HasNoCompileFault, HasNoPrepareFault, HasOneCompileFault, HasOnePrepareFault};
 
 /// A text spells one document at most; it is refused for one fault at most, want of memory aside; and a text that spells
 /// a document is refused for want of memory only. It does nothing when it runs.
@@ -11,4 +12,13 @@ pub fn has_one_document()
     ensures fault { (bytes : List ℕ) (f g : DocumentFault) → IsDocumentFault bytes f → IsDocumentFault bytes g
         → (f ≡ Memory → ⊥) → (g ≡ Memory → ⊥) → f ≡ g }
     ensures none { (bytes : List ℕ) (d : DocumentTree) (f : DocumentFault) → Spells bytes d → IsDocumentFault bytes f → f ≡ Memory }
+{}
+
+/// A document over a lawful topology is refused by `compile`, and by `prepare`, for one limit at most, want of memory aside; and
+/// one that is within the limits is refused for want of memory only. It does nothing when it runs.
+pub fn has_one_compile_fault()
+    ensures prepare_fault { HasOnePrepareFault }
+    ensures no_prepare_fault { HasNoPrepareFault }
+    ensures compile_fault { HasOneCompileFault }
+    ensures no_compile_fault { HasNoCompileFault }
 {}

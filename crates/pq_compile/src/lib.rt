@@ -6,6 +6,7 @@ mod document;
 mod fault;
 mod lawful;
 mod laws;
+mod limits;
 mod names;
 mod parts;
 mod preparing;
@@ -22,6 +23,7 @@ pub use lawful::{
     predicates_that_are_read_are_lawful, queries_that_are_read_are_lawful,
     queries_that_are_read_have_few_atoms,
 };
-pub use laws::has_one_document;
+pub use laws::{has_one_compile_fault, has_one_document};
+pub use limits::values_full;
 pub use preparing::{PrepareFault, Prepared, prepare};
 pub use reading::read_document;

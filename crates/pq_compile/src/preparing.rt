@@ -10,12 +10,14 @@ ghost use Rattle.pq_compile.specs.Prepared.{
   IsPrepareFault,
   IsPrepared,
   IsTold,
+  IsWithin,
   parts_in,
   queries_in,
 };
 ghost use Rattle.pq_query.specs.Instances.{IsCause, label_sum};
 
 use crate::document::Document;
+use crate::limits::values_full;
 use pq_classes::{QueryClasses, query_classes};
 use pq_emit::all_trees;
 use pq_fields::Field;
@@ -27,7 +29,6 @@ use pq_min::Classes;
 use pq_query::{Instance, InstancesFault};
 use pq_rewrite::{Arrive, Copies, SwitchTrees, WriteSet};
 use pq_store::{NodeId, Store};
-use pq_values::values_full;
 use std::alloc::{AllocError, Global};
 use std::sync::ledger::Ledger;
 use thiserror::Error;
@@ -81,12 +82,7 @@ fn few_values(alloc: Global, document: &Document) -> Result<(), PrepareFault>
     ensures few { OnOk result (HasFewValues (document_tree document.now)) }
     ensures cause { IfErr result (IsPrepareFault (document_tree document.now)) }
 {
-    match values_full(
-        alloc,
-        &document.topology,
-        &document.parts,
-        &document.queries,
-    ) {
+    match values_full(alloc, document) {
         Ok(None) => Ok(()),
         Ok(Some((field, count))) => Err(PrepareFault::ValuesFull { field, count }),
         Err(_) => Err(PrepareFault::Memory),
@@ -227,6 +223,7 @@ pub fn prepare<L: Ledger>(
     requires { IsCompilable (document_tree document.now) }
     ensures prepared { IfOk result (IsPrepared (document_tree document.now)) }
     ensures cause { IfErr result (IsPrepareFault (document_tree document.now)) }
+    ensures complete { OnOk result (IsWithin (document_tree document.now)) }
 {
     match few_values(alloc, document) {
         Ok(()) => {}

@@ -6,7 +6,8 @@ mod Meant
 mod PartsHalves
 mod Presence
 mod OneTagging
-mod OneInstall
+pub mod OneInstall
 mod Existing
 mod ClassTags
+mod Fewest
 mod Examples

@@ -20,12 +20,12 @@ use Rattle.pq_rewrite.specs.declared.trees.Key.TheVariants.{Plain, Tag}
 use Rattle.pq_rewrite.proofs.InSequence.{on_fits}
 use Rattle.pq_rewrite.proofs.Sets.{one_given}
 use Rattle.pq_layout.specs.Actions.{key_word, tag_word}
-use Rattle.pq_layout.specs.Emission.{AreMessages, IsEmission, instances_at, report_of}
+use Rattle.pq_layout.specs.Emission.{AreMessages, AreTrees, IsEmission, instances_at, report_of}
 use Rattle.pq_layout.specs.Leaves.{AreDepartures, Departures, arrival, arrive, at_switch, capture_of, copies_by, copies_of, leaving, sent_of}
-use Rattle.pq_layout.specs.Messages.{messages_of}
+use Rattle.pq_layout.specs.Messages.{ArrivingTrees, LeavingTrees, messages_of}
 use Rattle.pq_layout.specs.Tagging.{Tagging, captures, even_tags, is_empty, odd_tags, up_to}
 use Rattle.pq_layout.specs.Trees.{IsArriving, IsLeaving, IsTreeOf, keys_of}
-use Rattle.pq_meaning.specs.Compiled.{IsCompiled}
+use Rattle.pq_meaning.specs.Compiled.{IsCompiled, IsLaid}
 use Rattle.pq_meaning.specs.Meaning.{departs}
 use Rattle.pq_meaning.proofs.InstancesAscend.{all_append, all_map, all_weaker}
 use Rattle.pq_meaning.proofs.OneTagging.{AreAlike, taggings_alike}
@@ -65,6 +65,15 @@ up_to_within (suc n) count most = all_append (IsOneOf count) (up_to n) (suc n �
 module _ {K L : Type 0} (word : K → ℕ) (F G : K → Numbers → L) (Known : K → Type 0) (agree : (k : K) → Known k → (x : Numbers) → Fit x → F k x ≡ G k x) where
   abbrev AreTreesOf : (K → Numbers → L) → List K → List (ℕ × Tree L) → Type 0
   AreTreesOf H ks ps = AllZip (λ k p. (p.0 ≡ word k) × IsTreeOf (H k) p.1) ks ps
+
+  -- so a tree of the one is one of the other
+  other_trees : (ks : List K) → AllByRecursion Known ks → (ps : List (ℕ × Tree L)) → AreTreesOf F ks ps → AreTreesOf G ks ps
+  other_trees [] known [] a = tt
+  other_trees [] known (p ∷ ps) a = absurd a
+  other_trees (k ∷ ks) known [] a = absurd a
+  other_trees (k ∷ ks) known (p ∷ ps) a =
+      let tree = a.0.1 in
+      ((a.0.0, record { gives = λ x fit. tree.gives x fit ∙ agree k known.0 x fit; diagram = tree.diagram }), other_trees ks known.1 ps a.1)
 
   one_tree : (k : K) → Known k → (p q : ℕ × Tree L) → (p.0 ≡ word k) × IsTreeOf (F k) p.1 → (q.0 ≡ word k) × IsTreeOf (G k) q.1 → p ≡ q
   one_tree k known p q a b =
@@ -190,18 +199,32 @@ module _ (T : Topology) (g h : Tagging) (alike : AreAlike g h) where
         let same : writes x ≡ more x = one_given x (P x) (P x) (writes x) (more x) (λ y. (λ p. p, λ p. p)) given (right x fit) in
         copies_same t x known fit (writes x) (recursion_from_All AllFit (writes x) given.fit) ∙ ap (copies_of T h t x) same
 
-    -- the messages of a switch
-    messages_same : (d : ℕ) → d < 2 ^ 64 → (ms ns : List Message) → AreMessages T g writes d ms → AreMessages T h more d ns → ms ≡ ns
-    messages_same d small ms ns a b =
-        let left_trees = a.trees in
-        let right_trees = b.trees in
-        let first : a.first ≡ b.first = one_trees key_word (λ k x. arrival T g k (at_switch d x)) (λ k x. arrival T h k (at_switch d x)) IsKey
-        (λ k known x fit. arrival_same k known (at_switch d x) (at_fits d x small fit)) (keys_of g) keys_known a.first b.first left_trees.arriving
-        (subst (λ ks. AllZip (λ k p. (p.0 ≡ key_word k) × IsArriving T h d k p.1) ks b.first) (sym keys_same) right_trees.arriving) in
-        let second : a.second ≡ b.second = one_trees tag_word (λ t x. leaving T g writes t (at_switch d x)) (λ t x. leaving T h more t (at_switch d x)) (IsOneOf g.count)
-        (λ t known x fit. leaving_same t known (at_switch d x) (at_fits d x small fit)) (odd_tags g) odds_known a.second b.second left_trees.leaving
-        (subst (λ ts. AllZip (λ t p. (p.0 ≡ tag_word t) × IsLeaving T h more d t p.1) ts b.second) (sym odds_same) right_trees.leaving) in
-        a.messages ∙ (ap₂ messages_of first second ∙ sym b.messages)
+    module _ (d : ℕ) (small : d < 2 ^ 64) where
+      arrival_at : (k : Key) → IsKey k → (x : Numbers) → Fit x → arrival T g k (at_switch d x) ≡ arrival T h k (at_switch d x)
+      arrival_at k known x fit = arrival_same k known (at_switch d x) (at_fits d x small fit)
+
+      leaving_at : (t : ℕ) → IsOneOf g.count t → (x : Numbers) → Fit x → leaving T g writes t (at_switch d x) ≡ leaving T h more t (at_switch d x)
+      leaving_at t known x fit = leaving_same t known (at_switch d x) (at_fits d x small fit)
+
+      -- the trees of a switch
+      pub trees_same : (a : ArrivingTrees) (b : LeavingTrees) → AreTrees T g writes d a b → AreTrees T h more d a b
+      trees_same a b trees = record {
+        arriving = subst (λ ks. AllZip (λ k p. (p.0 ≡ key_word k) × IsArriving T h d k p.1) ks a) keys_same
+            (other_trees key_word (λ k x. arrival T g k (at_switch d x)) (λ k x. arrival T h k (at_switch d x)) IsKey arrival_at (keys_of g) keys_known a trees.arriving);
+        leaving = subst (λ ts. AllZip (λ t p. (p.0 ≡ tag_word t) × IsLeaving T h more d t p.1) ts b) odds_same
+            (other_trees tag_word (λ t x. leaving T g writes t (at_switch d x)) (λ t x. leaving T h more t (at_switch d x)) (IsOneOf g.count) leaving_at (odd_tags g) odds_known b trees.leaving);
+      }
+
+      -- the messages of a switch
+      messages_same : (ms ns : List Message) → AreMessages T g writes d ms → AreMessages T h more d ns → ms ≡ ns
+      messages_same ms ns a b =
+          let left_trees = a.trees in
+          let right_trees = b.trees in
+          let first : a.first ≡ b.first = one_trees key_word (λ k x. arrival T g k (at_switch d x)) (λ k x. arrival T h k (at_switch d x)) IsKey arrival_at (keys_of g) keys_known a.first b.first
+          left_trees.arriving (subst (λ ks. AllZip (λ k p. (p.0 ≡ key_word k) × IsArriving T h d k p.1) ks b.first) (sym keys_same) right_trees.arriving) in
+          let second : a.second ≡ b.second = one_trees tag_word (λ t x. leaving T g writes t (at_switch d x)) (λ t x. leaving T h more t (at_switch d x)) (IsOneOf g.count) leaving_at (odd_tags g)
+          odds_known a.second b.second left_trees.leaving (subst (λ ts. AllZip (λ t p. (p.0 ≡ tag_word t) × IsLeaving T h more d t p.1) ts b.second) (sym odds_same) right_trees.leaving) in
+          a.messages ∙ (ap₂ messages_of first second ∙ sym b.messages)
 
     all_messages_same : (ss : List Switch) → AllByRecursion IsLawfulSwitch ss → (mss nss : List (List Message))
         → AllZip (λ s ms. AreMessages T g writes s.datapath ms) ss mss → AllZip (λ s ns. AreMessages T h more s.datapath ns) ss nss → mss ≡ nss
@@ -235,7 +258,13 @@ one_emission T names P instances g h writes more i j lawful alike left right a b
     let messages = all_messages_same T g h alike P writes more left right T.switches (recursion_from_All IsLawfulSwitch T.switches lawful.switches) i.messages j.messages a.messages b.messages in
     λ k. record { topology = topology k; queries = queries k; report = report k; messages = messages k }
 
--- so a document has one
+-- so a document has one set of trees
+pub one_set_of_trees : (T : Topology) (ps : List PolicyTree) (qs : List QueryTree) (g h : Tagging) (writes more : Departures) → IsLaid T ps qs g writes → IsLaid T ps qs h more
+    → (d : ℕ) → d < 2 ^ 64 → (a : ArrivingTrees) (b : LeavingTrees) → AreTrees T g writes d a b → AreTrees T h more d a b
+one_set_of_trees T ps qs g h writes more left right =
+    trees_same T g h (taggings_alike (IsHeld qs (instances_of T qs)) g h left.tagging right.tagging) (departs T ps) writes more left.departures right.departures
+
+-- and one install
 pub one_install : (T : Topology) (names : List (List ℕ)) (ps : List PolicyTree) (qs : List QueryTree) (i j : Install)
     → IsLawfulTopology T → IsCompiled T names ps qs i → IsCompiled T names ps qs j → i ≡ j
 one_install T names ps qs i j lawful a b =

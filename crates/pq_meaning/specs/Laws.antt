@@ -1,5 +1,5 @@
 -- Laws that join diagrams, tags and tables.
-use Rattle.std.specs.Prelude.{◌≡◌, ℕ, false, List}
+use Rattle.std.specs.Prelude.{◌≡◌, ◌<◌, ◌^◌, ℕ, false, List}
 use Rattle.pq_fields.specs.declared.field.Field.{Field}
 use Rattle.pq_fields.specs.Packet.{has_field}
 use Rattle.pq_fields.specs.Writes.{Written}
@@ -14,7 +14,9 @@ use Rattle.pq_query.specs.Query.{QueryTree}
 use Rattle.pq_store.specs.Laws.{Ignores}
 use Rattle.pq_store.specs.Tree.{Tree, value}
 use Rattle.pq_rewrite.specs.Rewriting.{IsIdleFree}
+use Rattle.pq_layout.specs.Emission.{AreTrees}
 use Rattle.pq_layout.specs.Leaves.{AreDepartures, Departures, departing}
+use Rattle.pq_layout.specs.Messages.{ArrivingTrees, LeavingTrees}
 use Rattle.pq_layout.specs.Tagging.{Tagging}
 use Rattle.pq_headline.specs.LaidOut.{IsLaidOut}
 use Rattle.pq_meaning.specs.Compiled.{IsCompiled, IsFilled, IsLaid}
@@ -52,6 +54,12 @@ abbrev pub HasOneInstall : Type 0
 HasOneInstall =
     (T : Topology) (names : List (List ℕ)) (ps : List PolicyTree) (qs : List QueryTree) (i j : Install)
     → IsLawfulTopology T → IsCompiled T names ps qs i → IsCompiled T names ps qs j → i ≡ j
+
+-- by whatever departures and tags a document is laid out, its trees are the same, at each datapath number
+abbrev pub HasOneSetOfTrees : Type 0
+HasOneSetOfTrees =
+    (T : Topology) (ps : List PolicyTree) (qs : List QueryTree) (g h : Tagging) (writes more : Departures) → IsLaid T ps qs g writes → IsLaid T ps qs h more
+    → (d : ℕ) → d < 2 ^ 64 → (a : ArrivingTrees) (b : LeavingTrees) → AreTrees T g writes d a b → AreTrees T h more d a b
 
 -- where departures and tags are laid out for a document, the document has a meaning
 abbrev pub HasMeaning : Type 0

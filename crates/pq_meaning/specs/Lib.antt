@@ -3,4 +3,5 @@ pub mod Parts
 pub mod Compiled
 pub mod Laws
 pub mod Tags
+pub mod Markings
 pub mod Examples

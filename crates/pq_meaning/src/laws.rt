@@ -1,5 +1,14 @@
 //! Laws that join the layers below a compiler: calls that do nothing, for what their contracts say.
-ghost use Rattle.pq_meaning.specs.Laws.{CompiledImplements, HasMeaning, HasOneInstall, MeaningsAreLaidOut, PartsAreIdleFree, PartsDepart, PartsIgnoreLacking};
+ghost use Rattle.pq_meaning.specs.Laws.{
+  CompiledImplements,
+  HasMeaning,
+  HasOneInstall,
+  HasOneSetOfTrees,
+  MeaningsAreLaidOut,
+  PartsAreIdleFree,
+  PartsDepart,
+  PartsIgnoreLacking,
+};
 
 use pq_lookup::switch_sends;
 
@@ -22,6 +31,7 @@ pub fn compiled_implements()
 {
     switch_sends();
 }
+
 /// Law. Where the parts are lawful, what their diagram writes on a packet doesn't depend on the number in a field that the
 /// packet lacks.
 pub fn parts_ignore_lacking()
@@ -31,6 +41,11 @@ pub fn parts_ignore_lacking()
 /// Law. A document has one install.
 pub fn one_install()
     ensures { HasOneInstall }
+{}
+
+/// Law. By whatever departures and tags a document is laid out, the trees of a switch are the same.
+pub fn documents_have_one_set_of_trees()
+    ensures { HasOneSetOfTrees }
 {}
 
 /// Law. Where departures and tags are laid out for a document, the document has a meaning.

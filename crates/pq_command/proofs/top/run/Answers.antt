@@ -5,5 +5,5 @@ use Rattle.pq_command.proofs.Complete.{completed}
 pub returns-in-Some-clause-completes : goal.returns-in-Some-clause-completes
 returns-in-Some-clause-completes g c =
     let e = c.answer.ensures in
-    λ no_read no_write command named.
-    completed _ command (sym c.in-Some.is ∙ c.of_words.ensures ∙ named) c.answer.result _ _ _ _ _ _ _ _ e.answer e.read_faults e.write_faults no_read no_write
+    λ command named no_read no_write.
+    completed _ command (sym c.in-Some.is ∙ c.of_words.ensures.value ∙ named) _ _ _ _ _ _ _ _ no_read no_write c.answer.result e.answer e.read_faults e.write_faults

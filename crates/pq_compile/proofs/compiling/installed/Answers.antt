@@ -7,7 +7,7 @@ use Rattle.pq_layout.specs.Emission.{IsEmission}
 use Rattle.pq_emit.specs.Held.{AreHeldBelow, AreInstances}
 use Rattle.pq_emit.specs.Switches.{AreSwitchesAt}
 use Rattle.pq_compile.specs.Documents.{document_tree}
-use Rattle.pq_compile.proofs.Installed.{are_instances, held_below, is_installed, listed, names_are, switches, tables_fault, tables_within, tags, writes}
+use Rattle.pq_compile.proofs.Installed.{all_within, are_instances, held_below, is_installed, listed, names_are, switches, tables_fault, tags, writes}
 use Rattle.pq_compile.proofs.compiling.installed.Goals as goal
 
 pub assembled-requires-clause-names_differ : goal.assembled-requires-clause-names_differ
@@ -55,7 +55,7 @@ returns-in-Ok-assembled-clause-complete c =
     let tag = c.classes_tag.ensures in
     let is = c.requires.prepared in
     let at = subst (λ (ts : List SwitchTrees). AreSwitchesAt d.topology (tags depart tag d p is) (writes depart tag d p is) p.first p.second ts) (sym c.deref-4.ensures.value) (switches depart tag d p is) in
-    tables_within depart tag d p is (c.in-Ok-assembled.ensures.complete p.letters (writes depart tag d p is) at)
+    all_within depart tag d p is c.requires.compilable (c.in-Ok-assembled.ensures.complete p.letters (writes depart tag d p is) at)
 
 pub returns-clause-cause : goal.returns-clause-cause
 returns-clause-cause c =

@@ -1,0 +1,12 @@
+mod ListLemmas
+mod EqualLemmas
+mod OwnLemmas
+mod EntriesLemmas
+mod GroupsLemmas
+mod FitLemmas
+mod TurningLemmas
+mod LawfulLemmas
+mod KeysLemmas
+mod StepLemmas
+mod AssemblyLemmas
+mod MessagesLemmas

@@ -1,0 +1,5 @@
+pub mod Division
+pub mod Rules
+pub mod Speaking
+pub mod Hearing
+pub mod World

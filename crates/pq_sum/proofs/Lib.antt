@@ -1,0 +1,9 @@
+mod Replaced
+mod Unions
+mod Trees
+mod Changing
+mod Filling
+mod Leaves
+mod Moving
+mod Removing
+mod Called
