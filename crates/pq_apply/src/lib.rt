@@ -12,8 +12,6 @@ mod prerequisites;
 mod products;
 mod restriction;
 mod splitting;
-#[cfg(test)]
-mod tests;
 
 pub use choice::ite;
 pub use combination::combine;

@@ -12,8 +12,6 @@ mod quotient;
 mod refinement;
 mod single;
 mod table;
-#[cfg(test)]
-mod tests;
 
 pub use automaton::Automaton;
 pub use exploration::explore;

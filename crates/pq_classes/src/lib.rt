@@ -6,6 +6,3 @@ mod letters;
 mod lowering;
 
 pub use classes::{QueryClasses, query_classes};
-
-#[cfg(test)]
-mod tests;

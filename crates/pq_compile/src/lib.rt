@@ -12,8 +12,6 @@ mod parts;
 mod preparing;
 mod queries;
 mod reading;
-#[cfg(test)]
-mod tests;
 
 pub use compiling::{CompileFault, compile, compile_classes};
 pub use document::Document;

@@ -8,8 +8,6 @@ mod key;
 mod laws;
 mod sending;
 mod switch;
-#[cfg(test)]
-mod tests;
 
 pub use install::delta;
 pub use laws::{deltas_are_lawful, deltas_turn_tables};

@@ -12,8 +12,6 @@ mod sets;
 mod starts;
 mod state;
 mod steps;
-#[cfg(test)]
-mod tests;
 
 pub use laws::{equal_states_of_one_expression_are_one, rests_are_few};
 pub use pq_expr::Side;

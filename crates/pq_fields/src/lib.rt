@@ -22,6 +22,3 @@ pub use presence::has;
 pub use truth::holds;
 pub use widths::width;
 pub use writes::{Writes, writes_are_ordered_by_numbers};
-
-#[cfg(test)]
-mod tests;

@@ -12,8 +12,6 @@ mod message;
 mod reading;
 mod rules;
 mod set_field;
-#[cfg(test)]
-mod tests;
 
 pub use message::write_message;
 pub use pq_model::{Action, FlowCommand, FlowMod, GroupCommand, GroupMod, Message};

@@ -6,6 +6,3 @@ mod leaves;
 mod policies;
 
 pub use policies::forward;
-
-#[cfg(test)]
-mod tests;

@@ -9,8 +9,6 @@ mod numbers;
 mod report;
 mod shown;
 mod switch;
-#[cfg(test)]
-mod tests;
 mod text;
 mod whole;
 

@@ -16,8 +16,6 @@ mod source;
 mod steps;
 mod stream_sink;
 mod stream_source;
-#[cfg(test)]
-mod tests;
 
 pub use faults::Failed;
 pub use memory_sink::MemorySink;

@@ -1,7 +1,6 @@
 pub mod Arrivals
 pub mod Departed
 pub mod Dropping
-pub mod Examples
 pub mod Fronts
 pub mod Guards
 pub mod Joins

@@ -11,4 +11,3 @@ pub mod Arriving
 pub mod Leaving
 pub mod Switch
 pub mod Sound
-pub mod Examples

@@ -12,8 +12,6 @@ mod overwriting;
 mod ports;
 mod sight;
 mod tags;
-#[cfg(test)]
-mod tests;
 mod trees;
 
 pub use laws::{tests_stand_below_prerequisites, trees_are_sound, trees_test_ports};

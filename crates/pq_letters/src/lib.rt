@@ -6,8 +6,6 @@ mod letters;
 mod numbering;
 mod signature;
 mod signing;
-#[cfg(test)]
-mod tests;
 
 pub use laws::least_packets_spell_letters;
 pub use letters::Letters;

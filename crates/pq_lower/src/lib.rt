@@ -11,6 +11,3 @@ mod twins;
 
 pub use expression::lower;
 pub use laws::more_predicates_tell_the_same;
-
-#[cfg(test)]
-mod tests;

@@ -10,4 +10,3 @@ pub mod OneInstall
 mod Existing
 mod ClassTags
 mod Fewest
-mod Examples

@@ -4,4 +4,3 @@ pub mod Compiled
 pub mod Laws
 pub mod Tags
 pub mod Markings
-pub mod Examples

@@ -13,6 +13,3 @@ pub use laws::{
 pub use markings::{Marking, tags_are_fewest, tags_are_marks};
 pub use parts::parts_forward;
 pub use tags::classes_tag;
-
-#[cfg(test)]
-mod tests;

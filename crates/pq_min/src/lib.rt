@@ -3,8 +3,6 @@
 
 mod classes;
 mod minimisation;
-#[cfg(test)]
-mod tests;
 
 pub use classes::Classes;
 pub use minimisation::minimise;

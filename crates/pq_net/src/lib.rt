@@ -11,8 +11,6 @@ mod net;
 mod opening;
 mod sorting;
 mod state;
-#[cfg(test)]
-mod tests;
 mod wiring;
 
 pub use entry::Entry;

@@ -11,8 +11,6 @@ pub mod oxm_field;
 mod reading;
 mod rules;
 mod stated;
-#[cfg(test)]
-mod tests;
 
 pub use bytes::{mac_of, padding, u16_of, u32_of, u64_of, write_length, write_zeros};
 pub use matching::{keeps_rules, write_match};

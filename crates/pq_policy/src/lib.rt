@@ -12,6 +12,3 @@ pub use apply::apply_plain;
 pub use laws::policies_yield_one_list;
 pub use policy::Policy;
 pub use resolve::resolve_policy;
-
-#[cfg(test)]
-mod tests;

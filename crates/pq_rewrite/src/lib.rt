@@ -7,8 +7,6 @@ mod outgoing;
 mod presence;
 mod sequence;
 mod settled;
-#[cfg(test)]
-mod tests;
 mod trees;
 mod unions;
 mod write_set;

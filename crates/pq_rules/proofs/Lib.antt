@@ -14,4 +14,3 @@ mod SwitchLemmas
 mod BytesLemmas
 mod ActionLemmas
 mod LawfulLemmas
-mod ExampleLemmas

@@ -5,4 +5,3 @@ pub mod Tables
 pub mod Grouping
 pub mod Refusals
 pub mod Renewing
-pub mod Examples

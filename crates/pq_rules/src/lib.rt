@@ -10,8 +10,6 @@ mod matching;
 mod renewal;
 mod roots;
 mod tables;
-#[cfg(test)]
-mod tests;
 
 pub use actions::copy_actions;
 pub use entries::entry_matches;

@@ -11,8 +11,6 @@ mod rules;
 mod session;
 mod speaker;
 mod talk;
-#[cfg(test)]
-mod tests;
 
 pub use laws::{installed_means_processed, pieces_are_heard_as_one, renewals_are_installed};
 pub use own_barrier::ends_with_own_barrier;

@@ -9,8 +9,6 @@ mod least;
 mod node_id;
 mod store;
 mod test;
-#[cfg(test)]
-mod tests;
 mod view;
 
 pub use laws::{ignored_fields_are_untested, one_diagram, prerequisites_stand_first};

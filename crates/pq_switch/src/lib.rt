@@ -16,6 +16,3 @@ mod tables;
 pub use pq_model::{Sent, Tagged};
 pub use sending::hop;
 pub use tables::Tables;
-
-#[cfg(test)]
-mod tests;

@@ -13,6 +13,3 @@ pub use laws::{
     no_field_is_full, policies_have_ports, queries_have_ports, room_serves_all,
     stated_values_have_room,
 };
-
-#[cfg(test)]
-mod tests;

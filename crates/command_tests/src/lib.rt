@@ -1,0 +1,15 @@
+//! Tests of whole commands over sources and sinks in memory.
+#![tactic(auto)]
+
+#[cfg(test)]
+mod commands;
+#[cfg(test)]
+mod inspections;
+#[cfg(test)]
+mod replays;
+#[cfg(test)]
+mod rows;
+#[cfg(test)]
+mod summaries;
+#[cfg(test)]
+mod two_tables;

@@ -1,5 +1,0 @@
-use Rattle.std.proofs.lemmas.Option.{slice_get_within}
-use Rattle.pq_rewrite.proofs.tests.writes_on.Goals as goal
-
-pub eval-requires : goal.eval-requires
-eval-requires c = let example = c.requires in slice_get_within c.args.store.now c.args.node example.0 example.1

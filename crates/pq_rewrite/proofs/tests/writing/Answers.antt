@@ -1,5 +1,0 @@
-use Rattle.pq_rewrite.proofs.Examples.{writing_example}
-use Rattle.pq_rewrite.proofs.tests.writing.Goals as goal
-
-pub returns-clause-example : goal.returns-clause-example
-returns-clause-example c = writing_example c.args.field c.args.value c.write.new.store c.in_ok-id.id c.requires.known c.in_ok-id.ensures.writes
