@@ -1,10 +1,10 @@
 -- Bytes one after another.
-use Rattle.std.proofs.Common.{◌≡◌, ◌≤◌, ◌<◌, ◌+◌, ℕ, suc, List, [], ◌∷◌, ◌++◌, refl, sym, ap, subst, ◌∙◌, arith, length, length-append, append-nil, append_assoc, take, drop, get_or, Option, None, Some}
+use Rattle.std.proofs.Common.{◌≡◌, ◌≤◌, ◌<◌, ◌+◌, ◌-◌, ℕ, List, [], ◌∷◌, ◌++◌, refl, sym, ap, subst, ◌∙◌, arith, length, length-append, append_assoc, take, drop, get_or, None, Some}
 use Rattle.std.proofs.Math.Seq.{drop-append-add}
-use Rattle.std.proofs.lemmas.List.{drop-append-le, length-take, take-append-drop, take_more}
+use Rattle.std.proofs.lemmas.List.{drop-append-le, drop-drop, drop-take, length-take, take-append-drop, take_more}
 use Rattle.pq_pieces.specs.declared.line.Line.{Line}
 use Rattle.pq_pieces.specs.Pieces.{BeginsLong, pieces_of}
-use Rattle.pq_pieces.specs.Lines.{GoesOn, IsParted, Takes, going, held}
+use Rattle.pq_pieces.specs.Lines.{GoesOn, IsParted, Takes, going}
 use Rattle.pq_pieces.proofs.Within.{stays_long}
 
 -- no byte changes nothing
@@ -62,3 +62,10 @@ next_ends line old bytes i mid piece new within first second =
     let used : length (take i bytes) + 1 ≡ i + 1 = omega (arith, length-take i bytes, within) in
     let at = subst (λ n. IsParted line old (take (i + 1) bytes) n new) used these in
     subst (λ t. IsParted line old t (i + 1) new) (take-append-drop (i + 1) bytes) (ended_still line old (take (i + 1) bytes) (drop (i + 1) bytes) (i + 1) new at)
+
+-- what is pending after some bytes were used
+pub pending_after : (chunk : List ℕ) (from to used : ℕ) → from + used ≤ to → drop used (take (to - from) (drop from chunk)) ≡ take (to - (from + used)) (drop (from + used) chunk)
+pending_after chunk from to used within =
+    let same : to - from ≡ used + (to - (from + used)) = omega (arith, within) in
+    ap (λ n. drop used (take n (drop from chunk))) same
+    ∙ (drop-take used (to - (from + used)) (drop from chunk) ∙ ap (take (to - (from + used))) (drop-drop used from chunk))

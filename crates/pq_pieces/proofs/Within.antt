@@ -1,10 +1,10 @@
 -- A line that can't become `%%` parts no pieces.
-use Rattle.std.proofs.Common.{◌≡◌, ◌≤◌, ◌<◌, ◌+◌, ℕ, Bool, true, false, List, [], ◌∷◌, ◌++◌, refl, sym, ap, subst, ◌∙◌, arith, length, length-append, append-nil, append_assoc}
+use Rattle.std.proofs.Common.{◌≡◌, ◌<◌, ◌+◌, ℕ, Bool, true, false, List, [], ◌∷◌, ◌++◌, refl, sym, ap, subst, ◌∙◌, arith, length, length-append, append-nil, append_assoc}
 use Rattle.std.proofs.lemmas.Bool.{eqb-true}
-use Rattle.std.specs.Prelude.{◌==◌, if◌then◌else◌}
+use Rattle.std.specs.Prelude.{◌==◌}
 use Rattle.pq_pieces.specs.declared.line.Line.{Line}
 use Rattle.pq_pieces.specs.declared.line.Line.TheVariants.{Start, OneMark, TwoMarks, Other}
-use Rattle.pq_pieces.specs.Pieces.{BeginsLong, is_separator, pieces_from, pieces_of}
+use Rattle.pq_pieces.specs.Pieces.{BeginsLong, is_separator, pieces_from}
 use Rattle.pq_pieces.specs.Lines.{GoesOn, after, going, held, marks, within_line}
 
 -- no line that begins so is a separator
@@ -40,17 +40,22 @@ goes_on line piece b breaks = record { same = λ rest. same line rest breaks; he
     long : (c : Bool) → (b == 10) ≡ c → held (after b) ((piece ++ marks line) ++ b ∷ []) ≡ held line piece + 1
     long true is = rw is (omega (arith, length-append (piece ++ marks line) (b ∷ []), length-append piece (marks line)))
     long false is = rw is (omega (arith, length-append (piece ++ marks line) (b ∷ []), length-append piece (marks line)))
+
     first : (rest : List ℕ) (c : Bool) → (b == 10) ≡ c → (b == 37) ≡ false → pieces_from piece [] (b ∷ rest) ≡ going (after b) ((piece ++ []) ++ b ∷ []) rest
     first rest true is breaks = rw (eqb-true b 10 is, append-nil piece) refl
     first rest false is breaks = rw (is, append-nil piece) (in_line piece (b ∷ []) rest (λ more. rw breaks refl))
+
     second : (rest : List ℕ) (c : Bool) → (b == 10) ≡ c → (b == 37) ≡ false → pieces_from piece (37 ∷ []) (b ∷ rest) ≡ going (after b) ((piece ++ 37 ∷ []) ++ b ∷ []) rest
     second rest true is breaks = rw (eqb-true b 10 is, append_assoc piece (37 ∷ []) (10 ∷ [])) refl
     second rest false is breaks = rw (is, append_assoc piece (37 ∷ []) (b ∷ [])) (in_line piece (37 ∷ b ∷ []) rest (λ more. rw breaks refl))
+
     third : (rest : List ℕ) → (b == 10) ≡ false → pieces_from piece (37 ∷ 37 ∷ []) (b ∷ rest) ≡ going (after b) ((piece ++ 37 ∷ 37 ∷ []) ++ b ∷ []) rest
     third rest is = rw (is, append_assoc piece (37 ∷ 37 ∷ []) (b ∷ [])) (in_line piece (37 ∷ 37 ∷ b ∷ []) rest (λ more. refl))
+
     fourth : (rest : List ℕ) (c : Bool) → (b == 10) ≡ c → within_line piece (b ∷ rest) ≡ going (after b) ((piece ++ []) ++ b ∷ []) rest
     fourth rest true is = rw (eqb-true b 10 is, append-nil piece) refl
     fourth rest false is = rw (is, append-nil piece) refl
+
     same : (line : Line) (rest : List ℕ) → Breaks line b → going line piece (b ∷ rest) ≡ going (after b) ((piece ++ marks line) ++ b ∷ []) rest
     same Start rest breaks = first rest (b == 10) refl breaks
     same OneMark rest breaks = second rest (b == 10) refl breaks

@@ -2,7 +2,11 @@
 #![tactic(auto)]
 
 mod line;
+mod piece;
 mod pieces;
 mod scan;
+mod unread;
 
-pub use pieces::Unread;
+pub use piece::Piece;
+pub use pieces::Pieces;
+pub use unread::Unread;

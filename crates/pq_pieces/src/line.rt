@@ -5,6 +5,7 @@ ghost use Rattle.pq_pieces.specs.Lines.{Takes, after, marks};
 use std::alloc::AllocError;
 
 const MARK: u8 = b'%';
+
 const LINE_FEED: u8 = b'\n';
 
 /// How a line has begun, as far as it may still part two pieces.

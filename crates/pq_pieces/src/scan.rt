@@ -1,10 +1,10 @@
 //! The bytes of a piece.
-ghost use Rattle.std.specs.Prelude.{◌≤◌, ◌++◌, length, IfErr, IfOk, OnOk};
+ghost use Rattle.std.specs.Prelude.{◌≤◌, ◌++◌, ℕ, List, length, IfErr, IfOk, OnOk};
 ghost use Rattle.pq_pieces.specs.Lines.{going};
-ghost use Rattle.pq_pieces.specs.Scans.{Finds, IsUnread};
+ghost use Rattle.pq_pieces.specs.Scans.{Finds, IsStopped};
 
 use crate::line::{Line, take};
-use crate::pieces::Unread;
+use crate::unread::Unread;
 
 /// What is found in bytes.
 #[derive(Clone, Copy, Debug)]
@@ -25,7 +25,7 @@ pub(crate) fn scan(
     requires short { length piece.old.items ≤ limit }
     ensures found { IfOk result (λ scan. Finds line piece.old.items bytes.now scan piece.new.items) }
     ensures short { OnOk result (length piece.new.items ≤ limit) }
-    ensures unread { IfErr result (λ unread. IsUnread unread limit (λ rest. going line piece.old.items (bytes.now ++ rest))) }
+    ensures stopped { IfErr result (λ unread. (rest : List ℕ) → IsStopped unread limit (going line piece.old.items (bytes.now ++ rest))) }
 {
     let mut now = line;
     for index in 0..bytes.len() {

@@ -1,4 +1,4 @@
-use Rattle.std.proofs.Common.{◌≡◌, ◌≤◌, ◌<◌, ◌+◌, length, subst, sym, arith, None, Some, get_or}
+use Rattle.std.proofs.Common.{◌≤◌, ◌+◌, length, subst, sym, arith, get_or}
 use Rattle.std.proofs.lemmas.List.{take_all}
 use Rattle.pq_pieces.specs.Lines.{GoesOn, Takes}
 use Rattle.pq_pieces.proofs.Steps.{goes_nowhere, long_with, next_ends, next_goes}
@@ -18,8 +18,8 @@ returns-in-Ok-None-clause-short c =
     let takes = subst (Takes c.loop-index.now c.loop-index.piece.items (get_or c.args.bytes.now c.loop-index.index 0) c.take.new.piece.items) c.in-Ok-None.field-0-is c.in-Ok-None.ensures in
     subst (λ p. length p ≤ c.args.limit) (sym takes.1) c.loop-index.invariant.short
 
-pub returns-then-len-limit-clause-unread : goal.returns-then-len-limit-clause-unread
-returns-then-len-limit-clause-unread c rest =
+pub returns-then-len-limit-clause-stopped : goal.returns-then-len-limit-clause-stopped
+returns-then-len-limit-clause-stopped c rest =
     let i = c.loop-index.invariant in
     let takes = subst (Takes c.loop-index.now c.loop-index.piece.items (get_or c.args.bytes.now c.loop-index.index 0) c.take.new.piece.items) c.in-Ok-Some.field-0-is c.in-Ok-Some.ensures in
     let gone = next_goes c.args.line c.args.piece.now.items c.args.bytes.now c.loop-index.index c.loop-index.now c.loop-index.piece.items c.in-Ok-Some.next c.take.new.piece.items c.loop-index-test.true i.gone takes in
