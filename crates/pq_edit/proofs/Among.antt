@@ -1,6 +1,6 @@
 -- One turn of a loop over what is named.
-use Rattle.std.specs.Prelude.{◌≡◌, ℕ, suc, ◌+◌, ◌<◌, Bool, true, false, ◌||◌, List, [], ◌∷◌, map, length, drop, get_or, bytes_eq}
-use Rattle.std.proofs.Common.{drop-cons, refl, ap, sym, ◌∙◌, add-one}
+use Rattle.std.specs.Prelude.{◌≡◌, ℕ, ◌+◌, ◌<◌, Bool, true, false, ◌||◌, List, map, length, drop, get_or, bytes_eq}
+use Rattle.std.proofs.Common.{drop-cons, ap, sym, ◌∙◌, add-one}
 use Rattle.pq_compile.specs.Names.{Named}
 use Rattle.pq_edit.specs.Reading.{is_among}
 

@@ -1,20 +1,19 @@
 -- A document that may be compiled may be so after a lawful edit.
-use Rattle.std.specs.Prelude.{◌≡◌, ℕ, ◌<◌, ◌≤◌, ◌^◌, Bool, true, false, List, [], ◌∷◌, length, map, All, bytes_eq, IsTrue}
-use Rattle.std.specs.List.{AllByRecursion, IsDistinct}
+use Rattle.std.specs.Prelude.{◌≡◌, ℕ, ◌<◌, ◌^◌, Bool, true, false, List, [], ◌∷◌, map, All, IsTrue}
 use Rattle.std.specs.Cmp.Lexicographic.{nat_list_eq_equiv}
 use Rattle.std.proofs.Common.{arith, refl, sym, subst}
 use Rattle.std.proofs.lemmas.List.Elements.{All-cons, All-head, All-tail, All-nil, All-push, All-map, All-from_recursion, recursion_from_All}
 use Rattle.std.proofs.lemmas.Map.Keys.{IsDistinct-push}
 use Rattle.pq_term.specs.Names.{is_name}
 use Rattle.pq_pred.specs.Named.{MayStand}
-use Rattle.pq_policy.specs.Policy.{PolicyTree, IsLawfulPolicy, IsPolicyOver}
+use Rattle.pq_policy.specs.Policy.{IsLawfulPolicy, IsPolicyOver}
 use Rattle.pq_query.specs.Atoms.{query_atoms}
 use Rattle.pq_query.specs.Lawful.{IsLawfulQuery, IsQueryOver}
 use Rattle.pq_query.specs.Query.{QueryTree}
 use Rattle.pq_compile.specs.Documents.{DocumentTree}
-use Rattle.pq_compile.specs.Lawful.{AreLawfulNames, IsLawfulDocument, names_in}
+use Rattle.pq_compile.specs.Lawful.{AreLawfulNames, names_in}
 use Rattle.pq_compile.specs.Names.{Named}
-use Rattle.pq_compile.specs.Prepared.{IsCompilable, queries_in}
+use Rattle.pq_compile.specs.Prepared.{IsCompilable}
 use Rattle.pq_edit.specs.Edits.{EditTree, PartPut, PartRemoved, QueryPut, QueryRemoved, IsLawfulEdit, edited, put, without}
 use Rattle.pq_edit.specs.Reading.{is_among}
 use Rattle.pq_edit.proofs.Changed.{all_put, all_without, differ_without, names_kept, names_more, names_without, without_few}

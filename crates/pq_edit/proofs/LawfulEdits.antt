@@ -1,6 +1,6 @@
 -- Edits that are read are lawful.
-use Rattle.std.specs.Prelude.{◌≡◌, ℕ, ◌+◌, ◌<◌, ◌≤◌, Bool, true, false, not, ◌&&◌, if◌then◌else◌, List, [], ◌∷◌, ◌++◌, length, All, nat_le, IsTrue, Option, Some, None, Ok}
-use Rattle.std.proofs.Common.{arith, refl, sym, ap, subst, ◌∙◌, length-append}
+use Rattle.std.specs.Prelude.{◌≡◌, ℕ, ◌+◌, ◌<◌, ◌≤◌, Bool, true, false, not, ◌&&◌, if◌then◌else◌, List, [], ◌∷◌, length, nat_le, IsTrue, Some, None, Ok}
+use Rattle.std.proofs.Common.{arith, refl, ap, subst, ◌∙◌, length-append}
 use Rattle.std.proofs.lemmas.Bool.Decides.{nat_tests}
 use Rattle.pq_term.specs.declared.token.Token.{Token}
 use Rattle.pq_term.specs.Names.{is_name}
@@ -27,7 +27,7 @@ use Rattle.pq_query.specs.Resolved.{query_of}
 use Rattle.pq_compile.specs.Documents.{DocumentTree}
 use Rattle.pq_compile.specs.Lawful.{IsLawfulDocument, names_in}
 use Rattle.pq_compile.specs.Names.{Named}
-use Rattle.pq_edit.specs.Edits.{EditTree, PartPut, PartRemoved, QueryPut, QueryRemoved, IsLawfulEdit, IsLawfulPart, IsLawfulNamedQuery, IsNamedIn, put}
+use Rattle.pq_edit.specs.Edits.{EditTree, PartPut, PartRemoved, QueryPut, QueryRemoved, IsLawfulEdit, IsLawfulPart, IsLawfulNamedQuery, put}
 use Rattle.pq_edit.specs.Reading.{is_among, keyword_at, put_of, put_under, removed_name, removed_of, removal_at, removal_of, statement_of, edit_of}
 use Rattle.pq_edit.proofs.Counted.{put_few}
 use Rattle.pq_edit.proofs.Changed.{names_kept, names_long, names_more}

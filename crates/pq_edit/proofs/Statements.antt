@@ -16,7 +16,6 @@ use Rattle.pq_policy.specs.declared.policy.Policy.{Policy}
 use Rattle.pq_query.specs.declared.query.Query.{Query}
 use Rattle.pq_compile.specs.Documents.{DocumentTree, named_query_tree, part_tree}
 use Rattle.pq_compile.specs.Lawful.{names_in}
-use Rattle.pq_edit.specs.Edits.{EditTree}
 use Rattle.pq_edit.specs.Reading.{put_of, put_under, removal_at, removal_of, removed_name, removed_of}
 
 -- plain data has the same names
