@@ -8,7 +8,8 @@ use Rattle.pq_edit.specs.Reading.{is_among}
 abbrev names : {B : Type 0} → List (Named B) → List (List ℕ)
 names entries = map (λ n. n.0) entries
 
-module _ {B : Type 0} (name : List ℕ) (entries : List (Named B)) (i : ℕ) (entry : Named B) (below : i < length entries) (is : entry ≡ get_or entries i entry) (whole : Bool) (left : is_among name (names (drop i entries)) ≡ whole) where
+module _ {B : Type 0} (name : List ℕ) (entries : List (Named B)) (i : ℕ) (entry : Named B) (below : i < length entries) (is : entry ≡ get_or entries i entry)
+    (whole : Bool) (left : is_among name (names (drop i entries)) ≡ whole) where
   -- the first one that is left, and those after it
   split : (bytes_eq name entry.0 || is_among name (names (drop (i + 1) entries))) ≡ whole
   split =

@@ -45,7 +45,8 @@ module _ {A : Type 0} where
   names_more p [] among = refl
   names_more p (n ∷ ns) among = by (bytes_eq n.0 p.0) refl (names_more p ns)
     where
-      by : (b : Bool) → bytes_eq n.0 p.0 ≡ b → (is_among p.0 (names_in ns) ≡ false → names_in (put p ns) ≡ names_in ns ++ p.0 ∷ []) → names_in (if b then p ∷ ns else n ∷ put p ns) ≡ n.0 ∷ (names_in ns ++ p.0 ∷ [])
+      by : (b : Bool) → bytes_eq n.0 p.0 ≡ b → (is_among p.0 (names_in ns) ≡ false → names_in (put p ns) ≡ names_in ns ++ p.0 ∷ [])
+          → names_in (if b then p ∷ ns else n ∷ put p ns) ≡ n.0 ∷ (names_in ns ++ p.0 ∷ [])
       by true same more = let left = (neither (bytes_eq p.0 n.0) (is_among p.0 (names_in ns)) among).0 in let here = turned n.0 p.0 true same in absurd cc
       by false other more = ap (λ names. n.0 ∷ names) (more (neither (bytes_eq p.0 n.0) (is_among p.0 (names_in ns)) among).1)
 

@@ -19,7 +19,8 @@ use Rattle.pq_topo.proofs.Readings.{next_ok}
 use Rattle.pq_pred.specs.Values.{name_in}
 use Rattle.pq_query.specs.Atoms.{atoms, query_atoms, top_atoms}
 use Rattle.pq_query.specs.Query.{QueryTop, Enters, Leaves, Passes, Ends, InTurn, Either, Both, Other, Repeated, QueryTree, leaf, queries}
-use Rattle.pq_query.specs.Resolved.{Side, atom_of, bare_in, end_of, entering, grouped_hop_of, grouped_in, hop_of, joined, later, leaving, passing, pred_in, query_of, query_readings, query_step, single}
+use Rattle.pq_query.specs.Resolved.{Side, atom_of, bare_in, end_of, entering, grouped_hop_of, grouped_in, hop_of}
+use Rattle.pq_query.specs.Resolved.{joined, later, leaving, passing, pred_in, query_of, query_readings, query_step, single}
 use Rattle.pq_compile.specs.Names.{Named}
 use Rattle.pq_edit.specs.Reading.{keyword_at, put_of, put_under}
 
@@ -73,7 +74,10 @@ module _ (T : Topology) (bytes : List ℕ) where
       end_few : HasAtMost (suc (nodes below)) (end_of T bytes head below)
       end_few q e = let told = next_ok (pred_in T bytes head below) (λ p. Ok (leaf (Ends p))) q e in leaf_one (nodes below) (Ends told.0) q (omega arith) cc
 
-      by : (a b c d f g h : Bool) → (if a then next (bare_in T bytes head below) entering else if b then next (bare_in T bytes head below) leaving else if c then hop_of T bytes head below else if d then end_of T bytes head below else if f then next (grouped_in T bytes head below) entering else if g then next (grouped_in T bytes head below) leaving else if h then grouped_hop_of T bytes head below else faulty head BadValue) ≡ Ok q → query_atoms q ≤ suc (nodes below)
+      by : (a b c d f g h : Bool)
+          → (if a then next (bare_in T bytes head below) entering else if b then next (bare_in T bytes head below) leaving else if c then hop_of T bytes head below
+          else if d then end_of T bytes head below else if f then next (grouped_in T bytes head below) entering else if g then next (grouped_in T bytes head below) leaving
+          else if h then grouped_hop_of T bytes head below else faulty head BadValue) ≡ Ok q → query_atoms q ≤ suc (nodes below)
       by true b c d f g h e = (one_side (bare_in T bytes head below)).0 q e
       by false true c d f g h e = (one_side (bare_in T bytes head below)).1 q e
       by false false true d f g h e = two_sides (bare_in T bytes head below) (bare_in T bytes head (later below)) q e
@@ -104,7 +108,10 @@ module _ (T : Topology) (bytes : List ℕ) where
       let class = class_in_text bytes head in
       by (is_class class Caret) (is_class class Bar) (is_class class Ampersand) (is_class class Tilde) (is_class class Star) e
     where
-      by : (a b c d f : Bool) → (if a then next (gathered rs) (joined head InTurn) else if b then next (gathered rs) (joined head Either) else if c then next (gathered rs) (joined head Both) else if d then next (gathered rs) (single head Other) else if f then next (gathered rs) (single head Repeated) else atom_of T bytes head below) ≡ Ok q → query_atoms q ≤ suc (nodes below)
+      by : (a b c d f : Bool)
+          → (if a then next (gathered rs) (joined head InTurn) else if b then next (gathered rs) (joined head Either) else if c then next (gathered rs) (joined head Both)
+          else if d then next (gathered rs) (single head Other) else if f then next (gathered rs) (single head Repeated)
+          else atom_of T bytes head below) ≡ Ok q → query_atoms q ≤ suc (nodes below)
       by true b c d f e = operands_few below rs (joined head InTurn) few (λ qs q. joined_few head InTurn (nodes below) qs q refl) q e
       by false true c d f e = operands_few below rs (joined head Either) few (λ qs q. joined_few head Either (nodes below) qs q refl) q e
       by false false true d f e = operands_few below rs (joined head Both) few (λ qs q. joined_few head Both (nodes below) qs q refl) q e
@@ -120,7 +127,8 @@ module _ (T : Topology) (bytes : List ℕ) where
   query_few t q e = step_few t.head t.below (query_readings T bytes t.below) (readings_few t.below) q e
 
   -- what is put under a name has at most as many atoms as its tree has nodes
-  under_few : (names : List (List ℕ)) (keyword t : Token) (body : Tree) (text : List ℕ) (q : Named QueryTree) → put_under 256 (query_of T bytes) names keyword t body (name_in text) ≡ Ok q → query_atoms q.1 ≤ suc (nodes body.below)
+  under_few : (names : List (List ℕ)) (keyword t : Token) (body : Tree) (text : List ℕ) (q : Named QueryTree) → put_under 256 (query_of T bytes) names keyword t body (name_in text) ≡ Ok q
+      → query_atoms q.1 ≤ suc (nodes body.below)
   under_few names keyword t body text q e = by (is_name text) e
     where
       by : (b : Bool) → put_under 256 (query_of T bytes) names keyword t body (if b then Some text else None) ≡ Ok q → query_atoms q.1 ≤ suc (nodes body.below)
@@ -139,7 +147,8 @@ module _ (T : Topology) (bytes : List ℕ) where
       omega (arith, few)
 
   -- so a query that is put has fewer atoms than its text has bytes
-  pub put_few : (sort : Sort) (names : List (List ℕ)) (keyword : Token) (below rest : Forest) (q : Named QueryTree) → IsForestOf sort bytes (grown keyword below rest) → put_of bytes 256 (query_of T bytes) names keyword below ≡ Ok q → query_atoms q.1 < length bytes
+  pub put_few : (sort : Sort) (names : List (List ℕ)) (keyword : Token) (below rest : Forest) (q : Named QueryTree) → IsForestOf sort bytes (grown keyword below rest)
+      → put_of bytes 256 (query_of T bytes) names keyword below ≡ Ok q → query_atoms q.1 < length bytes
   put_few sort names keyword below rest q is e =
       let trees : nodes (grown keyword below rest) ≤ tokens_in is.marks = subst (λ f. nodes f ≤ tokens_in is.marks) (sym is.grown) (forest_size is.marks) in
       let marks : tokens_in is.marks ≡ length is.tokens = ap length is.sentence.spelled ∙ length-map is.tokens _ in

@@ -33,7 +33,8 @@ module _ {A : Type 0} where
   -- and with one removed
   without_names : (name : List ℕ) (ns : List (Named A)) → AreLawfulNames (names_in ns) → AreLawfulNames (names_in (without name ns))
   without_names name ns are = record {
-    each = All-from_recursion (λ name. IsTrue (is_name name)) (names_in (without name ns)) (names_without (λ name. IsTrue (is_name name)) name ns (recursion_from_All (λ name. IsTrue (is_name name)) (names_in ns) are.each));
+    each = All-from_recursion (λ name. IsTrue (is_name name)) (names_in (without name ns))
+        (names_without (λ name. IsTrue (is_name name)) name ns (recursion_from_All (λ name. IsTrue (is_name name)) (names_in ns) are.each));
     differ = differ_without name ns are.differ;
   }
 

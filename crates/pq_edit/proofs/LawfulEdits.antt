@@ -28,7 +28,7 @@ use Rattle.pq_compile.specs.Documents.{DocumentTree}
 use Rattle.pq_compile.specs.Lawful.{IsLawfulDocument, names_in}
 use Rattle.pq_compile.specs.Names.{Named}
 use Rattle.pq_edit.specs.Edits.{EditTree, PartPut, PartRemoved, QueryPut, QueryRemoved, IsLawfulEdit, IsLawfulPart, IsLawfulNamedQuery, put}
-use Rattle.pq_edit.specs.Reading.{is_among, keyword_at, put_of, put_under, removed_name, removed_of, removal_at, removal_of, statement_of, edit_of}
+use Rattle.pq_edit.specs.Reading.{is_among, keyword_at, put_of, put_part, put_query, put_under, remove_part, remove_query, removed_name, removed_of, removal_at, removal_of, statement_of, edit_of}
 use Rattle.pq_edit.proofs.Counted.{put_few}
 use Rattle.pq_edit.proofs.Changed.{names_kept, names_long, names_more}
 
@@ -97,7 +97,8 @@ name_is kind names t text name e = by (is_name text) e
         subst (λ name. IsTrue (is_among name names)) told.1 (opposite (is_among text names) told.0.0)
     by false e = absurd cc
 
-removed_is : (bytes : List ℕ) (kind : NameKind) (names : List (List ℕ)) (keyword : Token) (below : Forest) (name : List ℕ) → removed_of bytes kind names keyword below ≡ Ok name → IsTrue (is_among name names)
+removed_is : (bytes : List ℕ) (kind : NameKind) (names : List (List ℕ)) (keyword : Token) (below : Forest) (name : List ℕ) → removed_of bytes kind names keyword below ≡ Ok name
+    → IsTrue (is_among name names)
 removed_is bytes kind names keyword nothing name e = absurd cc
 removed_is bytes kind names keyword (grown t x rest) name e = name_is kind names t (text_in bytes t) name e
 
@@ -121,7 +122,8 @@ module _ (laws : AreReadLawful) (d : DocumentTree) (lawful : IsLawfulDocument d)
         few = put_fits bytes 1024 (policy_of d.topology bytes) d.parts p is lawful.few_parts;
       }
 
-  query_lawful : (keyword : Token) (below : Forest) (q : Named QueryTree) → put_of bytes 256 (query_of d.topology bytes) (names_in d.queries) keyword below ≡ Ok q → query_atoms q.1 < 524288 → IsLawfulNamedQuery d q
+  query_lawful : (keyword : Token) (below : Forest) (q : Named QueryTree) → put_of bytes 256 (query_of d.topology bytes) (names_in d.queries) keyword below ≡ Ok q → query_atoms q.1 < 524288
+      → IsLawfulNamedQuery d q
   query_lawful keyword below q e few =
       let is = put_is bytes 256 (query_of d.topology bytes) d.queries keyword below q e in
       record {
@@ -135,7 +137,7 @@ module _ (laws : AreReadLawful) (d : DocumentTree) (lawful : IsLawfulDocument d)
   removal_lawful : (keyword : Token) (below : Forest) (e : EditTree) → removal_at d bytes keyword below ≡ Ok e → IsLawfulEdit d e
   removal_lawful keyword below e read = by (begins_with bytes PartWord keyword) (begins_with bytes QueryWord keyword) read
     where
-      by : (a b : Bool) → (if a then next (removed_of bytes UnknownPart (names_in d.parts) keyword below) (λ name. Ok (PartRemoved name)) else if b then next (removed_of bytes UnknownQuery (names_in d.queries) keyword below) (λ name. Ok (QueryRemoved name)) else faulty keyword BadValue) ≡ Ok e → IsLawfulEdit d e
+      by : (a b : Bool) → (if a then remove_part d bytes keyword below else if b then remove_query d bytes keyword below else faulty keyword BadValue) ≡ Ok e → IsLawfulEdit d e
       by true b read =
           let told = next_ok (removed_of bytes UnknownPart (names_in d.parts) keyword below) (λ name. Ok (PartRemoved name)) e read in
           let same : PartRemoved told.0 ≡ e = cc in
@@ -150,10 +152,13 @@ module _ (laws : AreReadLawful) (d : DocumentTree) (lawful : IsLawfulDocument d)
   remove_lawful keyword nothing e read = absurd cc
   remove_lawful keyword (grown head below rest) e read = removal_lawful head below e read
 
-  statement_lawful : (keyword : Token) (below rest : Forest) (e : EditTree) → IsForestOf EditSort bytes (grown keyword below rest) → length bytes ≤ 524288 → statement_of d bytes keyword below ≡ Ok e → IsLawfulEdit d e
+  statement_lawful : (keyword : Token) (below rest : Forest) (e : EditTree) → IsForestOf EditSort bytes (grown keyword below rest) → length bytes ≤ 524288
+      → statement_of d bytes keyword below ≡ Ok e → IsLawfulEdit d e
   statement_lawful keyword below rest e is short read = by (begins_with bytes PartWord keyword) (begins_with bytes QueryWord keyword) (begins_with bytes RemoveWord keyword) read
     where
-      by : (a b c : Bool) → (if a then next (put_of bytes 1024 (policy_of d.topology bytes) (names_in d.parts) keyword below) (λ p. Ok (PartPut p)) else if b then next (put_of bytes 256 (query_of d.topology bytes) (names_in d.queries) keyword below) (λ q. Ok (QueryPut q)) else if c then removal_of d bytes keyword below else faulty keyword BadValue) ≡ Ok e → IsLawfulEdit d e
+      by : (a b c : Bool)
+          → (if a then put_part d bytes keyword below else if b then put_query d bytes keyword below else if c then removal_of d bytes keyword below else faulty keyword BadValue) ≡ Ok e
+          → IsLawfulEdit d e
       by true b c read =
           let told = next_ok (put_of bytes 1024 (policy_of d.topology bytes) (names_in d.parts) keyword below) (λ p. Ok (PartPut p)) e read in
           let same : PartPut told.0 ≡ e = cc in
@@ -167,6 +172,7 @@ module _ (laws : AreReadLawful) (d : DocumentTree) (lawful : IsLawfulDocument d)
       by false false false read = absurd cc
 
 -- an edit that a text spells of a lawful document is lawful
-pub edit_lawful : AreReadLawful → (d : DocumentTree) → IsLawfulDocument d → (bytes : List ℕ) (f : Forest) (e : EditTree) → IsForestOf EditSort bytes f → length bytes ≤ 524288 → edit_of d bytes f ≡ Ok e → IsLawfulEdit d e
+pub edit_lawful : AreReadLawful → (d : DocumentTree) → IsLawfulDocument d → (bytes : List ℕ) (f : Forest) (e : EditTree) → IsForestOf EditSort bytes f → length bytes ≤ 524288
+    → edit_of d bytes f ≡ Ok e → IsLawfulEdit d e
 edit_lawful laws d lawful bytes nothing e is short read = absurd cc
 edit_lawful laws d lawful bytes (grown keyword below rest) e is short read = statement_lawful laws d lawful bytes keyword below rest e is short read

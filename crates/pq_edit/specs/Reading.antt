@@ -53,22 +53,36 @@ abbrev pub removed_of : List ℕ → NameKind → List (List ℕ) → Token → 
 removed_of bytes kind names keyword nothing = faulty keyword BadValue
 removed_of bytes kind names keyword (grown name x rest) = removed_name kind names name (name_in (text_in bytes name))
 
+-- the part, or the query, that is removed from the document
+abbrev pub remove_part : DocumentTree → List ℕ → Token → Forest → Reading EditTree
+remove_part d bytes keyword below = next (removed_of bytes UnknownPart (names_in d.parts) keyword below) (λ name. Ok (PartRemoved name))
+
+abbrev pub remove_query : DocumentTree → List ℕ → Token → Forest → Reading EditTree
+remove_query d bytes keyword below = next (removed_of bytes UnknownQuery (names_in d.queries) keyword below) (λ name. Ok (QueryRemoved name))
+
 -- what is removed from the document; what is neither a part nor a query stands in no sentence
 abbrev pub removal_at : DocumentTree → List ℕ → Token → Forest → Reading EditTree
 removal_at d bytes keyword below =
-    if begins_with bytes PartWord keyword then next (removed_of bytes UnknownPart (names_in d.parts) keyword below) (λ name. Ok (PartRemoved name))
-    else if begins_with bytes QueryWord keyword then next (removed_of bytes UnknownQuery (names_in d.queries) keyword below) (λ name. Ok (QueryRemoved name))
+    if begins_with bytes PartWord keyword then remove_part d bytes keyword below
+    else if begins_with bytes QueryWord keyword then remove_query d bytes keyword below
     else faulty keyword BadValue
 
 abbrev pub removal_of : DocumentTree → List ℕ → Token → Forest → Reading EditTree
 removal_of d bytes remove nothing = faulty remove BadValue
 removal_of d bytes remove (grown keyword below rest) = removal_at d bytes keyword below
 
--- the edit of a statement, by the keyword that begins it: there may be 1,024 parts and 256 queries; no other statement stands in a sentence
+-- the part, or the query, that is put into the document: there may be 1,024 parts and 256 queries
+abbrev pub put_part : DocumentTree → List ℕ → Token → Forest → Reading EditTree
+put_part d bytes keyword below = next (put_of bytes 1024 (policy_of d.topology bytes) (names_in d.parts) keyword below) (λ p. Ok (PartPut p))
+
+abbrev pub put_query : DocumentTree → List ℕ → Token → Forest → Reading EditTree
+put_query d bytes keyword below = next (put_of bytes 256 (query_of d.topology bytes) (names_in d.queries) keyword below) (λ q. Ok (QueryPut q))
+
+-- the edit of a statement, by the keyword that begins it; no other statement stands in a sentence
 abbrev pub statement_of : DocumentTree → List ℕ → Token → Forest → Reading EditTree
 statement_of d bytes keyword below =
-    if begins_with bytes PartWord keyword then next (put_of bytes 1024 (policy_of d.topology bytes) (names_in d.parts) keyword below) (λ p. Ok (PartPut p))
-    else if begins_with bytes QueryWord keyword then next (put_of bytes 256 (query_of d.topology bytes) (names_in d.queries) keyword below) (λ q. Ok (QueryPut q))
+    if begins_with bytes PartWord keyword then put_part d bytes keyword below
+    else if begins_with bytes QueryWord keyword then put_query d bytes keyword below
     else if begins_with bytes RemoveWord keyword then removal_of d bytes keyword below
     else faulty keyword BadValue
 

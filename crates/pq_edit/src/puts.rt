@@ -1,15 +1,15 @@
 //! What an edit puts.
-ghost use Rattle.std.specs.Prelude.{◌≡◌, map, Ok};
+ghost use Rattle.std.specs.Prelude.{◌≡◌};
 ghost use Rattle.pq_tree.specs.Texts.{text_in};
 ghost use Rattle.pq_tree.specs.Trees.{tree, trees};
-ghost use Rattle.pq_topo.specs.Naming.{IsAnswer, next};
+ghost use Rattle.pq_topo.specs.Naming.{IsAnswer};
 ghost use Rattle.pq_pred.specs.Values.{name_in};
 ghost use Rattle.pq_policy.specs.Resolved.{policy_of};
 ghost use Rattle.pq_query.specs.Resolved.{query_of};
 ghost use Rattle.pq_compile.specs.Documents.{document_tree, named_query_tree, part_tree};
 ghost use Rattle.pq_compile.specs.Lawful.{names_in};
-ghost use Rattle.pq_edit.specs.Edits.{PartPut, QueryPut, edit_tree};
-ghost use Rattle.pq_edit.specs.Reading.{keyword_at, put_of, put_under};
+ghost use Rattle.pq_edit.specs.Edits.{edit_tree};
+ghost use Rattle.pq_edit.specs.Reading.{keyword_at, put_of, put_part, put_query, put_under};
 
 use crate::edit::Edit;
 use crate::names::keyword_at;
@@ -52,7 +52,8 @@ fn part_under(
     bytes: &[u8],
     document: &Document,
 ) -> Result<(Name, Policy), NameFault>
-    ensures { IsAnswer part_tree result (put_under 1024 (policy_of document.now.topology bytes.now) (names_in (document_tree document.now).parts) keyword.now token.now (tree body.now) (name_in (text_in bytes.now token.now))) }
+    ensures { IsAnswer part_tree result (put_under 1024 (policy_of document.now.topology bytes.now) (names_in (document_tree document.now).parts) keyword.now token.now
+        (tree body.now) (name_in (text_in bytes.now token.now))) }
 {
     let Some(name) = Name::of(text_in(bytes, token)) else {
         return Err(faulty(token, NameKind::BadValue));
@@ -72,7 +73,8 @@ fn query_under(
     bytes: &[u8],
     document: &Document,
 ) -> Result<(Name, Query), NameFault>
-    ensures { IsAnswer named_query_tree result (put_under 256 (query_of document.now.topology bytes.now) (names_in (document_tree document.now).queries) keyword.now token.now (tree body.now) (name_in (text_in bytes.now token.now))) }
+    ensures { IsAnswer named_query_tree result (put_under 256 (query_of document.now.topology bytes.now) (names_in (document_tree document.now).queries) keyword.now token.now
+        (tree body.now) (name_in (text_in bytes.now token.now))) }
 {
     let Some(name) = Name::of(text_in(bytes, token)) else {
         return Err(faulty(token, NameKind::BadValue));
@@ -91,7 +93,8 @@ fn part_of(
     bytes: &[u8],
     document: &Document,
 ) -> Result<(Name, Policy), NameFault>
-    ensures { IsAnswer part_tree result (put_of bytes.now 1024 (policy_of document.now.topology bytes.now) (names_in (document_tree document.now).parts) keyword.now (trees children.now)) }
+    ensures { IsAnswer part_tree result (put_of bytes.now 1024 (policy_of document.now.topology bytes.now) (names_in (document_tree document.now).parts) keyword.now
+        (trees children.now)) }
 {
     match children {
         [name, body, ..] => part_under(alloc, keyword, &name.head, body, bytes, document),
@@ -108,7 +111,8 @@ fn query_of(
     bytes: &[u8],
     document: &Document,
 ) -> Result<(Name, Query), NameFault>
-    ensures { IsAnswer named_query_tree result (put_of bytes.now 256 (query_of document.now.topology bytes.now) (names_in (document_tree document.now).queries) keyword.now (trees children.now)) }
+    ensures { IsAnswer named_query_tree result (put_of bytes.now 256 (query_of document.now.topology bytes.now) (names_in (document_tree document.now).queries) keyword.now
+        (trees children.now)) }
 {
     match children {
         [name, body, ..] => query_under(alloc, keyword, &name.head, body, bytes, document),
@@ -125,7 +129,7 @@ pub(crate) fn put_part(
     bytes: &[u8],
     document: &Document,
 ) -> Result<Edit, NameFault>
-    ensures { IsAnswer edit_tree result (next (put_of bytes.now 1024 (policy_of document.now.topology bytes.now) (names_in (document_tree document.now).parts) keyword.now (trees children.now)) (λ p. Ok (PartPut p))) }
+    ensures { IsAnswer edit_tree result (put_part (document_tree document.now) bytes.now keyword.now (trees children.now)) }
 {
     let (name, policy) = part_of(alloc, keyword, children, bytes, document)?;
     Ok(Edit::PutPart(name, policy))
@@ -140,7 +144,7 @@ pub(crate) fn put_query(
     bytes: &[u8],
     document: &Document,
 ) -> Result<Edit, NameFault>
-    ensures { IsAnswer edit_tree result (next (put_of bytes.now 256 (query_of document.now.topology bytes.now) (names_in (document_tree document.now).queries) keyword.now (trees children.now)) (λ q. Ok (QueryPut q))) }
+    ensures { IsAnswer edit_tree result (put_query (document_tree document.now) bytes.now keyword.now (trees children.now)) }
 {
     let (name, query) = query_of(alloc, keyword, children, bytes, document)?;
     Ok(Edit::PutQuery(name, query))

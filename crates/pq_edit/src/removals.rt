@@ -1,14 +1,14 @@
 //! What an edit removes.
-ghost use Rattle.std.specs.Prelude.{◌≡◌, Ok};
+ghost use Rattle.std.specs.Prelude.{◌≡◌};
 ghost use Rattle.pq_tree.specs.Texts.{text_in};
 ghost use Rattle.pq_tree.specs.Trees.{trees};
-ghost use Rattle.pq_topo.specs.Naming.{IsAnswer, next};
+ghost use Rattle.pq_topo.specs.Naming.{IsAnswer};
 ghost use Rattle.pq_topo.specs.declared.fault.NameKind.TheVariants.{UnknownPart, UnknownQuery};
 ghost use Rattle.pq_pred.specs.Values.{name_in};
 ghost use Rattle.pq_compile.specs.Documents.{document_tree};
 ghost use Rattle.pq_compile.specs.Lawful.{names_in};
-ghost use Rattle.pq_edit.specs.Edits.{PartRemoved, QueryRemoved, edit_tree};
-ghost use Rattle.pq_edit.specs.Reading.{removal_at, removal_of, removed_name, removed_of};
+ghost use Rattle.pq_edit.specs.Edits.{edit_tree};
+ghost use Rattle.pq_edit.specs.Reading.{removal_at, removal_of, remove_part, remove_query, removed_name, removed_of};
 
 use crate::edit::Edit;
 use crate::names::removed_name;
@@ -73,7 +73,7 @@ fn remove_part(
     bytes: &[u8],
     document: &Document,
 ) -> Result<Edit, NameFault>
-    ensures { IsAnswer edit_tree result (next (removed_of bytes.now UnknownPart (names_in (document_tree document.now).parts) keyword.now (trees children.now)) (λ name. Ok (PartRemoved name))) }
+    ensures { IsAnswer edit_tree result (remove_part (document_tree document.now) bytes.now keyword.now (trees children.now)) }
 {
     let name = part_name(keyword, children, bytes, document)?;
     Ok(Edit::RemovePart(name))
@@ -87,7 +87,7 @@ fn remove_query(
     bytes: &[u8],
     document: &Document,
 ) -> Result<Edit, NameFault>
-    ensures { IsAnswer edit_tree result (next (removed_of bytes.now UnknownQuery (names_in (document_tree document.now).queries) keyword.now (trees children.now)) (λ name. Ok (QueryRemoved name))) }
+    ensures { IsAnswer edit_tree result (remove_query (document_tree document.now) bytes.now keyword.now (trees children.now)) }
 {
     let name = query_name(keyword, children, bytes, document)?;
     Ok(Edit::RemoveQuery(name))
