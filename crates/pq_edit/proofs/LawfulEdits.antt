@@ -34,7 +34,7 @@ use Rattle.pq_edit.proofs.Changed.{names_kept, names_long, names_more}
 
 -- What is put.
 
--- the first doesn't hold where both together don't, and the second one's opposite neither
+-- where `a` and not `b` together are false, and `b` is, `a` is false
 only : (a b : Bool) → (a && not b) ≡ false → b ≡ false → a ≡ false
 only true true none other = absurd cc
 only true false none other = absurd cc

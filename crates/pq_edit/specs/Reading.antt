@@ -26,7 +26,7 @@ use Rattle.pq_edit.specs.Edits.{EditTree, PartPut, PartRemoved, QueryPut, QueryR
 abbrev pub is_among : List ℕ → List (List ℕ) → Bool
 is_among name names = list_any (bytes_eq name) names
 
--- the keyword of a statement that puts what has the name, where there may be so many of its sort: it is one too many where none of these names is the same
+-- the keyword of a statement that puts what has the name among what has these: it is one too many where there is the most already, and none has the name
 abbrev pub keyword_at : ℕ → List (List ℕ) → Token → List ℕ → Reading Token
 keyword_at most names keyword name = unless keyword ((nat_le most (length names) && not (is_among name names), Many) ∷ []) keyword
 
@@ -37,7 +37,7 @@ put_under most read names keyword t body (Some name) =
     next (keyword_at most names keyword name) (λ _.
     next (read body) (λ value. Ok (name, value)))
 
--- what a statement puts among what has these names, where there may be so many; statements without a name and a body stand in no sentence
+-- what a statement puts among what has these names, of which there is a most; statements without a name and a body stand in no sentence
 abbrev pub put_of : {A : Type 0} → List ℕ → ℕ → (Tree → Reading A) → List (List ℕ) → Token → Forest → Reading (Named A)
 put_of bytes most read names keyword nothing = faulty keyword BadValue
 put_of bytes most read names keyword (grown name x nothing) = faulty keyword BadValue

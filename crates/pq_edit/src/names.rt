@@ -23,7 +23,8 @@ fn is_among<A>(name: &Name, named: &[(Name, A)]) -> bool
     false
 }
 
-/// The keyword of a statement that puts what has the name among these, of which there may be so many.
+/// The keyword of a statement that puts what has the name among these; it is one too many where there is the most already,
+/// and none has the name.
 pub(crate) fn keyword_at<A>(
     most: usize,
     named: &[(Name, A)],
