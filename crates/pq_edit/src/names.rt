@@ -11,7 +11,6 @@ use pq_topo::{NameFault, NameKind};
 use pq_tree::text_in;
 
 /// Whether one of these has the name.
-#[tactic(auto, using(pq_topo::proofs::SameNames::same_names))]
 fn is_among<A>(name: &Name, named: &[(Name, A)]) -> bool
     ensures { result ≡ is_among name.now (map (λ n. n.0) named.now) }
 {
