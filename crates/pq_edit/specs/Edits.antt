@@ -1,5 +1,5 @@
 -- Edits of documents.
-use Rattle.std.specs.Prelude.{ℕ, ◌^◌, ◌<◌, ◌≤◌, ◌≡◌, Bool, true, List, [], ◌∷◌, if◌then◌else◌, length, bytes_eq, IsTrue}
+use Rattle.std.specs.Prelude.{ℕ, ◌^◌, ◌<◌, ◌≤◌, List, [], ◌∷◌, if◌then◌else◌, length, bytes_eq, IsTrue}
 use Rattle.std.specs.List.{list_any}
 use Rattle.pq_term.specs.Names.{is_name}
 use Rattle.pq_pred.specs.Named.{MayStand}
