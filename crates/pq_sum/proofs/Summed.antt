@@ -96,6 +96,13 @@ module _ (s : Sum) where
 
 -- A part that is put.
 
+pub put_within : (old : Trees) (s : Sum) (place node : ℕ) → MayPutAt old s place node → place ≤ length s.slots
+put_within old s place node may =
+    let is = may.put.summed in
+    let long = slots_length is.slotted may.parts s.slots is.placed in
+    let within = may.put.within in
+    omega (arith, long, within)
+
 module _ (old : Trees) (s : Sum) (place node slot : ℕ) (slots : List ℕ) (for : IsSlotFor s.slots place slots slot) where
   module _ (T : Topology) (ps : List PolicyTree) (p : PolicyTree) (put : IsPuttableAt T old s place node ps p) where
     -- it has a slot then
@@ -162,6 +169,13 @@ module _ (old : Trees) (s : Sum) (place node slot : ℕ) (slots : List ℕ) (for
       counts T put.summed.slotted p (puttable T ps p put) k (omega (arith, all, few)) (omega (arith, then_all, more))
 
 -- A part that is taken out.
+
+pub removal_within : (old : Trees) (s : Sum) (place : ℕ) → MayRemoveAt old s place → place < length s.slots
+removal_within old s place may =
+    let is = may.remove.summed in
+    let long = slots_length is.slotted may.parts s.slots is.placed in
+    let within = may.remove.within in
+    omega (arith, long, within)
 
 module _ (old : Trees) (s : Sum) (place slot last : ℕ) (slot_is : slot ≡ get_or s.slots place slot) (last_is : last + 1 ≡ length s.slots) where
   module _ (T : Topology) (ps : List PolicyTree) (may : IsRemovableAt T old s place ps) where
