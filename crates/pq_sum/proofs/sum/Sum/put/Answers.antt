@@ -1,4 +1,5 @@
-use Rattle.std.proofs.Common.{◌∙◌, sym, subst}
+use Rattle.std.proofs.Common.{◌∙◌, drop, length, sym, subst}
+use Rattle.std.specs.Vec.{with_items}
 use Rattle.pq_sum.specs.Cells.{CountsPut, IsPut, MayPut}
 use Rattle.pq_sum.specs.Places.{Sum}
 use Rattle.pq_sum.specs.Calls.{CountsPutAt, IsPutAt, MayPutAt}
@@ -28,9 +29,10 @@ returns-in_err-put-clause-steps g c =
 pub returns-clause-sum : goal.returns-clause-sum
 returns-clause-sum g c =
     let s : Sum = record { cells = c.self.inside.cells.items; slots = c.self.inside.slots.items } in
-    subst (λ t. IsPutAt c.args.store.now t c.args.place c.args.part c.put.new.store (record { cells = _; slots = c.slot_for.new.slots.items })) c.self.view_is
-    (subst (λ l. IsPutAt c.args.store.now s c.args.place c.args.part c.put.new.store (record { cells = l; slots = c.slot_for.new.slots.items }))
-    (sym (lent c.put.new.cells _ c.self.inside.cells.len (c.put.auto.cells ∙ c.deref_mut.ensures.len)))
+    let lent_cells = lent c.put.new.cells (drop (length c.put.new.cells) c.self.inside.cells.items) c.self.inside.cells.len (c.put.auto.cells ∙ c.deref_mut.ensures.len) in
+    subst (λ t. IsPutAt c.args.store.now t c.args.place c.args.part c.put.new.store (record { cells = (with_items c.self.inside.cells c.put.new.cells).items; slots = c.slot_for.new.slots.items }))
+    c.self.view_is
+    (subst (λ l. IsPutAt c.args.store.now s c.args.place c.args.part c.put.new.store (record { cells = l; slots = c.slot_for.new.slots.items })) (sym lent_cells)
     (is_put_at c.args.store.now s c.args.place c.args.part c.in_ok-slot.slot c.slot_for.new.slots.items c.in_ok-slot.ensures c.put.new.store c.put.new.cells
     (subst (λ l. IsPut c.args.store.now l c.in_ok-slot.slot c.args.part c.put.new.store c.put.new.cells) c.deref_mut.ensures.value c.in_ok-put.ensures.sum)))
 
