@@ -1,4 +1,4 @@
-use Rattle.std.proofs.Common.{◌<◌, sym, subst, arith}
+use Rattle.std.proofs.Common.{sym, subst, arith}
 use Rattle.pq_sum.specs.Sum.{HasLeaf, IsLeaf}
 use Rattle.pq_sum.specs.Places.{Sum}
 use Rattle.pq_sum.specs.Calls.{HasPartAt, IsPartAt}
