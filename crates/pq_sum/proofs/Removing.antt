@@ -70,7 +70,8 @@ module _ (T : Topology) (ts mid : Trees) (keeps : Keeps ts mid) (cells : List �
             last = λ empty. absurd (let no = ap (λ l. length l) empty in omega (arith, no, one));
           };
           fits = subst (FitAsParts T) (sym (removed_before ps slot last all before))
-              (subst (λ n. FitAsParts T (take n (replaced slot (drop n ps) ps))) (sym (last_place ps slot last all)) (halves_fit T last (replaced slot (drop last ps) ps) (fits_replaced T ps slot last remove.fits)).0);
+              (subst (λ n. FitAsParts T (take n (replaced slot (drop n ps) ps))) (sym (last_place ps slot last all))
+              (halves_fit T last (replaced slot (drop last ps) ps) (fits_replaced T ps slot last remove.fits)).0);
         }
       where
         last_place : (qs : List PolicyTree) (i n : ℕ) → length qs ≡ suc n → length qs - 1 ≡ n

@@ -1,4 +1,4 @@
-//! A balanced tree of unions of diagrams, in which one diagram may be replaced.
+//! The union of the diagrams of parts that come and go, as a balanced tree of unions.
 #![tactic(auto)]
 
 mod cells;

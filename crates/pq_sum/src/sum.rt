@@ -67,7 +67,7 @@ impl Sum {
 
     /// Puts a part at a place, instead of that which has it, or after all others.
     ///
-    /// After a refusal the sum may be that of neither the old parts nor the new ones.
+    /// After a refusal the sum may be that of neither the old parts nor the new ones: its caller throws it away.
     pub fn put<L: Ledger>(
         &mut self,
         store: &mut Store<WriteSet>,
@@ -87,7 +87,7 @@ impl Sum {
 
     /// Takes out the part of a place. The others keep their order; the part of the last slot moves into the slot that gets free.
     ///
-    /// After a refusal the sum may be that of neither the old parts nor the new ones.
+    /// After a refusal the sum may be that of neither the old parts nor the new ones: its caller throws it away.
     pub fn remove<L: Ledger>(
         &mut self,
         store: &mut Store<WriteSet>,

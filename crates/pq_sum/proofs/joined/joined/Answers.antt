@@ -6,7 +6,8 @@ use Rattle.pq_sum.proofs.joined.joined.Goals as goal
 
 pub returns-then-eq-clause-unites : goal.returns-then-eq-clause-unites
 returns-then-eq-clause-unites g c T ps qs front back =
-    united_with_none T c.args.store.now ps qs c.args.front c.args.back front back (subst (GivesNone c.args.store.now) (sym (eqb-true c.args.back c.args.none (sym c.eq.ensures ∙ c.if-eq.true))) c.requires.none)
+    united_with_none T c.args.store.now ps qs c.args.front c.args.back front back
+    (subst (GivesNone c.args.store.now) (sym (eqb-true c.args.back c.args.none (sym c.eq.ensures ∙ c.if-eq.true))) c.requires.none)
 
 pub union-requires-clause-x : goal.union-requires-clause-x
 union-requires-clause-x g c =
