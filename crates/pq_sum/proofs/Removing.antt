@@ -1,7 +1,7 @@
 -- A part taken out of a sum.
-use Rattle.std.proofs.Common.{ℕ, zero, suc, ◌+◌, ◌*◌, ◌^◌, ◌-◌, ◌<◌, ◌≤◌, ◌≡◌, ◌∙◌, List, [], ◌∷◌, ◌++◌, take, drop, length, refl, sym, ap, subst, arith}
+use Rattle.std.proofs.Common.{ℕ, suc, ◌+◌, ◌*◌, ◌^◌, ◌-◌, ◌<◌, ◌≤◌, ◌≡◌, List, [], ◌++◌, take, drop, length, sym, ap, subst, arith}
 use Rattle.std.specs.Prelude.{All}
-use Rattle.std.proofs.lemmas.List.{length-drop, length-take, take-append-drop, take_all}
+use Rattle.std.proofs.lemmas.List.{length-take, take-append-drop, take_all}
 use Rattle.pq_fields.specs.Writes.{Written}
 use Rattle.pq_model.specs.Topology.{Topology}
 use Rattle.pq_policy.specs.Policy.{PolicyTree}
@@ -12,7 +12,7 @@ use Rattle.pq_rewrite.proofs.Halves.{all_halves}
 use Rattle.pq_rewrite.proofs.Standing.{has_still}
 use Rattle.pq_forward.specs.Forward.{IsPolicyWithin}
 use Rattle.pq_meaning.specs.Parts.{FitAsParts, IsUnionOfParts}
-use Rattle.pq_sum.specs.Calls.{IsRemovable, MayRemove, removed}
+use Rattle.pq_sum.specs.Cells.{IsRemovable, MayRemove, removed}
 use Rattle.pq_sum.specs.Sum.{GivesNone, HasLeaf, IsChange, IsChanged, IsCounted, IsLeaf, IsSumTree, MayChange, UnitesParts, replaced}
 use Rattle.pq_sum.proofs.Moving.{all_both, one_last, removed_before, removed_last, without_last}
 use Rattle.pq_sum.proofs.Trees.{parts_of, tree_still}
@@ -70,7 +70,8 @@ module _ (T : Topology) (ts mid : Trees) (keeps : Keeps ts mid) (cells : List �
             last = λ empty. absurd (let no = ap (λ l. length l) empty in omega (arith, no, one));
           };
           fits = subst (FitAsParts T) (sym (removed_before ps slot last all before))
-              (subst (λ n. FitAsParts T (take n (replaced slot (drop n ps) ps))) (sym (last_place ps slot last all)) (halves_fit T last (replaced slot (drop last ps) ps) (fits_replaced T ps slot last remove.fits)).0);
+              (subst (λ n. FitAsParts T (take n (replaced slot (drop n ps) ps))) (sym (last_place ps slot last all))
+              (halves_fit T last (replaced slot (drop last ps) ps) (fits_replaced T ps slot last remove.fits)).0);
         }
       where
         last_place : (qs : List PolicyTree) (i n : ℕ) → length qs ≡ suc n → length qs - 1 ≡ n

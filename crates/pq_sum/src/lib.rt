@@ -1,9 +1,10 @@
-//! A balanced tree of unions of diagrams, in which one diagram may be replaced.
+//! The union of the diagrams of parts that come and go, as a balanced tree of unions.
 #![tactic(auto)]
 
 mod cells;
 mod changes;
 mod joined;
+mod slots;
+mod sum;
 
-pub use cells::leaf_at;
-pub use changes::{opened, put, remove};
+pub use sum::Sum;

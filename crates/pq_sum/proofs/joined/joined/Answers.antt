@@ -1,13 +1,13 @@
-use Rattle.std.proofs.Common.{ℕ, ◌≡◌, ◌∙◌, List, [], sym, subst}
+use Rattle.std.proofs.Common.{◌∙◌, sym, subst}
 use Rattle.std.proofs.lemmas.Bool.{eqb-true, eqb-false}
-use Rattle.pq_policy.specs.Policy.{PolicyTree}
-use Rattle.pq_sum.specs.Sum.{GivesNone, UnitesParts}
+use Rattle.pq_sum.specs.Sum.{GivesNone}
 use Rattle.pq_sum.proofs.Unions.{back_idle_free, back_within, front_idle_free, front_within, halves_together, none_is, united_at, united_with_none}
 use Rattle.pq_sum.proofs.joined.joined.Goals as goal
 
 pub returns-then-eq-clause-unites : goal.returns-then-eq-clause-unites
 returns-then-eq-clause-unites g c T ps qs front back =
-    united_with_none T c.args.store.now ps qs c.args.front c.args.back front back (subst (GivesNone c.args.store.now) (sym (eqb-true c.args.back c.args.none (sym c.eq.ensures ∙ c.if-eq.true))) c.requires.none)
+    united_with_none T c.args.store.now ps qs c.args.front c.args.back front back
+    (subst (GivesNone c.args.store.now) (sym (eqb-true c.args.back c.args.none (sym c.eq.ensures ∙ c.if-eq.true))) c.requires.none)
 
 pub union-requires-clause-x : goal.union-requires-clause-x
 union-requires-clause-x g c =
