@@ -3,3 +3,4 @@ pub mod EntryOrder
 pub mod Found
 pub mod Opened
 pub mod Searched
+pub mod Removed

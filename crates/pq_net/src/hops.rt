@@ -5,7 +5,7 @@ ghost use Rattle.pq_net.specs.Hops.{adds, carries, delivers};
 
 use crate::collecting::collect;
 use crate::sorting::sort;
-use crate::state::State;
+use crate::state::Added;
 use crate::wiring::Wiring;
 use pq_fields::{Field, Packet, fits};
 use pq_install::ReportRow;
@@ -18,7 +18,7 @@ pub(crate) fn additions(
     wiring: &Wiring,
     report: &[ReportRow],
     sent: &[Sent],
-) -> Result<State, AllocError>
+) -> Result<Added, AllocError>
     requires { Ascends (map (λ row. row.tag) report.now) }
     ensures { IfOk result (λ state. state ≡ adds wiring.now report.now sent.now) }
 {
@@ -31,7 +31,7 @@ pub(crate) fn additions(
         collect(alloc, report, *copy, &mut buckets)?;
     }
     sort(&mut buckets)?;
-    Ok(State {
+    Ok(Added {
         flight,
         delivered,
         buckets,

@@ -4,6 +4,7 @@
 
 mod collecting;
 mod entry;
+mod flight;
 mod hops;
 mod laws;
 mod lookups;

@@ -101,21 +101,21 @@ impl Net {
     pub fn flight(&self) -> &[Tagged]
         ensures { result.now ≡ self.now.state.flight }
     {
-        &self.state.flight
+        self.state.flight()
     }
 
     /// The packets that left at edge ports, in the order in which they did.
     pub fn delivered(&self) -> &[Tagged]
         ensures { result.now ≡ self.now.state.delivered }
     {
-        &self.state.delivered
+        self.state.delivered()
     }
 
     /// What the collector has, hop by hop, and for one hop by instance and then by packet.
     pub fn buckets(&self) -> &[Entry]
         ensures { result.now ≡ self.now.state.buckets }
     {
-        &self.state.buckets
+        self.state.buckets()
     }
 
     /// The names of the queries, which the instances of entries count.
@@ -133,8 +133,7 @@ impl Net {
         if !self.wiring.is_edge(x.packet.switch, port_of(x.packet)) {
             return Ok(());
         }
-        self.state.flight.push(x)?;
-        Ok(())
+        self.state.put(x)
     }
 
     fn hop(&mut self, alloc: Global, place: u64) -> Result<(), AllocError>
@@ -146,7 +145,7 @@ impl Net {
         ensures err { OnErr result (self.new ≡ self.old) }
     {
         let place = place as usize;
-        let Some(x) = self.state.flight.get(place) else {
+        let Some(x) = self.state.flight().get(place) else {
             return Ok(());
         };
         let sent = copies_of(alloc, &self.wiring, &self.tables, x)?;
@@ -158,10 +157,6 @@ impl Net {
         ensures { let left = remove self.old.state.flight place in
             self.new ≡ record self.old { state = record self.old.state { flight = left } } }
     {
-        let place = place as usize;
-        if place >= self.state.flight.len() {
-            return;
-        }
-        self.state.flight.remove(place);
+        self.state.drop_at(place as usize);
     }
 }

@@ -11,3 +11,4 @@ pub mod Rows
 pub mod Scan
 pub mod SentOrder
 pub mod SortedParts
+pub mod Absent

@@ -87,10 +87,13 @@ impl Entries {
         self.slots.clear();
     }
 
-    /// Takes out each entry that names a group that is removed.
+    /// Takes out each entry that names a group that is removed. Where no group is, no entry is looked at.
     pub(crate) fn remove_naming(&mut self, groups: &Groups, number: u32)
         ensures { self.new ≡ filter (λ e. not (list_any (is_removed groups.now number) (groups_named e.actions))) self.old }
     {
+        if !groups.removes_any(number) {
+            return;
+        }
         self.slots.retain(
             |_place: &Place, slot: &mut Slot| -> bool
                 ensures { (result ≡ not (list_any (is_removed groups.entry.now number) (groups_named slot.old.entry.actions))) × (slot.new ≡ slot.old) }

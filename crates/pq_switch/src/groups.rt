@@ -1,7 +1,8 @@
-ghost use Rattle.std.specs.Prelude.{◌≡◌, [], ◌∷◌, OnErr, OnOk, not};
+ghost use Rattle.std.specs.Prelude.{◌≡◌, ◌==◌, ◌||◌, [], ◌∷◌, OnErr, OnOk, not};
 ghost use Rattle.std.specs.List.{list_all, list_any};
 ghost use Rattle.std.specs.FinMap.{contains_key, get, insert};
 ghost use Rattle.pq_model.specs.SwitchMachine.{
+  all_groups,
   buckets_in,
   groups_named,
   is_removed,
@@ -107,6 +108,13 @@ impl Groups {
             }
         }
         false
+    }
+
+    /// Whether removing takes out a group. It may say so of all groups where there is none.
+    pub(crate) fn removes_any(&self, number: u32) -> bool
+        ensures { result ≡ (number == all_groups) || contains_key self.now number }
+    {
+        number == ALL_GROUPS || self.contains(number)
     }
 
     // Whether the action names a group that isn't there.

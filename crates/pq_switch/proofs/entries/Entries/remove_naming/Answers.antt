@@ -1,6 +1,7 @@
-use Rattle.std.proofs.Common.{◌≡◌, Bool, not, filter, rules, ap, ◌∙◌}
+use Rattle.std.proofs.Common.{◌≡◌, Bool, not, filter, rules, ap, sym, ◌∙◌}
 use Rattle.std.specs.List.{list_any}
 use Rattle.pq_model.specs.SwitchMachine.{Entry, groups_named, is_removed}
+use Rattle.pq_switch.proofs.Absent.{none_is_removed}
 use Rattle.pq_switch.proofs.Kept.{entries_where, kept_where}
 use Rattle.pq_switch.proofs.Rows.{retained}
 use Rattle.pq_switch.proofs.entries.Entries.remove_naming.Goals as goal
@@ -18,3 +19,6 @@ returns c =
     let es = c.self.inside.slots.entries in
     let left : c.retain.new.self.entries ≡ filter (λ r. q r.1.entry) es = retained _ (λ r. q r.1.entry) _ (λ k v b w g called. search rules) es _ c.retain.ensures.filtered in
     entries_where q es c.retain.new.self.entries left ∙ ap (filter q) c.self.view_is
+
+pub returns-then-not-removes_any : goal.returns-then-not-removes_any
+returns-then-not-removes_any c = none_is_removed c.args.groups.now c.args.number c.args.self.now (sym c.if-not-removes_any.ensures)
