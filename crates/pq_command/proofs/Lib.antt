@@ -1,2 +1,5 @@
 pub mod Complete
+pub mod Headings
 pub mod Labels
+pub mod Openings
+pub mod Turns
