@@ -1,5 +1,5 @@
 -- Texts that open a session: with more bytes after them, and that each opens one session.
-use Rattle.std.proofs.Common.{◌≡◌, ℕ, ◌+◌, ◌<◌, ◌≤◌, Bool, true, false, ◌||◌, List, [], ◌∷◌, ◌++◌, length, take, drop, refl, sym, ap, ◌∙◌, subst, arith, append_assoc, append-nil, length-append, Option, Some, inl, inr, if◌then◌else◌}
+use Rattle.std.proofs.Common.{◌≡◌, ℕ, ◌+◌, ◌<◌, ◌≤◌, Bool, true, false, ◌||◌, List, [], ◌∷◌, ◌++◌, length, take, drop, drop-drop, take-append-drop, refl, sym, ap, ◌∙◌, subst, arith, append_assoc, append-nil, length-append, Option, Some, inl, inr, if◌then◌else◌}
 use Rattle.std.specs.Prelude.{◌==◌}
 use Rattle.std.specs.List.{list_any}
 use Rattle.std.proofs.Math.Seq.{drop-append_seam, take-append_seam}
@@ -11,7 +11,10 @@ use Rattle.pq_install.specs.Reading.{IsInstallAtFront}
 use Rattle.pq_install.proofs.Exclusion.{one_install}
 use Rattle.pq_install.proofs.Renamed.{all_as_read, install_as_read, spelled_at_front, spelled_old_at_front}
 use Rattle.pq_speaker.specs.Rules.{Session}
-use Rattle.pq_command.specs.Speaks.{IsOpened, IsSpelling, Stated, has_switch, session_of, stated}
+use Rattle.pq_speaker.specs.Speaking.{EndsWithOwnBarrier}
+use Rattle.pq_command.specs.declared.outcome.Outcome.{Outcome}
+use Rattle.pq_command.specs.declared.outcome.Outcome.TheVariants.{Done, Words, ReadFault, TooLong, Lex, Syntax, Name, ValuesFull, InstancesFull, TagWidth, TableFull, GroupFull, Damaged, NoSwitch, NoBarrier, Speaking, ScheduleFull, WriteFault, Memory}
+use Rattle.pq_command.specs.Speaks.{Bars, IsDamagedFor, IsOpened, IsSpelling, Stated, has_switch, session_of, stated}
 use Rattle.pq_command.proofs.Headings.{followed, stated-append}
 
 -- what comes later belongs to the same session
@@ -80,3 +83,61 @@ one-session datapath text session other came more first second =
     let spelled : IsSpelling second.install first.bytes = subst (IsSpelling second.install) (sym parts.0) second.spelled in
     (first.messages ∙ ap (session_of datapath) (one-list first.install second.install first.bytes datapath first.spelled spelled) ∙ sym second.messages,
     parts.1)
+
+-- What was judged.
+
+-- what the line states, with what follows it
+abbrev pub stating : ℕ → List ℕ → Option Stated
+stating size rest = Some (record { size = size; rest = rest })
+
+-- an install of the stated length, with the messages to the switch
+pub opens : (d : ℕ) (text : List ℕ) (at size : ℕ) (i : Install) (ms : List Message) → stated text ≡ stating size (drop at text)
+    → length (take size (drop at text)) ≡ size → IsSpelling i (take size (drop at text)) → has_switch d i ≡ true → ms ≡ messages_of i d → EndsWithOwnBarrier ms
+    → IsOpened d text (session_of d ms) (drop (at + size) text)
+opens d text at size i ms line whole spelled named messages ended = record {
+  install = i;
+  bytes = take size (drop at text);
+  line =
+      line
+      ∙ ap (stating size) (sym (take-append-drop size (drop at text)) ∙ ap (λ (rest : List ℕ). take size (drop at text) ++ rest) (drop-drop at size text))
+      ∙ ap (λ (n : ℕ). stating n (take size (drop at text) ++ drop (at + size) text)) (sym whole);
+  spelled = spelled;
+  named = named;
+  messages = ap (session_of d) messages;
+  ended = ended;
+}
+
+pub no-switch : (d : ℕ) (text : List ℕ) (at size : ℕ) (i : Install) → stated text ≡ stating size (drop at text)
+    → length (take size (drop at text)) ≡ size → IsSpelling i (take size (drop at text)) → has_switch d i ≡ false → Bars d NoSwitch text
+no-switch d text at size i line whole spelled unnamed = (record { size = size; rest = drop at text }, line, (whole, i, spelled, unnamed))
+
+pub no-barrier : (d : ℕ) (text : List ℕ) (at size : ℕ) (i : Install) (ms : List Message) → stated text ≡ stating size (drop at text)
+    → length (take size (drop at text)) ≡ size → IsSpelling i (take size (drop at text)) → has_switch d i ≡ true → ms ≡ messages_of i d → (EndsWithOwnBarrier ms → ⊥)
+    → Bars d NoBarrier text
+no-barrier d text at size i ms line whole spelled named messages unended =
+    (record { size = size; rest = drop at text }, line, (whole, i, spelled, named, λ ended. unended (subst EndsWithOwnBarrier (sym messages) ended)))
+
+pub damaged : (d : ℕ) (text : List ℕ) (at size : ℕ) (o : Outcome) → stated text ≡ stating size (drop at text)
+    → IsDamagedFor size (take size (drop at text)) o → Bars d o text
+damaged d text at size o line fault = by o fault
+  where
+    by : (o : Outcome) → IsDamagedFor size (take size (drop at text)) o → Bars d o text
+    by (Damaged place) fault = (record { size = size; rest = drop at text }, line, fault)
+    by Memory fault = tt
+    by Done fault = absurd fault
+    by Words fault = absurd fault
+    by ReadFault fault = absurd fault
+    by TooLong fault = absurd fault
+    by (Lex at) fault = absurd fault
+    by (Syntax at) fault = absurd fault
+    by (Name at kind) fault = absurd fault
+    by (ValuesFull f n) fault = absurd fault
+    by (InstancesFull n) fault = absurd fault
+    by (TagWidth n) fault = absurd fault
+    by (TableFull d t n) fault = absurd fault
+    by (GroupFull d n) fault = absurd fault
+    by NoSwitch fault = absurd fault
+    by NoBarrier fault = absurd fault
+    by (Speaking t) fault = absurd fault
+    by ScheduleFull fault = absurd fault
+    by WriteFault fault = absurd fault

@@ -1,5 +1,5 @@
 //! The line with the length of the install, and the reading of it and of the install.
-ghost use Rattle.std.specs.Prelude.{◌≡◌, ◌≤◌, ℕ, List, None, Some, drop, length, MatchOption, IfErr, IfOk, IfSome};
+ghost use Rattle.std.specs.Prelude.{◌≡◌, ◌<◌, ◌≤◌, ℕ, List, None, Some, drop, length, MatchOption, IfErr, IfOk, IfSome};
 ghost use Rattle.std.specs.Io.KnownBytes.{Consumes};
 ghost use Rattle.pq_command.specs.Reading.{HasReadCause, install_limit};
 ghost use Rattle.pq_command.specs.Speaks.{IsReadEnough, IsUnread, line_end, needs_more, stated};
@@ -26,7 +26,8 @@ pub(crate) struct Heading {
 
 /// The place of a line feed among the first ten bytes.
 fn line_end(text: &[u8]) -> Option<usize>
-    ensures { result ≡ line_end text.now }
+    ensures place { result ≡ line_end text.now }
+    ensures within { IfSome result (λ end. (end < length text.now) × (end < 10)) }
 {
     let front = &text[..text.len().min(LINE)];
     front.iter().position(|byte| *byte == b'\n')

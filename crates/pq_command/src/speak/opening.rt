@@ -1,14 +1,15 @@
 //! What a text says is to be installed in a switch.
-ghost use Rattle.std.specs.Prelude.{◌≡◌, ◌≤◌, All, IfErr, IfOk, IfSome, MatchOption, OnOk, drop, false, length, true};
+ghost use Rattle.std.specs.Prelude.{◌≡◌, ◌<◌, ◌≤◌, ◌==◌, All, IfErr, IfOk, IfSome, MatchOption, OnOk, drop, false, length, position, take, true};
 ghost use Rattle.pq_model.specs.Install.{IsLawfulInstall, messages_of};
 ghost use Rattle.pq_model.specs.Lawful.{IsLawfulMessage};
 ghost use Rattle.pq_speaker.specs.Speaking.{EndsWithOwnBarrier};
 ghost use Rattle.pq_command.specs.Speaks.{Bars, IsDamagedFor, IsOpened, IsSpelling, has_switch, session_of};
 
 use crate::outcome::Outcome;
-use crate::speak::heading::heading_of;
+use crate::speak::heading::{Heading, heading_of};
 use pq_install::{Install, InstallFault, read_install};
 use pq_speaker::{Message, ends_with_own_barrier};
+use pq_topo::Switch;
 use std::alloc::Global;
 
 /// What is to be installed in a switch.
@@ -35,18 +36,37 @@ fn install_in(alloc: Global, size: usize, bytes: &[u8]) -> Result<Install, Outco
     }
 }
 
+/// The place of the switch with this datapath number.
+fn place_of(datapath: u64, switches: &[Switch]) -> Option<usize>
+    ensures place { result ≡ position (λ s. s.datapath == datapath) switches.now }
+    ensures within { IfSome result (λ k. k < length switches.now) }
+{
+    switches
+        .iter()
+        .position(|switch| switch.datapath == datapath)
+}
+
 /// The messages to the switch with this datapath number, where the install has it.
 fn messages_to(datapath: u64, install: Install) -> Option<Vec<Message>>
     requires { IsLawfulInstall install }
     ensures messages { MatchOption result (has_switch datapath install ≡ false) (λ ms. (has_switch datapath install ≡ true) × (ms.items ≡ messages_of install datapath)) }
     ensures lawful { IfSome result (λ ms. All IsLawfulMessage ms.items) }
 {
-    let switches = install.topology.switches();
-    let Some(place) = switches.iter().position(|switch| switch.datapath == datapath) else {
+    let Some(place) = place_of(datapath, install.topology.switches()) else {
         return None;
     };
     let mut lists = install.messages;
     Some(lists.swap_remove(place))
+}
+
+/// The bytes in place of an install: as many as the line states, or all that follow it.
+fn install_bytes(heading: Heading, text: &[u8]) -> &[u8]
+    requires { heading.at ≤ length text.now }
+    ensures bytes { result.now ≡ take heading.size (drop heading.at text.now) }
+    ensures short { length result.now ≤ heading.size }
+{
+    let rest = &text[heading.at..];
+    &rest[..rest.len().min(heading.size)]
 }
 
 /// What the text says is to be installed in the switch with this datapath number, or why nothing is.
@@ -60,9 +80,7 @@ pub(crate) fn opening_of(alloc: Global, datapath: u64, text: &[u8]) -> Result<Op
     let Some(heading) = heading_of(text) else {
         return Err(Outcome::Syntax { at: 0 });
     };
-    let rest = &text[heading.at..];
-    let bytes = &rest[..rest.len().min(heading.size)];
-    let install = match install_in(alloc, heading.size, bytes) {
+    let install = match install_in(alloc, heading.size, install_bytes(heading, text)) {
         Ok(install) => install,
         Err(outcome) => return Err(outcome),
     };
