@@ -26,7 +26,7 @@ found xs k is = by (ltb (prefix_len no_feed xs) (length xs)) refl
         let same : prefix_len no_feed xs ≡ k = same_Some _ _ (rw e at is) in
         let below = ltb-true (prefix_len no_feed xs) (length xs) e in
         (omega (arith, same, below), same)
-    by false e = let none : None ≡ Some k = rw e at is in absurd none
+    by false e = let none : None ≡ Some k = rw e at is in cc
 
 finds : (xs : List ℕ) (k : ℕ) → k < length xs → prefix_len no_feed xs ≡ k → position is_feed xs ≡ Some k
 finds xs k below is =
@@ -37,7 +37,7 @@ missed : (xs : List ℕ) → position is_feed xs ≡ None → prefix_len no_feed
 missed xs is = by (ltb (prefix_len no_feed xs) (length xs)) refl
   where
     by : (w : Bool) → ltb (prefix_len no_feed xs) (length xs) ≡ w → prefix_len no_feed xs ≡ length xs
-    by true e = let some : Some (prefix_len no_feed xs) ≡ None = rw e at is in absurd some
+    by true e = let some : Some (prefix_len no_feed xs) ≡ None = rw e at is in cc
     by false e = let most = prefix_len-le-length no_feed xs in let least = ltb-false (prefix_len no_feed xs) (length xs) e in omega (arith, most, least)
 
 -- a line feed is where it was when more follows
@@ -82,12 +82,12 @@ abbrev pub followed : List ℕ → Stated → Stated
 followed more s = record { size = s.size; rest = s.rest ++ more }
 
 before-append : (rest more : List ℕ) (n : Option ℕ) (s : Stated) → stated_before rest n ≡ Some s → stated_before (rest ++ more) n ≡ Some (followed more s)
-before-append rest more None s is = absurd is
+before-append rest more None s is = cc
 before-append rest more (Some size) s is = ap (λ (t : Stated). Some (followed more t)) (same_Some _ _ is)
 
 before-none : (rest other : List ℕ) (n : Option ℕ) → stated_before rest n ≡ None → stated_before other n ≡ None
 before-none rest other None is = refl
-before-none rest other (Some size) is = absurd is
+before-none rest other (Some size) is = cc
 
 -- what is before the line feed and after it, when more follows
 to-more : (text more : List ℕ) (k : ℕ) → k < length text
@@ -101,7 +101,7 @@ pub stated-append : (text more : List ℕ) (s : Stated) → stated text ≡ Some
 stated-append text more s is = by (line_end text) refl
   where
     by : (e : Option ℕ) → line_end text ≡ e → stated (text ++ more) ≡ Some (followed more s)
-    by None e = let none : None ≡ Some s = rw e at is in absurd none
+    by None e = let none : None ≡ Some s = rw e at is in cc
     by (Some k) e =
         let here : stated_to text (Some k) ≡ Some s = rw e at is in
         rw (line_end-append text more k e)
@@ -127,7 +127,7 @@ pub few-follow : (before last : List ℕ) (s : Stated) → needs_more before ≡
 few-follow before last s short is = by (stated before) refl
   where
     to : (e : Option ℕ) → line_end (before ++ last) ≡ e → line_end before ≡ None → length before < 10 → length s.rest ≤ s.size + length last
-    to None e none few = let nothing : None ≡ Some s = rw e at is in absurd nothing
+    to None e none few = let nothing : None ≡ Some s = rw e at is in cc
     to (Some k) e none few =
         let front = take-more 10 before last in
         let all : take 10 before ≡ before = take_all 10 before (omega (arith, few)) in
@@ -137,7 +137,7 @@ few-follow before last s short is = by (stated before) refl
         omega (arith, later, ap length all, ap length rest, length-drop (k + 1) (before ++ last), length-append before last)
       where
         rest-is : (rest : List ℕ) (n : Option ℕ) → stated_before rest n ≡ Some s → rest ≡ s.rest
-        rest-is rest None none = absurd none
+        rest-is rest None none = cc
         rest-is rest (Some size) some = ap (λ (t : Stated). t.rest) (same_Some _ _ some)
 
     by : (e : Option Stated) → stated before ≡ e → length s.rest ≤ s.size + length last
@@ -147,7 +147,7 @@ few-follow before last s short is = by (stated before) refl
       where
         none-is : (o : Option ℕ) → is_none o ≡ true → o ≡ None
         none-is None is = refl
-        none-is (Some k) is = absurd is
+        none-is (Some k) is = cc
     by (Some t) e =
         let few = ltb-true (length t.rest) t.size (rw e at short) in
         let same : followed last t ≡ s = same_Some _ _ (sym (stated-append before last t e) ∙ is) in

@@ -23,25 +23,27 @@ here : (d : ℕ) (ss : List Switch) (lists : List (List Message)) → length lis
     → (list_any (is_for d) ss ≡ true) × (messages_in ss lists d ≡ get_or lists (prefix_len (other d) ss) [])
 here d [] lists same below = absurd (omega (arith, below))
 here d (s ∷ ss) [] same below = absurd (omega (arith, same))
-here d (s ∷ ss) (ms ∷ lists) same below = by (s.datapath == d) refl
+here d (s ∷ ss) (ms ∷ lists) same below = by (s.datapath == d) refl (here d ss lists (omega (arith, same)))
   where
-    by : (w : Bool) → (s.datapath == d) ≡ w → (list_any (is_for d) (s ∷ ss) ≡ true) × (messages_in (s ∷ ss) (ms ∷ lists) d ≡ get_or (ms ∷ lists) (prefix_len (other d) (s ∷ ss)) [])
-    by true e = (rw e refl, rw (e, e) refl)
-    by false e =
+    by : (w : Bool) → (s.datapath == d) ≡ w
+        → (prefix_len (other d) ss < length ss → (list_any (is_for d) ss ≡ true) × (messages_in ss lists d ≡ get_or lists (prefix_len (other d) ss) []))
+        → (list_any (is_for d) (s ∷ ss) ≡ true) × (messages_in (s ∷ ss) (ms ∷ lists) d ≡ get_or (ms ∷ lists) (prefix_len (other d) (s ∷ ss)) [])
+    by true e later = (rw e refl, rw e refl)
+    by false e later =
         let less : 1 + prefix_len (other d) ss < length (s ∷ ss) = rw e at below in
-        let rest = here d ss lists (omega (arith, same)) (omega (arith, less)) in
-        (rw e rest.0, rw (e, e) rest.1)
+        let rest = later (omega (arith, less)) in
+        (rw e rest.0, rw e rest.1)
 
 -- no place, no switch
 nowhere : (d : ℕ) (ss : List Switch) → prefix_len (other d) ss ≡ length ss → list_any (is_for d) ss ≡ false
 nowhere d [] all = refl
-nowhere d (s ∷ ss) all = by (s.datapath == d) refl
+nowhere d (s ∷ ss) all = by (s.datapath == d) refl (nowhere d ss)
   where
-    by : (w : Bool) → (s.datapath == d) ≡ w → list_any (is_for d) (s ∷ ss) ≡ false
-    by true e = let none : 0 ≡ length (s ∷ ss) = rw e at all in absurd (omega (arith, none))
-    by false e =
+    by : (w : Bool) → (s.datapath == d) ≡ w → (prefix_len (other d) ss ≡ length ss → list_any (is_for d) ss ≡ false) → list_any (is_for d) (s ∷ ss) ≡ false
+    by true e later = let none : 0 ≡ length (s ∷ ss) = rw e at all in absurd (omega (arith, none))
+    by false e later =
         let less : 1 + prefix_len (other d) ss ≡ length (s ∷ ss) = rw e at all in
-        rw e (nowhere d ss (omega (arith, less)))
+        rw e (later (omega (arith, less)))
 
 pub listed : (d : ℕ) (ss : List Switch) (lists : List (List Message)) (k : ℕ) → length lists ≡ length ss → position (is_for d) ss ≡ Some k
     → (list_any (is_for d) ss ≡ true) × (messages_in ss lists d ≡ get_or lists k []) × (k < length ss)
@@ -53,13 +55,13 @@ listed d ss lists k same is = by (ltb (prefix_len (other d) ss) (length ss)) ref
         let below = ltb-true (prefix_len (other d) ss) (length ss) e in
         let found = here d ss lists same below in
         (found.0, found.1 ∙ ap (λ (n : ℕ). get_or lists n []) at, omega (arith, at, below))
-    by false e = let none : None ≡ Some k = rw e at is in absurd none
+    by false e = let none : None ≡ Some k = rw e at is in cc
 
 pub unlisted : (d : ℕ) (ss : List Switch) → position (is_for d) ss ≡ None → list_any (is_for d) ss ≡ false
 unlisted d ss is = by (ltb (prefix_len (other d) ss) (length ss)) refl
   where
     by : (w : Bool) → ltb (prefix_len (other d) ss) (length ss) ≡ w → list_any (is_for d) ss ≡ false
-    by true e = let some : Some (prefix_len (other d) ss) ≡ None = rw e at is in absurd some
+    by true e = let some : Some (prefix_len (other d) ss) ≡ None = rw e at is in cc
     by false e = nowhere d ss (omega (arith, ltb-false (prefix_len (other d) ss) (length ss) e, prefix_len-le-length (other d) ss))
 
 -- the list at the place of a switch has its messages

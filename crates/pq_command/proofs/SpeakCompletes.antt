@@ -85,10 +85,10 @@ not-none bytes text now s taken enough is none = by enough.enough
         let rest = rest-of bytes text now taken in
         let nothing : stated bytes ≡ None = ap stated rest.2 ∙ none-append text rest.0 none whole in
         let clash : None ≡ Some s = sym nothing ∙ is in
-        absurd clash
+        cc
     by (inr end) =
         let clash : None ≡ Some s = sym none ∙ ap stated (sym (whole-text bytes text now taken end)) ∙ is in
-        absurd clash
+        cc
 
 -- the bytes that were judged are those of the install
 same-bytes : (bytes text : List ℕ) (now : Option (List ℕ)) (t : Stated) (install came : List ℕ) → Consumes (Some bytes) now text → IsReadEnough now text

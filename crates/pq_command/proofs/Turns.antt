@@ -1,11 +1,13 @@
 -- What each turn of a session adds, and how a session ends.
-use Rattle.std.proofs.Common.{◌≡◌, ℕ, ◌+◌, ◌-◌, ◌<◌, ◌≤◌, min, Bool, true, false, List, [], ◌∷◌, ◌++◌, length, take, refl, sym, ap, ◌∙◌, subst, arith, append_assoc, append-nil, length-append, length-take, take_all, Option, Some, None, inl, inr, true≢false}
+use Rattle.std.proofs.Common.{◌≡◌, ◌≢◌, ℕ, zero, suc, ◌+◌, ◌-◌, ◌<◌, ◌≤◌, min, Bool, true, false, List, [], ◌∷◌, ◌++◌, length, take, drop, refl, sym, ap, ◌∙◌, subst, arith, append_assoc, append-nil, length-append, length-take, take_all, Option, Some, None, inl, inr, true≢false}
 use Rattle.std.specs.List.{flat_map}
 use Rattle.std.specs.Io.KnownBytes.{Appends, Consumes, IsAtEnd, Keeps}
 use Rattle.std.proofs.KnownBytes.{Appends-nil, Appends-trans, Consumes-kept, Consumes-trans}
 use Rattle.std.proofs.Math.Seq.{take-append-add}
 use Rattle.std.proofs.lemmas.Grind.{flat_map-append}
 use Rattle.std.proofs.lemmas.List.{take-append-le}
+use Rattle.pq_io.specs.Pieces.{AppendsPart}
+use Rattle.pq_model.specs.declared.message.Message.{Message}
 use Rattle.pq_speaker.specs.declared.talk.Talk.{Talk}
 use Rattle.pq_speaker.specs.declared.talk.Talk.TheVariants.{Greeting, Asking, Installing, Installed, Failed}
 use Rattle.pq_speaker.specs.Rules.{Session, has_failed, replies_bytes, reply_bytes}
@@ -17,7 +19,7 @@ use Rattle.pq_command.specs.declared.reading.Unread.{Unread}
 use Rattle.pq_command.specs.declared.reading.Unread.TheVariants as unread
 use Rattle.pq_command.specs.Answers.{Streams, streams}
 use Rattle.pq_command.specs.Reading.{install_limit, piece_size}
-use Rattle.pq_command.specs.Speaks.{Bars, ButLast, GoesOn, Hears, IsLast, IsOpened, IsReadEnough, IsSpeakAnswer, IsTurnEnd, IsUnderWay, IsUnread, SaysAll, SaysPart, end_outcome, needs_more, said, sends, state_after, stated, talk_after, unread_outcome}
+use Rattle.pq_command.specs.Speaks.{Bars, ButLast, GoesOn, Hears, IsLast, IsOpened, IsReadEnough, IsSpeakAnswer, IsTurnEnd, IsUnderWay, IsUnread, SaysAll, SaysPart, end_outcome, needs_more, said, sends, session_of, state_after, stated, talk_after, unread_outcome}
 use Rattle.pq_command.proofs.Headings.{few-follow}
 use Rattle.pq_command.proofs.Openings.{opened-append}
 
@@ -181,6 +183,77 @@ turn-ends datapath left mid now before middle after speaker text piece o is read
     by ScheduleFull end = absurd end
 
 -- The beginning.
+
+-- a part of bytes in front of others is a part of all
+part-of : (n : ℕ) (xs ys : List ℕ) → (m : ℕ) × (take m (xs ++ ys) ≡ take n xs)
+part-of zero xs ys = (0, refl)
+part-of (suc n) [] ys = (0, refl)
+part-of (suc n) (x ∷ xs) ys = let more = part-of n xs ys in (suc more.0, ap (λ (zs : List ℕ). x ∷ zs) more.1)
+
+-- the HELLO, and what is said for the first bytes
+pub first-said : (session : Session) (speaker : State) (first hello : List ℕ) (before middle after : Option (List ℕ)) → hello ≡ hello_bytes → speaker ≡ opened session
+    → Appends before middle hello → Appends middle after (sends speaker first) → Appends before after (said session first)
+first-said session speaker first hello before middle after is state put next =
+    Appends-trans before middle after hello_bytes (sends (opened session) first) (subst (Appends before middle) is put)
+    (subst (λ (s : State). Appends middle after (sends s first)) state next)
+
+-- a HELLO that isn't written
+pub hello-fails : (session : Session) (t : Talk) (first hello : List ℕ) (before after : Option (List ℕ)) (o : Outcome) → hello ≡ hello_bytes → o ≡ WriteFault
+    → AppendsPart before after hello → IsTurnEnd t (said session first) o before after
+hello-fails session t first hello before after o is fault (n, put) =
+    let some = part-of n hello_bytes (sends (opened session) first) in
+    subst (λ (p : Outcome). IsTurnEnd t (said session first) p before after) (sym fault)
+    (some.0, subst (Appends before after) (ap (take n) is ∙ sym some.1) put)
+
+-- first bytes that end the session
+pub first-ends : (session : Session) (speaker : State) (first hello : List ℕ) (before middle after : Option (List ℕ)) (o : Outcome) → hello ≡ hello_bytes
+    → speaker ≡ opened session → Appends before middle hello → IsTurnEnd (heard speaker first).state.talk (sends speaker first) o middle after
+    → IsTurnEnd (talk_after session first) (said session first) o before after
+first-ends session speaker first hello before middle after o is state put end =
+    by o (subst (λ (s : State). IsTurnEnd (heard s first).state.talk (sends s first) o middle after) state end)
+  where
+    greeted : Appends before middle hello_bytes
+    greeted = subst (Appends before middle) is put
+
+    cut : (n : ℕ) → Appends middle after (take n (sends (opened session) first)) → AppendsPart before after (said session first)
+    cut n next =
+        (length hello_bytes + n, subst (Appends before after) (sym (take-append-add hello_bytes (sends (opened session) first) n))
+        (Appends-trans before middle after _ _ greeted next))
+
+    by : (o : Outcome) → IsTurnEnd (talk_after session first) (sends (opened session) first) o middle after → IsTurnEnd (talk_after session first) (said session first) o before after
+    by WriteFault (n, next) = cut n next
+    by Memory (n, next) = cut n next
+    by (Speaking t) (talk, failed, next) = (talk, failed, Appends-trans before middle after _ _ greeted next)
+    by Done end = absurd end
+    by Words end = absurd end
+    by ReadFault end = absurd end
+    by TooLong end = absurd end
+    by (Lex at) end = absurd end
+    by (Syntax at) end = absurd end
+    by (Name at kind) end = absurd end
+    by (ValuesFull f n) end = absurd end
+    by (InstancesFull n) end = absurd end
+    by (TagWidth n) end = absurd end
+    by (TableFull d t n) end = absurd end
+    by (GroupFull d n) end = absurd end
+    by (Damaged at) end = absurd end
+    by NoSwitch end = absurd end
+    by NoBarrier end = absurd end
+    by ScheduleFull end = absurd end
+
+-- a session that was opened is under way
+pub begun : (datapath : ℕ) (left now before after : Option (List ℕ)) (text first : List ℕ) (at : ℕ) (messages : List Message) (speaker : State) → Consumes left now text
+    → IsOpened datapath text (session_of datapath messages) (drop at text) → first ≡ drop at text → speaker ≡ state_after (session_of datapath messages) first
+    → Appends before after (said (session_of datapath messages) first) → has_failed speaker.talk ≡ false → IsUnderWay datapath (streams left now before after) speaker text
+begun datapath left now before after text first at messages speaker read is same state put going = record {
+  session = session_of datapath messages;
+  came = drop at text;
+  read = read;
+  opened = is;
+  state = state ∙ ap (state_after (session_of datapath messages)) same;
+  put = subst (λ (came : List ℕ). Appends before after (said (session_of datapath messages) came)) same put;
+  going = going;
+}
 
 -- what is read with the install is a piece at the most
 pub first-short : (datapath : ℕ) (rest : Option (List ℕ)) (text : List ℕ) (session : Session) (came : List ℕ)
