@@ -32,7 +32,10 @@ here d (s ∷ ss) (ms ∷ lists) same below = by (s.datapath == d) refl (here d 
     by false e later =
         let less : 1 + prefix_len (other d) ss < length (s ∷ ss) = rw e at below in
         let rest = later (omega (arith, less)) in
-        (rw e rest.0, rw e rest.1)
+        let next : 1 + prefix_len (other d) ss ≡ suc (prefix_len (other d) ss) = omega arith in
+        let at : get_or (ms ∷ lists) (1 + prefix_len (other d) ss) [] ≡ get_or lists (prefix_len (other d) ss) [] =
+        ap (λ (k : ℕ). get_or (ms ∷ lists) k []) next in
+        (rw e rest.0, rw e (rest.1 ∙ sym at))
 
 -- no place, no switch
 nowhere : (d : ℕ) (ss : List Switch) → prefix_len (other d) ss ≡ length ss → list_any (is_for d) ss ≡ false

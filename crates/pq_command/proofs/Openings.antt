@@ -99,7 +99,7 @@ opens d text at size i ms line whole spelled named messages ended = record {
   bytes = take size (drop at text);
   line =
       line
-      ∙ ap (stating size) (sym (take-append-drop size (drop at text)) ∙ ap (λ (rest : List ℕ). take size (drop at text) ++ rest) (drop-drop at size text))
+      ∙ ap (stating size) (sym (take-append-drop size (drop at text)) ∙ ap (λ (rest : List ℕ). take size (drop at text) ++ rest) (drop-drop size at text))
       ∙ ap (λ (n : ℕ). stating n (take size (drop at text) ++ drop (at + size) text)) (sym whole);
   spelled = spelled;
   named = named;
@@ -115,7 +115,7 @@ pub no-barrier : (d : ℕ) (text : List ℕ) (at size : ℕ) (i : Install) (ms :
     → length (take size (drop at text)) ≡ size → IsSpelling i (take size (drop at text)) → has_switch d i ≡ true → ms ≡ messages_of i d → (EndsWithOwnBarrier ms → ⊥)
     → Bars d NoBarrier text
 no-barrier d text at size i ms line whole spelled named messages unended =
-    (record { size = size; rest = drop at text }, line, (whole, i, spelled, named, λ ended. unended (subst EndsWithOwnBarrier (sym messages) ended)))
+    (record { size = size; rest = drop at text }, line, (whole, i, spelled, (named, λ ended. unended (subst EndsWithOwnBarrier (sym messages) ended))))
 
 pub damaged : (d : ℕ) (text : List ℕ) (at size : ℕ) (o : Outcome) → stated text ≡ stating size (drop at text)
     → IsDamagedFor size (take size (drop at text)) o → Bars d o text

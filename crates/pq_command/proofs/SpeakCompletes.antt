@@ -58,7 +58,7 @@ shared d bytes text rest session other came part is opened begun =
 -- a session doesn't end in another state
 not-stopped : (d : ℕ) (bytes : List ℕ) (t : Talk) (s : Streams) (session : Session) (came : List ℕ) → s.left ≡ Some bytes → IsOpened d bytes session came
     → talk_after session came ≡ Installed → IsSpeakAnswer d (Speaking t) s → ⊥
-not-stopped d bytes t s session came known opened installed (text, read, short, other, part, begun, last, is, going, put) =
+not-stopped d bytes t s session came known opened installed (text, read, (short, other, part, begun, (last, is, going, put))) =
     by (subst (λ (l : Option (List ℕ)). Consumes l s.rest text) known read) last
   where
     by : Consumes (Some bytes) s.rest text → IsLast s.rest other part → ⊥
@@ -166,8 +166,8 @@ not-barred d bytes text now session came o is taken enough bars = by o bars
 -- What is accepted is done.
 
 judged : (d : ℕ) (bytes : List ℕ) (now : Option (List ℕ)) (session : Session) (came : List ℕ) (o : Outcome) → IsOpened d bytes session came
-    → ((text : List ℕ) × Consumes (Some bytes) now text × (length text ≤ install_limit) × IsReadEnough now text × Bars d o text) → IsDoneOrMemory o
-judged d bytes now session came o is (text, taken, short, enough, bars) = not-barred d bytes text now session came o is taken enough bars
+    → ((text : List ℕ) × Consumes (Some bytes) now text × ((length text ≤ install_limit) × IsReadEnough now text × Bars d o text)) → IsDoneOrMemory o
+judged d bytes now session came o is (text, taken, (short, enough, bars)) = not-barred d bytes text now session came o is taken enough bars
 
 -- no more is read than there is
 not-long : (bytes : List ℕ) (now : Option (List ℕ)) → length bytes ≤ install_limit
@@ -187,7 +187,7 @@ spoken d bytes now before after reads read writes written no_read no_write o ans
     by Memory answer read_faults write_faults = tt
     by ReadFault answer read_faults write_faults = no_read read_faults
     by WriteFault answer read_faults write_faults = no_write write_faults
-    by TooLong answer read_faults write_faults = not-long bytes now fits answer.0 answer.1 answer.2
+    by TooLong answer read_faults write_faults = not-long bytes now fits answer.0 answer.1 answer.2.0
     by (Speaking t) answer read_faults write_faults = not-stopped d bytes t (streams (Some bytes) now before after) session came refl is installed answer
     by (Syntax at) answer read_faults write_faults = judged d bytes now session came (Syntax at) is answer
     by (Damaged at) answer read_faults write_faults = judged d bytes now session came (Damaged at) is answer

@@ -63,15 +63,15 @@ pub read-fails : (datapath : ℕ) (left mid now before after : Option (List ℕ)
     → IsUnderWay datapath (streams left mid before after) speaker text → Keeps mid now → length text ≤ install_limit
     → IsSpeakAnswer datapath ReadFault (streams left now before after)
 read-fails datapath left mid now before after speaker text is kept short =
-    (text, Consumes-kept left mid now text is.read kept, short, inr (is.session, is.came, is.opened, still-going datapath _ speaker text is, is.put))
+    (text, Consumes-kept left mid now text is.read kept, (short, inr (is.session, is.came, is.opened, still-going datapath _ speaker text is, is.put)))
 
 -- more bytes than may be read
 pub too-long : (datapath : ℕ) (left mid now before after : Option (List ℕ)) (speaker : State) (text piece : List ℕ)
     → IsUnderWay datapath (streams left mid before after) speaker text → Consumes mid now piece → length text ≤ install_limit
     → install_limit < length text + length piece → length piece ≤ piece_size → IsSpeakAnswer datapath TooLong (streams left now before after)
 too-long datapath left mid now before after speaker text piece is read short more room =
-    (text ++ piece, Consumes-trans left mid now text piece is.read read, omega (arith, more, length-append text piece),
-    (text, piece, refl, room, short, inr (is.session, is.came, is.opened, still-going datapath _ speaker text is, is.put)))
+    (text ++ piece, Consumes-trans left mid now text piece is.read read, (omega (arith, more, length-append text piece),
+    (text, piece, refl, room, (short, inr (is.session, is.came, is.opened, still-going datapath _ speaker text is, is.put)))))
 
 -- the end of input
 pub ends : (datapath : ℕ) (left mid now before after : Option (List ℕ)) (speaker : State) (text : List ℕ)
@@ -87,10 +87,10 @@ ends datapath left mid now before after speaker text is read end short = by spea
 
     stopped : (t : Talk) → speaker.talk ≡ t → (t ≢ Installed) → IsSpeakAnswer datapath (Speaking t) (streams left now before after)
     stopped t e other =
-        (text, all, short, is.session, is.came, is.opened, inl (end, still-going datapath _ speaker text is), sym e ∙ talk, other, is.put)
+        (text, all, (short, is.session, is.came, is.opened, (inl (end, still-going datapath _ speaker text is), sym e ∙ talk, other, is.put)))
 
     by : (t : Talk) → speaker.talk ≡ t → IsSpeakAnswer datapath (end_outcome t) (streams left now before after)
-    by Installed e = (text, all, short, is.session, is.came, is.opened, end, sym talk ∙ e, is.put)
+    by Installed e = (text, all, (short, is.session, is.came, is.opened, (end, sym talk ∙ e, is.put)))
     by Greeting e = stopped Greeting e (λ same. cc)
     by Asking e = stopped Asking e (λ same. cc)
     by Installing e = stopped Installing e (λ same. cc)
@@ -100,7 +100,7 @@ ends datapath left mid now before after speaker text is read end short = by spea
 pub no-memory : (datapath : ℕ) (left now before after : Option (List ℕ)) (speaker : State) (text : List ℕ)
     → IsUnderWay datapath (streams left now before after) speaker text → length text ≤ install_limit → IsSpeakAnswer datapath Memory (streams left now before after)
 no-memory datapath left now before after speaker text is short =
-    inr (text, is.read, short, is.session, is.came, is.opened, record {
+    inr (text, is.read, (short, is.session, is.came, is.opened, record {
       before = is.came;
       last = [];
       count = length (said is.session is.came);
@@ -108,7 +108,7 @@ no-memory datapath left now before after speaker text is short =
       short = omega arith;
       put = subst (Appends before after) (sym (take_all _ (said is.session is.came) (omega arith))) is.put;
       answered = inr (omega arith);
-    })
+    }))
 
 -- a part of the answer to the last piece
 part : (session : Session) (came piece : List ℕ) (left now before middle after : Option (List ℕ)) (n : ℕ) → length piece ≤ piece_size → Appends before middle (said session came)
@@ -151,8 +151,8 @@ turn-ends datapath left mid now before middle after speaker text piece o is read
 
     cut : (n : ℕ) → Appends middle after (take n (sends speaker piece)) → Hears datapath (streams left now before after) (SaysPart (streams left now before after))
     cut n put =
-        (text ++ piece, all, short, is.session, is.came ++ piece, opened-now,
-        part is.session is.came piece left now before middle after n room is.put (subst (λ (s : State). Appends middle after (take n (sends s piece))) is.state put))
+        (text ++ piece, all, (short, is.session, is.came ++ piece, opened-now,
+        part is.session is.came piece left now before middle after n room is.put (subst (λ (s : State). Appends middle after (take n (sends s piece))) is.state put)))
 
     by : (o : Outcome) → IsTurnEnd (heard speaker piece).state.talk (sends speaker piece) o middle after → IsSpeakAnswer datapath o (streams left now before after)
     by WriteFault (n, put) = cut n put
@@ -160,11 +160,11 @@ turn-ends datapath left mid now before middle after speaker text piece o is read
     by (Speaking t) (is-talk, failed, put) =
         let talk : t ≡ talk_after is.session (is.came ++ piece) =
         is-talk ∙ ap (λ (s : State). (heard s piece).state.talk) is.state ∙ ap (λ (s : State). s.talk) (sym (state-append is.session is.came piece)) in
-        (text ++ piece, all, short, is.session, is.came ++ piece, opened-now,
-        inr (subst (λ (u : Talk). has_failed u ≡ true) talk failed, (is.came, piece, refl, room, still-going datapath _ speaker text is)),
+        (text ++ piece, all, (short, is.session, is.came ++ piece, opened-now,
+        (inr (subst (λ (u : Talk). has_failed u ≡ true) talk failed, (is.came, piece, refl, room, still-going datapath _ speaker text is)),
         talk, installed-goes t failed,
         subst (Appends before after) (sym (said-append is.session is.came piece))
-            (Appends-trans before middle after _ _ is.put (subst (λ (s : State). Appends middle after (sends s piece)) is.state put)))
+            (Appends-trans before middle after _ _ is.put (subst (λ (s : State). Appends middle after (sends s piece)) is.state put)))))
     by Done end = absurd end
     by Words end = absurd end
     by ReadFault end = absurd end
@@ -274,13 +274,13 @@ start-ends datapath left now before after text session came o read short enough 
 
     cut : (n : ℕ) → Appends before after (take n (said session came)) → Hears datapath (streams left now before after) (SaysPart (streams left now before after))
     cut n put =
-        (text, read, short, session, came, is, record { before = []; last = came; count = n; pieces = refl; short = room; put = put; answered = inl refl })
+        (text, read, (short, session, came, is, record { before = []; last = came; count = n; pieces = refl; short = room; put = put; answered = inl refl }))
 
     by : (o : Outcome) → IsTurnEnd (talk_after session came) (said session came) o before after → IsSpeakAnswer datapath o (streams left now before after)
     by WriteFault (n, put) = cut n put
     by Memory (n, put) = inr (cut n put)
     by (Speaking t) (talk, failed, put) =
-        (text, read, short, session, came, is, inr (subst (λ (u : Talk). has_failed u ≡ true) talk failed, ([], came, refl, room, refl)), talk, installed-goes t failed, put)
+        (text, read, (short, session, came, is, (inr (subst (λ (u : Talk). has_failed u ≡ true) talk failed, ([], came, refl, room, refl)), talk, installed-goes t failed, put)))
     by Done end = absurd end
     by Words end = absurd end
     by ReadFault end = absurd end
@@ -304,11 +304,11 @@ pub start-bars : (datapath : ℕ) (left now before : Option (List ℕ)) (text : 
 start-bars datapath left now before text o read short enough bars = by o bars
   where
     by : (o : Outcome) → Bars datapath o text → IsSpeakAnswer datapath o (streams left now before before)
-    by Memory bars = inl (text, read, omega (arith, short), Appends-nil before)
-    by (Syntax at) bars = (text, read, short, enough, bars)
-    by (Damaged at) bars = (text, read, short, enough, bars)
-    by NoSwitch bars = (text, read, short, enough, bars)
-    by NoBarrier bars = (text, read, short, enough, bars)
+    by Memory bars = inl (text, read, (omega (arith, short), Appends-nil before))
+    by (Syntax at) bars = (text, read, (short, enough, bars))
+    by (Damaged at) bars = (text, read, (short, enough, bars))
+    by NoSwitch bars = (text, read, (short, enough, bars))
+    by NoBarrier bars = (text, read, (short, enough, bars))
     by Done bars = absurd bars
     by Words bars = absurd bars
     by ReadFault bars = absurd bars
@@ -327,7 +327,7 @@ start-bars datapath left now before text o read short enough bars = by o bars
 -- an input that wasn't read as far as its install
 pub unread-stops : (datapath : ℕ) (left now before : Option (List ℕ)) (text : List ℕ) (u : Unread)
     → Consumes left now text → IsUnread u text → IsSpeakAnswer datapath (unread_outcome u) (streams left now before before)
-unread-stops datapath left now before text unread.Failed read (short, needs) = (text, read, short, inl (needs, Appends-nil before))
+unread-stops datapath left now before text unread.Failed read (short, needs) = (text, read, (short, inl (needs, Appends-nil before)))
 unread-stops datapath left now before text unread.TooLong read (long, (front, last, is, room, (short, needs))) =
-    (text, read, long, (front, last, is, room, (short, inl (needs, Appends-nil before))))
-unread-stops datapath left now before text unread.Memory read short = inl (text, read, short, Appends-nil before)
+    (text, read, (long, (front, last, is, room, (short, inl (needs, Appends-nil before)))))
+unread-stops datapath left now before text unread.Memory read short = inl (text, read, (short, Appends-nil before))

@@ -1,4 +1,4 @@
-use Rattle.std.proofs.Common.{◌≡◌, ◌∙◌, ◌-◌, ◌≤◌, ℕ, List, ap, drop, length, subst, sym, take}
+use Rattle.std.proofs.Common.{arith, ◌≡◌, ◌∙◌, ◌-◌, ℕ, List, ap, drop, length, subst, sym, take}
 use Rattle.std.proofs.lemmas.List.{take_rest}
 use Rattle.pq_command.specs.Speaks.{Bars, IsOpened, IsTurnEnd, said, session_of, talk_after}
 use Rattle.pq_command.proofs.Turns.{begun, start-bars, start-ends, unread-stops}
@@ -27,8 +27,8 @@ returns-in-Ok-greet-clause-under_way g c =
     (c.in-Ok.text.items,
     begun c.args.datapath _ _ (g.K.Sink.put c.args.sink.now) (g.K.Sink.put c.greet.new.sink) c.in-Ok.text.items _ at messages c.in-Ok-greet.speaker ok.1
         opened first c.in-Ok-greet.ensures.state c.in-Ok-greet.ensures.put c.in-Ok-greet.ensures.going,
-    sym c.len.ensures,
-    subst (λ (n : ℕ). n ≤ 268435456) (sym c.len.ensures) ok.0)
+    omega (arith, c.in-Ok.text.ok, c.len.ensures),
+    omega (arith, c.in-Ok.text.ok, c.len.ensures, ok.0))
 
 pub returns-clause-err : goal.returns-clause-err
 returns-clause-err g c =
