@@ -1,4 +1,4 @@
-//! Tests of single calls below the commands: diagrams, matches, messages, switches, speakers and streams.
+//! Tests of single calls below the commands: diagrams, matches, messages, switches and streams.
 #![tactic(auto)]
 
 #[cfg(test)]
@@ -11,8 +11,6 @@ mod messages;
 mod policies;
 #[cfg(test)]
 mod rewriting;
-#[cfg(test)]
-mod speakers;
 #[cfg(test)]
 mod streams;
 #[cfg(test)]

@@ -10,6 +10,8 @@ mod replays;
 #[cfg(test)]
 mod rows;
 #[cfg(test)]
+mod speaking;
+#[cfg(test)]
 mod summaries;
 #[cfg(test)]
 mod two_tables;

@@ -10,11 +10,13 @@ use Rattle.pq_install.specs.declared.fault.InstallFault.TheVariants as install
 use Rattle.pq_replay.specs.declared.fault.ReplayFault.TheVariants as replay
 use Rattle.pq_replay.proofs.Replayable.{not_damaged, no_syntax_fault, not_too_many}
 use Rattle.pq_command.specs.declared.words.Command.{Command}
-use Rattle.pq_command.specs.declared.words.Command.TheVariants.{Compile, Replay, Inspect, Summary, SummaryOf, Generate}
+use Rattle.pq_command.specs.declared.words.Command.TheVariants.{Compile, Replay, Inspect, Summary, SummaryOf, Generate, Speak}
 use Rattle.pq_command.specs.declared.outcome.Outcome.{Outcome}
-use Rattle.pq_command.specs.declared.outcome.Outcome.TheVariants.{Done, Words, ReadFault, TooLong, Lex, Syntax, Name, ValuesFull, InstancesFull, TagWidth, TableFull, GroupFull, Damaged, ScheduleFull, WriteFault, Memory}
+use Rattle.pq_command.specs.declared.outcome.Outcome.TheVariants.{Done, Words, ReadFault, TooLong, Lex, Syntax, Name, ValuesFull, InstancesFull, TagWidth, TableFull, GroupFull, Damaged, NoSwitch, NoBarrier, Speaking, ScheduleFull, WriteFault, Memory}
 use Rattle.pq_command.specs.Answers.{Completes, HasNoFault, HasReadFaults, HasWriteFaults, IsAnswer, IsAnswerOn, IsDoneOrMemory, ReadsMore, ReadsWhole, StopsReading, Streams, Task, streams}
-use Rattle.pq_command.specs.Tasks.{CompletesAs, IsAnswerTo, compile_outcome, compile_task, document_outcome, given_to, inspect_task, replay_task, task_of}
+use Rattle.pq_generate.specs.Generated.{generated_text}
+use Rattle.pq_command.specs.Tasks.{CompletesAs, IsAnswerTo, compile_outcome, compile_task, document_outcome, generate_task, inspect_task, replay_task, summary_task}
+use Rattle.pq_command.proofs.SpeakCompletes.{spoken}
 
 -- known bytes that were read to their end are what was read
 whole_text : (bytes text : List ℕ) (now : Option (List ℕ)) → Consumes (Some bytes) now text → IsAtEnd now → bytes ≡ text
@@ -58,6 +60,9 @@ on_done task s text writes written completes accepted none (TagWidth n) answer f
 on_done task s text writes written completes accepted none (TableFull d t n) answer faults = completes (TableFull d t n) text accepted answer
 on_done task s text writes written completes accepted none (GroupFull d n) answer faults = completes (GroupFull d n) text accepted answer
 on_done task s text writes written completes accepted none (Damaged at) answer faults = completes (Damaged at) text accepted answer
+on_done task s text writes written completes accepted none NoSwitch answer faults = completes NoSwitch text accepted answer
+on_done task s text writes written completes accepted none NoBarrier answer faults = completes NoBarrier text accepted answer
+on_done task s text writes written completes accepted none (Speaking t) answer faults = completes (Speaking t) text accepted answer
 on_done task s text writes written completes accepted none ScheduleFull answer faults = completes ScheduleFull text accepted answer
 
 -- where no read failed and there isn't more to read, reading stops for want of memory alone
@@ -78,6 +83,9 @@ stopped task s reads read no_more none (TagWidth n) stops faults = absurd stops
 stopped task s reads read no_more none (TableFull d t n) stops faults = absurd stops
 stopped task s reads read no_more none (GroupFull d n) stops faults = absurd stops
 stopped task s reads read no_more none (Damaged at) stops faults = absurd stops
+stopped task s reads read no_more none NoSwitch stops faults = absurd stops
+stopped task s reads read no_more none NoBarrier stops faults = absurd stops
+stopped task s reads read no_more none (Speaking t) stops faults = absurd stops
 stopped task s reads read no_more none ScheduleFull stops faults = absurd stops
 
 -- and so the command is done, where no read and no write failed
@@ -114,18 +122,31 @@ inspect_completes : Completing inspect_task
 inspect_completes o text accepted (install.Damaged at, is, fault) = absurd (not_spoiled text at accepted fault)
 inspect_completes o text accepted (install.Memory, is, fault) = memory o is
 
-completing : (command : Command) → Completing (task_of command)
-completing Compile = document_completes
-completing Replay = replay_completes
-completing Inspect = inspect_completes
-completing Summary = document_completes
-completing (SummaryOf n) = document_completes
-completing (Generate n) = λ o text accepted refused. absurd refused
+-- so a command is done, where no read and no write failed
+finished : (command : Command) (left now before after : Option (List ℕ)) (reads read writes written : ℕ)
+    → HasNoFault reads read → HasNoFault writes written → (o : Outcome) → IsAnswerTo command o (streams left now before after)
+    → HasReadFaults o reads read → HasWriteFaults o writes written → CompletesAs command left o
+finished Compile left now before after reads read writes written no_read no_write o answer read_faults write_faults =
+    is_done compile_task None left now before after reads read writes written document_completes no_read no_write o answer read_faults write_faults
+finished Replay left now before after reads read writes written no_read no_write o answer read_faults write_faults =
+    is_done replay_task None left now before after reads read writes written replay_completes no_read no_write o answer read_faults write_faults
+finished Inspect left now before after reads read writes written no_read no_write o answer read_faults write_faults =
+    is_done inspect_task None left now before after reads read writes written inspect_completes no_read no_write o answer read_faults write_faults
+finished Summary left now before after reads read writes written no_read no_write o answer read_faults write_faults =
+    is_done summary_task None left now before after reads read writes written document_completes no_read no_write o answer read_faults write_faults
+finished (SummaryOf n) left now before after reads read writes written no_read no_write o answer read_faults write_faults =
+    is_done summary_task (Some (generated_text n)) left now before after reads read writes written document_completes no_read no_write o answer read_faults write_faults
+finished (Generate n) left now before after reads read writes written no_read no_write o answer read_faults write_faults =
+    is_done generate_task (Some (generated_text n)) left now before after reads read writes written (λ o text accepted refused. absurd refused)
+    no_read no_write o answer read_faults write_faults
+finished (Speak d) None now before after reads read writes written no_read no_write o answer read_faults write_faults = tt
+finished (Speak d) (Some bytes) now before after reads read writes written no_read no_write o answer read_faults write_faults =
+    spoken d bytes now before after reads read writes written no_read no_write o answer read_faults write_faults
 
--- a command that was asked for is done, where no read and no write failed
+-- a command that was asked for
 pub completed : (asked command : Command) → Some asked ≡ Some command → (left now before after : Option (List ℕ)) (reads read writes written : ℕ)
     → HasNoFault reads read → HasNoFault writes written → (o : Outcome) → IsAnswerTo asked o (streams left now before after)
     → HasReadFaults o reads read → HasWriteFaults o writes written → CompletesAs command left o
 completed asked command same left now before after reads read writes written no_read no_write o answer read_faults write_faults =
     subst (λ (k : Command). CompletesAs k left o) (same_Some asked command same)
-    (is_done (task_of asked) (given_to asked) left now before after reads read writes written (completing asked) no_read no_write o answer read_faults write_faults)
+    (finished asked left now before after reads read writes written no_read no_write o answer read_faults write_faults)

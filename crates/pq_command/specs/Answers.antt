@@ -4,7 +4,7 @@ use Rattle.std.specs.Io.KnownBytes.{Appends, Consumes, IsAtEnd}
 use Rattle.pq_io.specs.Faults.{Rose}
 use Rattle.pq_io.specs.Pieces.{AppendsPart}
 use Rattle.pq_command.specs.declared.outcome.Outcome.{Outcome}
-use Rattle.pq_command.specs.declared.outcome.Outcome.TheVariants.{Done, Words, ReadFault, TooLong, WriteFault, Memory}
+use Rattle.pq_command.specs.declared.outcome.Outcome.TheVariants.{Done, Words, ReadFault, TooLong, Speaking, WriteFault, Memory}
 use Rattle.pq_command.specs.Reading.{piece_size}
 
 -- the bytes that a source has left and a sink was put, before and after a command
@@ -85,11 +85,19 @@ abbrev pub HasWriteFaults : Outcome → ℕ → ℕ → Type 0
 HasWriteFaults WriteFault before now = Rose before now
 HasWriteFaults _ before now = now ≡ before
 
--- a fact for each outcome that leaves the sink as it was
+-- a fact for each outcome that leaves the sink as it was, where a command writes once, after all is read
 abbrev pub OnRefusal : Outcome → Type 0 → Type 0
 OnRefusal Done fact = Unit {0}
 OnRefusal WriteFault fact = Unit {0}
 OnRefusal _ fact = fact
+
+-- and where it reads and writes in turns
+abbrev pub OnRefusalInTurns : Outcome → Type 0 → Type 0
+OnRefusalInTurns ReadFault fact = Unit {0}
+OnRefusalInTurns TooLong fact = Unit {0}
+OnRefusalInTurns (Speaking talk) fact = Unit {0}
+OnRefusalInTurns Memory fact = Unit {0}
+OnRefusalInTurns outcome fact = OnRefusal outcome fact
 
 -- no fault came
 abbrev pub HasNoFault : ℕ → ℕ → Type 0

@@ -1,5 +1,6 @@
 pub mod Answers
 pub mod Outcomes
 pub mod Reading
+pub mod Speaks
 pub mod Tasks
 pub mod Words

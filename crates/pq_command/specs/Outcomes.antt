@@ -1,10 +1,14 @@
 -- What the program says of an outcome.
 use Rattle.std.specs.Prelude.{ℕ, List, [], ◌++◌, codes, decimal}
 use Rattle.pq_fields.specs.Names.{field_name}
+use Rattle.pq_speaker.specs.declared.talk.Talk.{Talk}
+use Rattle.pq_speaker.specs.declared.talk.Talk.TheVariants.{Greeting, Asking, Installing, Installed, Failed}
+use Rattle.pq_speaker.specs.declared.talk.Reason.{Reason}
+use Rattle.pq_speaker.specs.declared.talk.Reason.TheVariants.{BadVersion, BadLength, OtherSwitch, SwitchError}
 use Rattle.pq_topo.specs.declared.fault.NameKind.{NameKind}
 use Rattle.pq_topo.specs.declared.fault.NameKind.TheVariants.{Many, Doubled, BadValue, UnknownSwitch, UnknownPort, UnknownField, NotWritable, NotListed, UnknownPart, UnknownQuery}
 use Rattle.pq_command.specs.declared.outcome.Outcome.{Outcome}
-use Rattle.pq_command.specs.declared.outcome.Outcome.TheVariants.{Done, Words, ReadFault, TooLong, Lex, Syntax, Name, ValuesFull, InstancesFull, TagWidth, TableFull, GroupFull, Damaged, ScheduleFull, WriteFault, Memory}
+use Rattle.pq_command.specs.declared.outcome.Outcome.TheVariants.{Done, Words, ReadFault, TooLong, Lex, Syntax, Name, ValuesFull, InstancesFull, TagWidth, TableFull, GroupFull, Damaged, NoSwitch, NoBarrier, Speaking, ScheduleFull, WriteFault, Memory}
 
 -- the status of each outcome
 abbrev pub code_of : Outcome → ℕ
@@ -21,6 +25,9 @@ code_of (TagWidth classes) = 3
 code_of (TableFull switch table entries) = 3
 code_of (GroupFull switch copies) = 3
 code_of (Damaged at) = 1
+code_of NoSwitch = 1
+code_of NoBarrier = 1
+code_of (Speaking talk) = 3
 code_of ScheduleFull = 3
 code_of WriteFault = 5
 code_of Memory = 6
@@ -38,6 +45,21 @@ kind_word NotListed = codes "not_listed"
 kind_word UnknownPart = codes "unknown_part"
 kind_word UnknownQuery = codes "unknown_query"
 
+-- the line of each reason why a session failed
+abbrev pub reason_line : Reason → List ℕ
+reason_line (BadVersion version) = codes "bad version " ++ decimal version
+reason_line (BadLength length) = codes "bad length " ++ decimal length
+reason_line (OtherSwitch datapath) = codes "other switch " ++ decimal datapath
+reason_line (SwitchError kind code) = codes "switch error " ++ decimal kind ++ codes " " ++ decimal code
+
+-- the line of how far a session is
+abbrev pub talk_line : Talk → List ℕ
+talk_line Greeting = codes "greeting"
+talk_line Asking = codes "asking"
+talk_line Installing = codes "installing"
+talk_line Installed = codes "installed"
+talk_line (Failed reason) = reason_line reason
+
 -- the line of each outcome
 abbrev pub line_of : Outcome → List ℕ
 line_of Done = []
@@ -53,6 +75,9 @@ line_of (TagWidth classes) = codes "tag width " ++ decimal classes
 line_of (TableFull switch table entries) = codes "table full " ++ decimal switch ++ codes " " ++ decimal table ++ codes " " ++ decimal entries
 line_of (GroupFull switch copies) = codes "group full " ++ decimal switch ++ codes " " ++ decimal copies
 line_of (Damaged at) = codes "damaged " ++ decimal at
+line_of NoSwitch = codes "no switch"
+line_of NoBarrier = codes "no barrier"
+line_of (Speaking talk) = talk_line talk
 line_of ScheduleFull = codes "schedule full"
 line_of WriteFault = codes "write fault"
 line_of Memory = codes "memory"

@@ -4,6 +4,13 @@ use Rattle.pq_io.specs.Faults.{Rose}
 use Rattle.pq_command.specs.declared.reading.Unread.{Unread}
 use Rattle.pq_command.specs.declared.reading.Unread.TheVariants.{Failed, TooLong, Memory}
 
+-- the most bytes of a document, and of an install with what follows it
+abbrev pub document_limit : ℕ
+document_limit = 524288
+
+abbrev pub install_limit : ℕ
+install_limit = 268435456
+
 -- how many bytes are asked for at once
 abbrev pub piece_size : ℕ
 piece_size = 16384

@@ -1,5 +1,5 @@
 -- What each command does.
-use Rattle.std.specs.Prelude.{◌≡◌, ◌≤◌, ◌⊎◌, ℕ, List, length, Option, Some, None}
+use Rattle.std.specs.Prelude.{◌≡◌, ◌≤◌, ◌⊎◌, ℕ, List, length, Option, Some, None, IfSome}
 use Rattle.pq_model.specs.Classes.{HasClasses}
 use Rattle.pq_model.specs.Install.{Install, IsSpelled}
 use Rattle.pq_compile.specs.declared.compiling.CompileFault.{CompileFault}
@@ -20,17 +20,14 @@ use Rattle.pq_replay.specs.declared.fault.ReplayFault.{ReplayFault}
 use Rattle.pq_replay.specs.declared.fault.ReplayFault.TheVariants as replay
 use Rattle.pq_replay.specs.Replay.{IsReplay, IsReplayFault, IsReplayable}
 use Rattle.pq_command.specs.declared.words.Command.{Command}
-use Rattle.pq_command.specs.declared.words.Command.TheVariants.{Compile, Replay, Inspect, Summary, SummaryOf, Generate}
+use Rattle.pq_command.specs.declared.words.Command.TheVariants.{Compile, Replay, Inspect, Summary, SummaryOf, Generate, Speak}
 use Rattle.pq_command.specs.declared.outcome.Outcome.{Outcome}
 use Rattle.pq_command.specs.declared.outcome.Outcome.TheVariants.{Lex, Syntax, Name, ValuesFull, InstancesFull, TagWidth, TableFull, GroupFull, Damaged, ScheduleFull, Memory}
-use Rattle.pq_command.specs.Answers.{Completes, IsAnswer, Streams, Task}
-
--- the most bytes of a document, and of an install with what follows it
-abbrev pub document_limit : ℕ
-document_limit = 524288
-
-abbrev pub install_limit : ℕ
-install_limit = 268435456
+use Rattle.pq_command.specs.declared.answer.Output.{Output}
+use Rattle.pq_command.specs.declared.answer.Output.TheVariants as output
+use Rattle.pq_command.specs.Answers.{Completes, IsAnswer, IsDoneOrMemory, OnRefusal, OnRefusalInTurns, Streams, Task}
+use Rattle.pq_command.specs.Reading.{document_limit, install_limit}
+use Rattle.pq_command.specs.Speaks.{IsSpeakAnswer, IsSpokenThrough}
 
 -- Compile.
 
@@ -110,7 +107,7 @@ IsSummarized d written =
 abbrev pub IsSummaryOf : List ℕ → List ℕ → Type 0
 IsSummaryOf text written = (d : DocumentTree) × Spells text d × IsSummarized d written
 
--- Commands.
+-- What is written of whole texts.
 
 abbrev pub compile_task : Task
 compile_task = record { limit = document_limit; Accepts = IsWithinDocument; Writes = IsInstallOf; Refuses = HasNoInstall }
@@ -139,19 +136,14 @@ summary_task = record { limit = document_limit; Accepts = IsWithinDocument; Writ
 abbrev pub generate_task : Task
 generate_task = record { limit = document_limit; Accepts = λ text. Unit {0}; Writes = λ text written. written ≡ text; Refuses = λ outcome text. ⊥ }
 
-abbrev pub task_of : Command → Task
-task_of Compile = compile_task
-task_of Replay = replay_task
-task_of Inspect = inspect_task
-task_of Summary = summary_task
-task_of (SummaryOf n) = summary_task
-task_of (Generate n) = generate_task
+abbrev pub task_of : Output → Task
+task_of output.Install = compile_task
+task_of output.State = replay_task
+task_of output.Inspection = inspect_task
+task_of output.Summary = summary_task
+task_of output.Text = generate_task
 
--- the text that a command works on in place of its input
-abbrev pub given_to : Command → Option (List ℕ)
-given_to (SummaryOf n) = Some (generated_text n)
-given_to (Generate n) = Some (generated_text n)
-given_to command = None
+-- Commands.
 
 -- a fact for each command that reads nothing; words that name none read nothing either
 abbrev pub OnUnread : Option Command → Type 0 → Type 0
@@ -168,8 +160,25 @@ HasSize command = Unit {0}
 
 -- what the outcome of a command says
 abbrev pub IsAnswerTo : Command → Outcome → Streams → Type 0
-IsAnswerTo command outcome s = IsAnswer (task_of command) (given_to command) outcome s
+IsAnswerTo Compile outcome s = IsAnswer compile_task None outcome s
+IsAnswerTo Replay outcome s = IsAnswer replay_task None outcome s
+IsAnswerTo Inspect outcome s = IsAnswer inspect_task None outcome s
+IsAnswerTo Summary outcome s = IsAnswer summary_task None outcome s
+IsAnswerTo (SummaryOf n) outcome s = IsAnswer summary_task (Some (generated_text n)) outcome s
+IsAnswerTo (Generate n) outcome s = IsAnswer generate_task (Some (generated_text n)) outcome s
+IsAnswerTo (Speak datapath) outcome s = IsSpeakAnswer datapath outcome s
+
+-- a fact for each outcome that leaves the sink as it was; words that name no command do
+abbrev pub OnRefusalTo : Option Command → Outcome → Type 0 → Type 0
+OnRefusalTo (Some (Speak datapath)) outcome fact = OnRefusalInTurns outcome fact
+OnRefusalTo command outcome fact = OnRefusal outcome fact
 
 -- the command is done, or memory ran out, where it accepts its text
 abbrev pub CompletesAs : Command → Option (List ℕ) → Outcome → Type 0
-CompletesAs command left outcome = Completes (task_of command) (given_to command) left outcome
+CompletesAs Compile left outcome = Completes compile_task None left outcome
+CompletesAs Replay left outcome = Completes replay_task None left outcome
+CompletesAs Inspect left outcome = Completes inspect_task None left outcome
+CompletesAs Summary left outcome = Completes summary_task None left outcome
+CompletesAs (SummaryOf n) left outcome = Completes summary_task (Some (generated_text n)) left outcome
+CompletesAs (Generate n) left outcome = Completes generate_task (Some (generated_text n)) left outcome
+CompletesAs (Speak datapath) left outcome = IfSome left (λ bytes. length bytes ≤ install_limit → IsSpokenThrough datapath bytes → IsDoneOrMemory outcome)

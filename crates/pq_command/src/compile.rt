@@ -5,7 +5,8 @@ ghost use Rattle.pq_compile.specs.Prepared.{HasFewInstances, IsCompilable, langu
 ghost use Rattle.pq_model.specs.Classes.{HasClasses};
 ghost use Rattle.pq_model.specs.Install.{IsLawfulInstall, spelling};
 ghost use Rattle.pq_command.specs.Answers.{IsOfText};
-ghost use Rattle.pq_command.specs.Tasks.{HasNoInstall, IsInstallOf, IsLimitFault, IsTextFault, IsWrittenFor, compile_outcome, document_limit};
+ghost use Rattle.pq_command.specs.Reading.{document_limit};
+ghost use Rattle.pq_command.specs.Tasks.{HasNoInstall, IsInstallOf, IsLimitFault, IsTextFault, IsWrittenFor, compile_outcome};
 
 use crate::outcome::Outcome;
 use pq_compile::{

@@ -1,9 +1,10 @@
-ghost use Rattle.std.specs.Prelude.{◌≡◌, IfOk};
+ghost use Rattle.std.specs.Prelude.{◌≡◌, ◌++◌, IfOk, codes, decimal};
 ghost use Rattle.std.specs.String.{string_bytes};
 ghost use Rattle.pq_fields.specs.Names.{field_name};
-ghost use Rattle.pq_command.specs.Outcomes.{code_of, kind_word, line_of};
+ghost use Rattle.pq_command.specs.Outcomes.{code_of, kind_word, line_of, reason_line, talk_line};
 
 use pq_fields::Field;
+use pq_speaker::{Reason, Talk};
 use pq_topo::NameKind;
 use std::alloc::{AllocError, Global};
 use std::fmt::Write;
@@ -25,7 +26,7 @@ pub enum Outcome {
     },
     /// The tokens of a document are no sentence: the first one with which no prefix of a sentence ends begins at this
     /// byte, or the document ends here and all of them are a prefix of a sentence. Or a line of a schedule is no event;
-    /// its first byte is at this place of the input.
+    /// its first byte is at this place of the input. Or the first line of what `speak` reads is no length.
     Syntax {
         at: usize,
     },
@@ -59,9 +60,18 @@ pub enum Outcome {
         switch: u64,
         copies: u64,
     },
-    /// The input begins with no install; the first unit that is missing, cut or unlawful begins at this place.
+    /// The input begins with no install; the first unit that is missing, cut or unlawful begins at this place. Or an install
+    /// that ends here has another length than it is to have.
     Damaged {
         at: usize,
+    },
+    /// The install has no switch with the datapath number that was asked for.
+    NoSwitch,
+    /// The last message to the switch is no barrier whose xid no other message to it has.
+    NoBarrier,
+    /// The session with the switch ended before all was installed, and this is how far it was.
+    Speaking {
+        talk: Talk,
     },
     /// The schedule has more than 100,000 events.
     ScheduleFull,
@@ -153,6 +163,42 @@ fn group_line(alloc: Global, switch: u64, copies: u64) -> Result<String, AllocEr
     Ok(line)
 }
 
+/// What the program says of two numbers.
+fn pair_line(alloc: Global, what: &str, first: u16, second: u16) -> Result<String, AllocError>
+    ensures { IfOk result (λ line. string_bytes line ≡ what.now ++ decimal first ++ codes " " ++ decimal second) }
+{
+    let mut line = String::from_str(alloc, what)?;
+    write!(line, "{first}")?;
+    line.push_str(" ")?;
+    write!(line, "{second}")?;
+    Ok(line)
+}
+
+/// What the program says of the reason why a session failed.
+fn reason_line(alloc: Global, reason: Reason) -> Result<String, AllocError>
+    ensures { IfOk result (λ line. string_bytes line ≡ reason_line reason) }
+{
+    match reason {
+        Reason::BadVersion { version } => format!(in alloc; "bad version {version}"),
+        Reason::BadLength { length } => format!(in alloc; "bad length {length}"),
+        Reason::OtherSwitch { datapath } => format!(in alloc; "other switch {datapath}"),
+        Reason::SwitchError { kind, code } => pair_line(alloc, "switch error ", kind, code),
+    }
+}
+
+/// What the program says of how far a session is.
+fn talk_line(alloc: Global, talk: Talk) -> Result<String, AllocError>
+    ensures { IfOk result (λ line. string_bytes line ≡ talk_line talk) }
+{
+    match talk {
+        Talk::Greeting => String::from_str(alloc, "greeting"),
+        Talk::Asking => String::from_str(alloc, "asking"),
+        Talk::Installing => String::from_str(alloc, "installing"),
+        Talk::Installed => String::from_str(alloc, "installed"),
+        Talk::Failed(reason) => reason_line(alloc, reason),
+    }
+}
+
 impl Outcome {
     /// The status that the program ends with.
     pub fn code(&self) -> u8
@@ -161,11 +207,12 @@ impl Outcome {
         match self {
             Outcome::Done => 0,
             Outcome::TooLong | Outcome::Damaged { .. } => 1,
+            Outcome::NoSwitch | Outcome::NoBarrier => 1,
             Outcome::Lex { .. } | Outcome::Syntax { .. } | Outcome::Name { .. } => 1,
             Outcome::Words => 2,
             Outcome::ValuesFull { .. } | Outcome::InstancesFull { .. } => 3,
             Outcome::TagWidth { .. } | Outcome::TableFull { .. } => 3,
-            Outcome::GroupFull { .. } | Outcome::ScheduleFull => 3,
+            Outcome::GroupFull { .. } | Outcome::Speaking { .. } | Outcome::ScheduleFull => 3,
             Outcome::ReadFault => 4,
             Outcome::WriteFault => 5,
             Outcome::Memory => 6,
@@ -194,6 +241,9 @@ impl Outcome {
             } => table_line(alloc, *switch, *table, *entries),
             Outcome::GroupFull { switch, copies } => group_line(alloc, *switch, *copies),
             Outcome::Damaged { at } => format!(in alloc; "damaged {at}"),
+            Outcome::NoSwitch => String::from_str(alloc, "no switch"),
+            Outcome::NoBarrier => String::from_str(alloc, "no barrier"),
+            Outcome::Speaking { talk } => talk_line(alloc, *talk),
             Outcome::ScheduleFull => String::from_str(alloc, "schedule full"),
             Outcome::WriteFault => String::from_str(alloc, "write fault"),
             Outcome::Memory => String::from_str(alloc, "memory"),

@@ -5,8 +5,14 @@ ghost use Rattle.pq_command.specs.Reading.{HasReadCause, IsLength};
 use pq_io::Source;
 use std::alloc::{AllocError, Global};
 
+/// The most bytes that a document has.
+pub(crate) const DOCUMENT_LIMIT: usize = 524_288;
+
+/// The most bytes of an install with what follows it.
+pub(crate) const INSTALL_LIMIT: usize = 268_435_456;
+
 /// How many bytes are asked for at once.
-const PIECE: usize = 16_384;
+pub(crate) const PIECE: usize = 16_384;
 
 /// Why an input was not read to its end.
 #[derive(Clone, Copy, Debug, PartialEq, Eq)]
@@ -19,7 +25,8 @@ pub enum Unread {
     Memory,
 }
 
-fn zeros(alloc: Global, len: usize) -> Result<Vec<u8>, AllocError>
+/// So many bytes.
+pub(crate) fn zeros(alloc: Global, len: usize) -> Result<Vec<u8>, AllocError>
     ensures { IfOk result (λ bytes. vec_len bytes ≡ len) }
 {
     vec![in alloc; 0u8; len]

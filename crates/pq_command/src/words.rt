@@ -1,7 +1,8 @@
-ghost use Rattle.std.specs.Prelude.{◌≡◌, ◌≤◌, IfSome, map};
+ghost use Rattle.std.specs.Prelude.{◌≡◌, ◌-◌, ◌^◌, ◌≤◌, IfSome, map};
+ghost use Rattle.pq_term.specs.Numbers.{decimal_of};
 ghost use Rattle.std.specs.String.{string_bytes};
 ghost use Rattle.pq_command.specs.Tasks.{HasSize};
-ghost use Rattle.pq_command.specs.Words.{command_named, command_of, command_on, size_of};
+ghost use Rattle.pq_command.specs.Words.{command_for, command_named, command_of, command_on, command_with, size_of};
 
 use pq_term::decimal_value;
 
@@ -20,6 +21,8 @@ pub enum Command {
     SummaryOf { number: u32 },
     /// Write the generated document of so many switches.
     Generate { number: u32 },
+    /// Install in the switch with this datapath number, over its control connection.
+    Speak { datapath: u64 },
 }
 
 /// A number of switches: a decimal number from 2 to 64 without leading zeros.
@@ -69,6 +72,26 @@ impl Command {
         None
     }
 
+    fn to_speak(datapath: &[u8]) -> Option<Command>
+        ensures value { result ≡ command_for (decimal_of (2 ^ 64 - 1) datapath.now) }
+        ensures sized { IfSome result HasSize }
+    {
+        match decimal_value(u64::MAX, datapath) {
+            Some(datapath) => Some(Command::Speak { datapath }),
+            None => None,
+        }
+    }
+
+    fn of_two_words(word: &[u8], number: &[u8]) -> Option<Command>
+        ensures value { result ≡ command_with word.now number.now }
+        ensures sized { IfSome result HasSize }
+    {
+        if word == b"speak".as_slice() {
+            return Command::to_speak(number);
+        }
+        Command::of_word_and_number(word, number)
+    }
+
     /// The command that the words after the program's name ask for, if they have the form of one.
     pub fn of_words(words: &[String]) -> Option<Command>
         ensures value { result ≡ command_of (map string_bytes words.now) }
@@ -76,7 +99,7 @@ impl Command {
     {
         match words {
             [word] => Command::of_word(word.as_bytes()),
-            [word, number] => Command::of_word_and_number(word.as_bytes(), number.as_bytes()),
+            [word, number] => Command::of_two_words(word.as_bytes(), number.as_bytes()),
             _ => None,
         }
     }

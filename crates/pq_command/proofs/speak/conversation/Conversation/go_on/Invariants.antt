@@ -1,0 +1,18 @@
+use Rattle.std.proofs.Common.{◌≡◌, ◌≤◌, ℕ, List, Option, length}
+use Rattle.pq_command.specs.Answers.{streams}
+use Rattle.pq_command.specs.Reading.{install_limit, piece_size}
+use Rattle.pq_command.specs.Speaks.{IsUnderWay}
+use Rattle.pq_command.proofs.speak.conversation.Conversation.go_on.Given as goal
+
+-- whatever was read before this call, the session is under way, with as many bytes as were read
+abbrev pub invariant-loop-turn : goal.invariant-loop-turn
+invariant-loop-turn g l = record {
+  under_way : (datapath : ℕ) (left before : Option (List ℕ)) (text : List ℕ)
+      → IsUnderWay datapath (streams left (g.S.Source.left l.initial.source) before (g.K.Sink.put l.initial.sink)) l.self.speaker text → length text ≡ l.self.read
+      → (now : List ℕ) × IsUnderWay datapath (streams left (g.S.Source.left l.source) before (g.K.Sink.put l.sink)) l.speaker now × (length now ≡ l.read);
+  reads : g.S.Source.faults l.source ≡ g.S.Source.faults l.initial.source;
+  writes : g.K.Sink.faults l.sink ≡ g.K.Sink.faults l.initial.sink;
+  turns : l.turn ≤ l.read;
+  room : length l.piece.items ≡ piece_size;
+  short : l.read ≤ install_limit;
+}
