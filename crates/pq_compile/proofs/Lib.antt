@@ -11,4 +11,4 @@ pub mod Statements
 pub mod Values
 pub mod Labelled
 pub mod Joined
-pub mod Installed
+pub mod InstallLemmas

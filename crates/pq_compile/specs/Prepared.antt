@@ -3,6 +3,10 @@ use Rattle.std.specs.Prelude.{◌≡◌, ◌<◌, ◌≤◌, ◌^◌, ℕ, List,
 use Rattle.std.specs.declared.option.Option.{Option}
 use Rattle.std.specs.declared.option.Option.TheVariants.{None}
 use Rattle.pq_fields.specs.declared.field.Field.{Field}
+use Rattle.pq_fields.specs.Writes.{Written}
+use Rattle.pq_auto.specs.Machine.{Machine}
+use Rattle.pq_letters.specs.Letters.{LettersValue}
+use Rattle.pq_model.specs.Buckets.{Instance}
 use Rattle.pq_model.specs.Classes.{HasClasses, Languages}
 use Rattle.pq_policy.specs.Policy.{PolicyTree}
 use Rattle.pq_query.specs.Atoms.{query_atoms}
@@ -18,10 +22,13 @@ use Rattle.pq_values.specs.Stated.{stated}
 use Rattle.pq_compile.specs.Documents.{DocumentTree}
 use Rattle.pq_compile.specs.Lawful.{IsLawfulDocument}
 use Rattle.pq_store.specs.Store.{HasAt}
+use Rattle.pq_store.specs.Tree.{Tree}
 use Rattle.pq_emit.specs.Network.{AreTreesAt}
 use Rattle.pq_emit.specs.Switches.{IsSoundAt}
 use Rattle.pq_meaning.specs.Parts.{IsUnionOfParts}
+use Rattle.pq_compile.specs.declared.preparing.NetworkTrees.{NetworkTrees}
 use Rattle.pq_compile.specs.declared.preparing.Prepared.{Prepared}
+use Rattle.pq_compile.specs.declared.preparing.TreeSources.{TreeSources}
 use Rattle.pq_compile.specs.declared.preparing.PrepareFault.{PrepareFault}
 use Rattle.pq_compile.specs.declared.preparing.PrepareFault.TheVariants.{ValuesFull, InstancesFull, TagWidth, Memory}
 
@@ -71,24 +78,45 @@ IsPrepareFault d (TagWidth classes) = HasFewValues d × HasFewInstances d × Has
 IsPrepareFault d Memory = Unit {0}
 
 -- the instances of the document's queries, letters that tell them apart, and the classes of words
-pub record IsTold (d : DocumentTree) (c : QueryClasses) : Type 0 where
-  pub instances : c.instances.items ≡ instances_of d.topology (queries_in d)
-  pub few : length c.instances.items ≤ 1024
-  pub within : All (λ i. i.query < length d.queries) c.instances.items
+pub record AreTold (d : DocumentTree) (all : List Instance) (a : LettersValue) (m : Machine) : Type 0 where
+  pub instances : all ≡ instances_of d.topology (queries_in d)
+  pub few : length all ≤ 1024
+  pub within : All (λ i. i.query < length d.queries) all
   pub sum : HasFewInstances d
-  pub classes : AreClasses (languages_in d) c.letters c.classes
-  pub tests : TestsQueries d.topology (queries_in d) c.letters
-  pub ignores : IgnoresLacking c.letters
+  pub classes : AreClasses (languages_in d) a m
+  pub tests : TestsQueries d.topology (queries_in d) a
+  pub ignores : IgnoresLacking a
+
+abbrev pub IsTold : DocumentTree → QueryClasses → Type 0
+IsTold d c = AreTold d c.instances.items c.letters c.classes
 
 -- and there are at most 4,094 classes
-pub record IsClassified (d : DocumentTree) (c : QueryClasses) : Type 0 where
-  pub told : IsTold d c
-  pub tags : length c.classes.rows ≤ 4094
+pub record AreClassified (d : DocumentTree) (all : List Instance) (a : LettersValue) (m : Machine) : Type 0 where
+  pub told : AreTold d all a m
+  pub tags : length m.rows ≤ 4094
+
+abbrev pub IsClassified : DocumentTree → QueryClasses → Type 0
+IsClassified d c = AreClassified d c.instances.items c.letters c.classes
+
+-- the tree at the place is that of what the document's parts forward
+abbrev pub ForwardsAt : DocumentTree → List (Tree (List Written)) → ℕ → Type 0
+ForwardsAt d forward policy = HasAt (IsUnionOfParts d.topology (parts_in d)) forward policy
+
+-- what trees of switches are made from is that of the document
+pub record AreTreeSources (d : DocumentTree) (s : TreeSources) : Type 0 where
+  pub few : HasFewValues d
+  pub policy : ForwardsAt d s.forward s.policy
+  pub classified : IsClassified d s.told
+
+-- the trees of all switches that are made from these; entries can stand for them
+pub record AreNetworkTrees (d : DocumentTree) (forward : List (Tree (List Written))) (policy : ℕ) (a : LettersValue) (m : Machine) (t : NetworkTrees) : Type 0 where
+  pub trees : AreTreesAt d.topology forward policy a m t.first t.second t.switches.items
+  pub sound : All (IsSoundAt t.first t.second) t.switches.items
 
 -- diagrams, letters and classes of the document, and the trees of all switches that are made from them
 pub record IsPrepared (d : DocumentTree) (p : Prepared) : Type 0 where
   pub few : HasFewValues d
-  pub policy : HasAt (IsUnionOfParts d.topology (parts_in d)) p.forward p.policy
-  pub classified : IsClassified d (record { instances = p.instances; letters = p.letters; classes = p.classes })
+  pub policy : ForwardsAt d p.forward p.policy
+  pub classified : AreClassified d p.instances.items p.letters p.classes
   pub trees : AreTreesAt d.topology p.forward p.policy p.letters p.classes p.first p.second p.trees.items
   pub sound : All (IsSoundAt p.first p.second) p.trees.items

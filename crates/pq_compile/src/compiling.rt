@@ -11,10 +11,11 @@ ghost use Rattle.pq_compile.specs.Compiled.{
   rules_fault,
 };
 ghost use Rattle.pq_compile.specs.Documents.{document_tree};
-ghost use Rattle.pq_compile.specs.Prepared.{IsCompilable, IsPrepared, languages_in};
+ghost use Rattle.pq_compile.specs.Prepared.{AreNetworkTrees, ForwardsAt, HasFewValues, IsClassified, IsCompilable, languages_in};
 
 use crate::document::Document;
-use crate::preparing::{PrepareFault, Prepared, prepare};
+use crate::preparing::{NetworkTrees, PrepareFault, network_trees, tree_sources};
+use pq_classes::QueryClasses;
 use pq_emit::assembled;
 use pq_fields::Field;
 use pq_install::Install;
@@ -23,7 +24,9 @@ use pq_meaning::{
     classes_tag, compiled_implements, meaning_exists, meanings_are_laid_out, parts_depart,
 };
 use pq_query::Query;
+use pq_rewrite::WriteSet;
 use pq_rules::RulesFault;
+use pq_store::{NodeId, Store};
 use pq_term::Name;
 use std::alloc::{AllocError, Global};
 use std::sync::ledger::Ledger;
@@ -66,34 +69,36 @@ pub enum CompileFault {
     Memory,
 }
 
-/// A fault of what tables are made from, as one of compiling.
-fn of_prepare(fault: PrepareFault) -> CompileFault
-    ensures { result ≡ prepare_fault fault }
-{
-    match fault {
-        PrepareFault::ValuesFull { field, count } => CompileFault::ValuesFull { field, count },
-        PrepareFault::InstancesFull { count } => CompileFault::InstancesFull { count },
-        PrepareFault::TagWidth { classes } => CompileFault::TagWidth { classes },
-        PrepareFault::Memory => CompileFault::Memory,
+impl CompileFault {
+    /// A fault of what tables are made from, as one of compiling.
+    pub fn of_prepare(fault: PrepareFault) -> CompileFault
+        ensures { result ≡ prepare_fault fault }
+    {
+        match fault {
+            PrepareFault::ValuesFull { field, count } => CompileFault::ValuesFull { field, count },
+            PrepareFault::InstancesFull { count } => CompileFault::InstancesFull { count },
+            PrepareFault::TagWidth { classes } => CompileFault::TagWidth { classes },
+            PrepareFault::Memory => CompileFault::Memory,
+        }
     }
-}
 
-/// A fault of tables, as one of compiling.
-fn of_rules(fault: RulesFault) -> CompileFault
-    ensures { result ≡ rules_fault fault }
-{
-    match fault {
-        RulesFault::TableFull {
-            switch,
-            table,
-            entries,
-        } => CompileFault::TableFull {
-            switch,
-            table,
-            entries,
-        },
-        RulesFault::GroupFull { switch, copies } => CompileFault::GroupFull { switch, copies },
-        RulesFault::Memory => CompileFault::Memory,
+    /// A fault of tables, as one of compiling.
+    pub fn of_rules(fault: RulesFault) -> CompileFault
+        ensures { result ≡ rules_fault fault }
+    {
+        match fault {
+            RulesFault::TableFull {
+                switch,
+                table,
+                entries,
+            } => CompileFault::TableFull {
+                switch,
+                table,
+                entries,
+            },
+            RulesFault::GroupFull { switch, copies } => CompileFault::GroupFull { switch, copies },
+            RulesFault::Memory => CompileFault::Memory,
+        }
     }
 }
 
@@ -108,10 +113,49 @@ fn names_of(alloc: Global, queries: &[(Name, Query)]) -> Result<Vec<Name>, Alloc
     Ok(names)
 }
 
-/// The install of a document whose trees are made.
-fn installed(alloc: Global, document: &Document, prepared: &Prepared) -> Result<Install, RulesFault>
+/// The install of a document, from the diagram of its policy and from what its queries tell apart; or the first table or entry
+/// that is too large.
+///
+/// The document is lawful, each query has fewer than 2^19 atoms, no field is above its limit of stated values, and there are at
+/// most 4,094 classes.
+pub fn installed(
+    alloc: Global,
+    document: &Document,
+    forward: &Store<WriteSet>,
+    policy: NodeId,
+    told: &QueryClasses,
+) -> Result<Install, RulesFault>
     requires compilable { IsCompilable (document_tree document.now) }
-    requires prepared { IsPrepared (document_tree document.now) prepared.now }
+    requires values { HasFewValues (document_tree document.now) }
+    requires policy { ForwardsAt (document_tree document.now) forward.now policy }
+    requires told { IsClassified (document_tree document.now) told.now }
+    ensures installed { IfOk result (IsInstalled (document_tree document.now)) }
+    ensures cause { IfErr result (AreTablesFault (document_tree document.now)) }
+    ensures complete { OnOk result (AreTablesWithin (document_tree document.now)) }
+{
+    let trees = match network_trees(alloc, document, forward, policy, told) {
+        Ok(trees) => trees,
+        Err(_) => return Err(RulesFault::Memory),
+    };
+    match entered(alloc, document, forward, policy, told, &trees) {
+        Ok(install) => Ok(install),
+        Err(fault) => Err(fault),
+    }
+}
+
+/// The install of a document whose trees are made.
+fn entered(
+    alloc: Global,
+    document: &Document,
+    forward: &Store<WriteSet>,
+    policy: NodeId,
+    told: &QueryClasses,
+    trees: &NetworkTrees,
+) -> Result<Install, RulesFault>
+    requires compilable { IsCompilable (document_tree document.now) }
+    requires policy { ForwardsAt (document_tree document.now) forward.now policy }
+    requires told { IsClassified (document_tree document.now) told.now }
+    requires trees { AreNetworkTrees (document_tree document.now) forward.now policy told.now.letters told.now.classes trees.now }
     ensures installed { IfOk result (IsInstalled (document_tree document.now)) }
     ensures cause { IfErr result (AreTablesFault (document_tree document.now)) }
     ensures complete { OnOk result (AreTablesWithin (document_tree document.now)) }
@@ -128,11 +172,11 @@ fn installed(alloc: Global, document: &Document, prepared: &Prepared) -> Result<
     match assembled(
         &document.topology,
         &names,
-        &prepared.classes,
-        &prepared.instances,
-        &prepared.first,
-        &prepared.second,
-        &prepared.trees,
+        &told.classes,
+        &told.instances,
+        &trees.first,
+        &trees.second,
+        &trees.switches,
     ) {
         Ok(install) => Ok(install),
         Err(fault) => Err(fault),
@@ -154,14 +198,20 @@ pub fn compile_classes<L: Ledger>(
     ensures cause { IfErr result (IsCompileFault (document_tree document.now)) }
     ensures complete { OnOk result (IsWithinLimits (document_tree document.now)) }
 {
-    let prepared = match prepare(alloc, document, steps) {
-        Ok(prepared) => prepared,
-        Err(fault) => return Err(of_prepare(fault)),
+    let sources = match tree_sources(alloc, document, steps) {
+        Ok(sources) => sources,
+        Err(fault) => return Err(CompileFault::of_prepare(fault)),
     };
-    let classes = prepared.classes.count();
-    match installed(alloc, document, &prepared) {
+    let classes = sources.told.classes.count();
+    match installed(
+        alloc,
+        document,
+        &sources.forward,
+        sources.policy,
+        &sources.told,
+    ) {
         Ok(install) => Ok((install, classes)),
-        Err(fault) => Err(of_rules(fault)),
+        Err(fault) => Err(CompileFault::of_rules(fault)),
     }
 }
 

@@ -13,7 +13,7 @@ mod preparing;
 mod queries;
 mod reading;
 
-pub use compiling::{CompileFault, compile, compile_classes};
+pub use compiling::{CompileFault, compile, compile_classes, installed};
 pub use document::Document;
 pub use fault::DocumentFault;
 pub use lawful::{
@@ -23,5 +23,5 @@ pub use lawful::{
 };
 pub use laws::{has_one_compile_fault, has_one_document};
 pub use limits::values_full;
-pub use preparing::{PrepareFault, Prepared, prepare};
+pub use preparing::{PrepareFault, Prepared, classified, few_values, prepare};
 pub use reading::read_document;

@@ -1,9 +1,10 @@
 //! What the tables of a document's network are made from.
 ghost use Rattle.std.specs.Prelude.{IfErr, IfOk, OnOk};
 ghost use Rattle.pq_compile.specs.Documents.{document_tree};
-ghost use Rattle.pq_store.specs.Store.{HasAt};
-ghost use Rattle.pq_meaning.specs.Parts.{IsUnionOfParts};
 ghost use Rattle.pq_compile.specs.Prepared.{
+  AreNetworkTrees,
+  AreTreeSources,
+  ForwardsAt,
   HasFewValues,
   IsClassified,
   IsCompilable,
@@ -11,7 +12,6 @@ ghost use Rattle.pq_compile.specs.Prepared.{
   IsPrepared,
   IsTold,
   IsWithin,
-  parts_in,
   queries_in,
 };
 ghost use Rattle.pq_query.specs.Instances.{IsCause, label_sum};
@@ -54,6 +54,23 @@ pub struct Prepared {
     pub trees: Vec<SwitchTrees>,
 }
 
+/// What the trees of a document's network are made from: the diagram of its policy, in a store, and what its queries tell apart.
+#[derive(Drop)]
+pub(crate) struct TreeSources {
+    pub(crate) forward: Store<WriteSet>,
+    pub(crate) policy: NodeId,
+    pub(crate) told: QueryClasses,
+}
+
+/// The trees of a network: of each switch, in the topology's order, with the stores of those of the first and of the second
+/// table.
+#[derive(Drop)]
+pub(crate) struct NetworkTrees {
+    pub(crate) first: Store<Option<Arrive>>,
+    pub(crate) second: Store<Copies>,
+    pub(crate) switches: Vec<SwitchTrees>,
+}
+
 /// Why a document can't be prepared.
 #[derive(Debug, Drop, Error)]
 pub enum PrepareFault {
@@ -78,7 +95,7 @@ impl From<AllocError> for PrepareFault {
 }
 
 /// The first field, in field order, for which a document states more numbers than its limit allows, is a fault.
-fn few_values(alloc: Global, document: &Document) -> Result<(), PrepareFault>
+pub fn few_values(alloc: Global, document: &Document) -> Result<(), PrepareFault>
     ensures few { OnOk result (HasFewValues (document_tree document.now)) }
     ensures cause { IfErr result (IsPrepareFault (document_tree document.now)) }
 {
@@ -114,8 +131,10 @@ fn told<L: Ledger>(
 }
 
 /// The instances of a document's queries, the letters that they tell apart and the classes of words, of which there are at most
-/// 4,094.
-fn classified<L: Ledger>(
+/// 4,094; or the first of these limits that the document goes beyond. Each step of a state is counted.
+///
+/// The document is lawful, each query has fewer than 2^19 atoms, and no field is above its limit of stated values.
+pub fn classified<L: Ledger>(
     alloc: Global,
     document: &Document,
     steps: &mut Steps<L>,
@@ -146,7 +165,7 @@ fn forwarded<L: Ledger>(
 ) -> Result<NodeId, AllocError>
     requires compilable { IsCompilable (document_tree document.now) }
     requires values { HasFewValues (document_tree document.now) }
-    ensures policy { IfOk result (λ id. HasAt (IsUnionOfParts document.now.topology (parts_in (document_tree document.now))) store.new id) }
+    ensures policy { IfOk result (ForwardsAt (document_tree document.now) store.new) }
 {
     let mut tests = Store::new(store.allocator());
     let id = parts_forward(
@@ -159,29 +178,24 @@ fn forwarded<L: Ledger>(
     Ok(id)
 }
 
-/// The trees of a document's network, from what its queries tell apart.
-fn joined<L: Ledger>(
+/// The trees of a document's network, from the diagram of its policy and from what its queries tell apart.
+pub(crate) fn network_trees(
+    alloc: Global,
     document: &Document,
-    told: QueryClasses,
-    steps: &mut Steps<L>,
-) -> Result<Prepared, AllocError>
+    forward: &Store<WriteSet>,
+    policy: NodeId,
+    told: &QueryClasses,
+) -> Result<NetworkTrees, AllocError>
     requires compilable { IsCompilable (document_tree document.now) }
     requires values { HasFewValues (document_tree document.now) }
-    requires told { IsClassified (document_tree document.now) told }
-    ensures { IfOk result (IsPrepared (document_tree document.now)) }
+    requires policy { ForwardsAt (document_tree document.now) forward.now policy }
+    requires told { IsClassified (document_tree document.now) told.now }
+    ensures { IfOk result (AreNetworkTrees (document_tree document.now) forward.now policy told.now.letters told.now.classes) }
 {
-    let QueryClasses {
-        instances,
-        letters,
-        classes,
-    } = told;
-    let alloc = *instances.allocator();
-    let mut forward = Store::new(alloc);
-    let policy = forwarded(document, &mut forward, steps)?;
     // What is lawful of topologies, letters, classes and diagrams, and the laws of trees.
     document.topology.switches();
-    letters.count();
-    classes.is_lawful();
+    told.letters.count();
+    told.classes.is_lawful();
     forward.has_diagrams();
     parts_depart();
     parts_ignore_lacking();
@@ -190,15 +204,77 @@ fn joined<L: Ledger>(
     trees_test_ports();
     let mut first = Store::new(alloc);
     let mut second = Store::new(alloc);
-    let trees = all_trees(
+    let switches = all_trees(
         &document.topology,
-        &forward,
+        forward,
         policy,
-        &letters,
-        &classes,
+        &told.letters,
+        &told.classes,
         &mut first,
         &mut second,
     )?;
+    Ok(NetworkTrees {
+        first,
+        second,
+        switches,
+    })
+}
+
+/// What the trees of a document's network are made from, or the first limit that the document goes beyond.
+pub(crate) fn tree_sources<L: Ledger>(
+    alloc: Global,
+    document: &Document,
+    steps: &mut Steps<L>,
+) -> Result<TreeSources, PrepareFault>
+    requires { IsCompilable (document_tree document.now) }
+    ensures sources { IfOk result (AreTreeSources (document_tree document.now)) }
+    ensures within { OnOk result (IsWithin (document_tree document.now)) }
+    ensures cause { IfErr result (IsPrepareFault (document_tree document.now)) }
+{
+    match few_values(alloc, document) {
+        Ok(()) => {}
+        Err(fault) => return Err(fault),
+    }
+    let told = match classified(alloc, document, steps) {
+        Ok(told) => told,
+        Err(fault) => return Err(fault),
+    };
+    let mut forward = Store::new(alloc);
+    match forwarded(document, &mut forward, steps) {
+        Ok(policy) => Ok(TreeSources {
+            forward,
+            policy,
+            told,
+        }),
+        Err(_) => Err(PrepareFault::Memory),
+    }
+}
+
+/// The sources with the trees that are made from them.
+fn joined(
+    alloc: Global,
+    document: &Document,
+    sources: TreeSources,
+) -> Result<Prepared, AllocError>
+    requires compilable { IsCompilable (document_tree document.now) }
+    requires sources { AreTreeSources (document_tree document.now) sources }
+    ensures { IfOk result (IsPrepared (document_tree document.now)) }
+{
+    let TreeSources {
+        forward,
+        policy,
+        told,
+    } = sources;
+    let NetworkTrees {
+        first,
+        second,
+        switches,
+    } = network_trees(alloc, document, &forward, policy, &told)?;
+    let QueryClasses {
+        instances,
+        letters,
+        classes,
+    } = told;
     Ok(Prepared {
         forward,
         policy,
@@ -207,7 +283,7 @@ fn joined<L: Ledger>(
         instances,
         first,
         second,
-        trees,
+        trees: switches,
     })
 }
 
@@ -225,15 +301,11 @@ pub fn prepare<L: Ledger>(
     ensures cause { IfErr result (IsPrepareFault (document_tree document.now)) }
     ensures complete { OnOk result (IsWithin (document_tree document.now)) }
 {
-    match few_values(alloc, document) {
-        Ok(()) => {}
-        Err(fault) => return Err(fault),
-    }
-    let told = match classified(alloc, document, steps) {
-        Ok(told) => told,
+    let sources = match tree_sources(alloc, document, steps) {
+        Ok(sources) => sources,
         Err(fault) => return Err(fault),
     };
-    match joined(document, told, steps) {
+    match joined(alloc, document, sources) {
         Ok(prepared) => Ok(prepared),
         Err(_) => Err(PrepareFault::Memory),
     }

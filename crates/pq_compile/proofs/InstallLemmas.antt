@@ -5,6 +5,7 @@ use Rattle.std.specs.List.{AllZip}
 use Rattle.std.proofs.lemmas.List.{length-map}
 use Rattle.std.proofs.lemmas.List.Elements.{Contains-get_or}
 use Rattle.std.proofs.lemmas.Option.{slice_get_within}
+use Rattle.pq_fields.specs.Writes.{Written}
 use Rattle.pq_model.specs.Buckets.{Instance, instance_numbers}
 use Rattle.pq_model.specs.Classes.{IsPath}
 use Rattle.pq_model.specs.Lawful.{Ascends}
@@ -20,7 +21,7 @@ use Rattle.pq_layout.specs.Leaves.{Departures, departing}
 use Rattle.pq_layout.specs.Tagging.{Tagging}
 use Rattle.pq_rules.specs.declared.fault.RulesFault.{RulesFault}
 use Rattle.pq_rules.specs.declared.fault.RulesFault.TheVariants as rules
-use Rattle.pq_store.specs.Tree.{value}
+use Rattle.pq_store.specs.Tree.{Tree, value}
 use Rattle.pq_emit.specs.Faults.{HasNoFault, IsEmitFault}
 use Rattle.pq_emit.specs.Held.{AreHeldBelow, AreInstances}
 use Rattle.pq_emit.specs.Switches.{AreSwitchesAt, IsFilled, IsSwitchAt}
@@ -29,11 +30,11 @@ use Rattle.pq_meaning.specs.Compiled.{IsCompiled}
 use Rattle.pq_meaning.specs.Laws.{CompiledImplements, HasMeaning, MeaningsAreLaidOut, PartsDepart}
 use Rattle.pq_meaning.specs.Tags.{ClassesTag}
 use Rattle.pq_compile.specs.declared.document.Document.{Document}
-use Rattle.pq_compile.specs.declared.preparing.Prepared.{Prepared}
+use Rattle.pq_compile.specs.declared.preparing.NetworkTrees.{NetworkTrees}
 use Rattle.pq_compile.specs.Compiled.{AreTablesFault, AreTablesWithin, IsCompileFault, IsInstalled, IsLaidFor, rules_fault}
 use Rattle.pq_compile.specs.Documents.{DocumentTree, document_tree, named_query_tree}
 use Rattle.pq_compile.specs.Lawful.{names_in}
-use Rattle.pq_compile.specs.Prepared.{IsCompilable, IsPrepared, IsWithin, languages_in, parts_in, queries_in}
+use Rattle.pq_compile.specs.Prepared.{AreClassified, AreNetworkTrees, ForwardsAt, HasFewValues, IsCompilable, IsWithin, languages_in, parts_in, queries_in}
 use Rattle.pq_compile.proofs.Labelled.{lawful_instances}
 use Rattle.pq_compile.proofs.OneFault.{tables_within}
 use Rattle.pq_compile.proofs.Values.{bare_long, lawful_queries}
@@ -77,18 +78,30 @@ zip_long R (x ∷ xs) (y ∷ ys) all = ap suc (zip_long R xs ys all.1)
 
 -- Departures and tags.
 
-module _ (depart : PartsDepart) (tag : ClassesTag) (d : DocumentTree) (p : Prepared) (is : IsPrepared d p) where
+-- a document's network whose trees are made
+pub record Made (d : DocumentTree) : Type 0 where
+  pub forward : List (Tree (List Written))
+  pub policy : ℕ
+  pub all : List Instance
+  pub letters : LettersValue
+  pub classes : Machine
+  pub trees : NetworkTrees
+  pub forwards : ForwardsAt d forward policy
+  pub classified : AreClassified d all letters classes
+  pub are_trees : AreNetworkTrees d forward policy letters classes trees
+
+module _ (depart : PartsDepart) (tag : ClassesTag) (d : DocumentTree) (made : Made d) where
   abbrev pub tags : Tagging
-  tags = tagging_of p.letters p.classes
+  tags = tagging_of made.letters made.classes
 
   abbrev pub writes : Departures
-  writes = departing d.topology (value is.policy.0)
+  writes = departing d.topology (value made.forwards.0)
 
   pub laid : IsLaidFor d tags writes
   laid = record {
-    departures = depart d.topology (parts_in d) is.policy.0 is.policy.2;
-    tagging = tag (queries_in d) (instances_of d.topology (queries_in d)) p.letters p.classes is.classified.told.classes;
-    few = is.classified.tags;
+    departures = depart d.topology (parts_in d) made.forwards.0 made.forwards.2;
+    tagging = tag (queries_in d) (instances_of d.topology (queries_in d)) made.letters made.classes made.classified.told.classes;
+    few = made.classified.tags;
   }
 
   -- the instances ascend, as those of each meaning do
@@ -99,32 +112,32 @@ module _ (depart : PartsDepart) (tag : ClassesTag) (d : DocumentTree) (p : Prepa
       subst (AscendsBy instance_numbers) found.1.instances out.instances
 
   -- they are those that reports need
-  pub are_instances : HasMeaning → MeaningsAreLaidOut → IsCompilable d → (names : List (List ℕ)) → names ≡ names_in d.queries → AreInstances (length names) p.instances.items
+  pub are_instances : HasMeaning → MeaningsAreLaidOut → IsCompilable d → (names : List (List ℕ)) → names ≡ names_in d.queries → AreInstances (length names) made.all
   are_instances exists lay can names named =
-      let same = is.classified.told.instances in
+      let same = made.classified.told.instances in
       record {
-        few = is.classified.told.few;
+        few = made.classified.told.few;
         ascend = subst (AscendsBy instance_numbers) (sym same) (ascending exists lay can);
-        lawful = subst (λ n. All (IsLawfulPair n) p.instances.items) (sym (names_long d names named))
+        lawful = subst (λ n. All (IsLawfulPair n) made.all) (sym (names_long d names named))
             (subst (All (IsLawfulPair (length (queries_in d)))) (sym same) (lawful_instances d.topology (queries_in d) can.lawful.topology (lawful_queries d can) can.atoms));
       }
 
-  pub switches : AreSwitchesAt d.topology tags writes p.first p.second p.trees.items
-  switches = is.trees is.policy.0 is.policy.1
+  pub switches : AreSwitchesAt d.topology tags writes made.trees.first made.trees.second made.trees.switches.items
+  switches = made.are_trees.trees made.forwards.0 made.forwards.1
 
-  pub listed : length p.trees.items ≡ length d.topology.switches
-  listed = sym (zip_long (IsSwitchAt d.topology tags writes p.first p.second) d.topology.switches p.trees.items switches)
+  pub listed : length made.trees.switches.items ≡ length d.topology.switches
+  listed = sym (zip_long (IsSwitchAt d.topology tags writes made.trees.first made.trees.second) d.topology.switches made.trees.switches.items switches)
 
   -- the install is the document's, and does what the document means
   pub is_installed : CompiledImplements → IsCompilable d → (names : List (List ℕ)) → names ≡ names_in d.queries → (i : Install)
-      → IsEmission d.topology names writes tags p.instances.items i → IsFilled d.topology tags writes i → IsLawfulInstall i → IsInstalled d i
+      → IsEmission d.topology names writes tags made.all i → IsFilled d.topology tags writes i → IsLawfulInstall i → IsInstalled d i
   is_installed implement can names named i emission filled lawful =
       let install : IsCompiled d.topology (names_in d.queries) (parts_in d) (queries_in d) i = record {
         writes = writes;
         tags = tags;
         laid = laid;
         emission = subst (λ ns. IsEmission d.topology ns writes tags (instances_of d.topology (queries_in d)) i) named
-            (subst (λ all. IsEmission d.topology names writes tags all i) is.classified.told.instances emission);
+            (subst (λ all. IsEmission d.topology names writes tags all i) made.classified.told.instances emission);
       } in
       record {
         install = install;
@@ -141,13 +154,9 @@ module _ (depart : PartsDepart) (tag : ClassesTag) (d : DocumentTree) (p : Prepa
   pub all_within : IsCompilable d → HasNoFault d.topology tags writes → AreTablesWithin d
   all_within can none = tables_within d can.lawful.topology.lawful tags writes laid none
 
--- a document whose trees are made is within the limits on what they are made from
-pub is_within : (d : DocumentTree) (p : Prepared) → IsPrepared d p → IsWithin d
-is_within d p is = record {
-  values = is.few;
-  instances = is.classified.told.sum;
-  classes = (length p.classes.rows, is.classified.told.classes.count, is.classified.tags);
-}
+-- a document whose queries' words are classified, and which states few values, is within the limits on what trees are made from
+pub is_within : (d : DocumentTree) (all : List Instance) (a : LettersValue) (m : Machine) → HasFewValues d → AreClassified d all a m → IsWithin d
+is_within d all a m few is = record { values = few; instances = is.told.sum; classes = (length m.rows, is.told.classes.count, is.tags) }
 
 pub rules_cause : (d : DocumentTree) → IsWithin d → (fault : RulesFault) → AreTablesFault d fault → IsCompileFault d (rules_fault fault)
 rules_cause d within (rules.TableFull switch table entries) full = (within, full)
