@@ -1,4 +1,4 @@
--- What the calls on a sum ask and give.
+-- What the calls on the cells of a sum ask and give.
 use Rattle.std.proofs.Common.{ℕ, ◌+◌, ◌*◌, ◌^◌, ◌<◌, ◌≤◌, ◌≡◌, ◌∙◌, List, [], ◌∷◌, ◌++◌, take, length, get_or, replicate, refl, sym, ap, subst, arith}
 use Rattle.std.proofs.Math.Seq.{take-append_seam}
 use Rattle.std.specs.Prelude.{All}
@@ -8,7 +8,7 @@ use Rattle.pq_policy.specs.Policy.{PolicyTree}
 use Rattle.pq_store.specs.Compaction.{IsCompaction}
 use Rattle.pq_store.specs.Store.{Keeps}
 use Rattle.pq_store.specs.Tree.{Tree}
-use Rattle.pq_sum.specs.Calls.{HasPart, IsOpened, IsPut, IsSameSum, IsSum, IsSumIn, IsTotal, MayOpen, MayPut}
+use Rattle.pq_sum.specs.Cells.{IsOpened, IsPut, MayOpen, MayPut}
 use Rattle.pq_sum.specs.Sum.{GivesNone, HasLeaf, IsChanged, IsFilled, IsSumTree, MayChange, MayFill}
 use Rattle.pq_sum.proofs.Filling.{none_filled, parts_still}
 use Rattle.pq_sum.proofs.Moving.{cells_within, put_change, put_sum, tree_moved}
@@ -57,28 +57,3 @@ module _ (ts mid : Trees) (keeps : Keeps ts mid) (cells : List ℕ) (slot node :
   pub is_put : (now : Trees) (new_cells : List ℕ) → IsChanged mid cells slot node now new_cells → IsPut ts cells slot node now new_cells
   is_put now new_cells changed T ps p put =
       changed T 10 ps (p ∷ []) (put_sum T ts mid keeps cells slot node ps p put) (put_change T ts mid keeps cells slot node ps p put)
-
--- the root of a sum
-pub some_root : (cells : List ℕ) → IsSum cells → 0 < length cells
-some_root cells sum = let some = some_cell sum.topology sum.trees 10 cells sum.parts sum.sum in omega (arith, some)
-
-pub is_total : (cells : List ℕ) (root : ℕ) → root ≡ get_or cells 0 root → IsTotal cells root
-is_total cells root at T ts ps sum = root_of T ts 10 cells ps root at sum
-
--- a part of a sum
-pub part_has_leaf : (cells : List ℕ) (slot : ℕ) → HasPart cells slot → HasLeaf cells slot
-part_has_leaf cells slot has = record {
-  topology = has.is_sum.topology;
-  trees = has.is_sum.trees;
-  height = 10;
-  parts = has.is_sum.parts;
-  tree = has.is_sum.sum;
-  within = has.within;
-}
-
--- a sum that moves
-pub sum_within : (ts : Trees) (cells : List ℕ) → IsSumIn ts cells → All (λ id. id < length ts) cells
-sum_within ts cells sum = cells_within sum.topology ts 10 cells sum.parts sum.sum
-
-pub is_same_sum : (old now : Trees) (cells ids : List ℕ) → IsCompaction old cells now ids → IsSameSum old cells now ids
-is_same_sum old now cells ids compact T ps sum = tree_moved T old now 10 cells ids ps compact.same sum

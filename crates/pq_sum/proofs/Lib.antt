@@ -1,4 +1,7 @@
 mod Replaced
+mod Items
+mod Slots
+mod Placed
 mod Unions
 mod Trees
 mod Changing
@@ -7,3 +10,4 @@ mod Leaves
 mod Moving
 mod Removing
 mod Called
+mod Summed

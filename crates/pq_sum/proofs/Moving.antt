@@ -12,7 +12,7 @@ use Rattle.pq_store.specs.Store.{HasAt, Keeps}
 use Rattle.pq_store.specs.Tree.{Tree}
 use Rattle.pq_rewrite.proofs.Standing.{has_still, has_within}
 use Rattle.pq_meaning.specs.Parts.{FitAsParts, IsUnionOfParts}
-use Rattle.pq_sum.specs.Calls.{IsPuttable, IsRemovable, removed}
+use Rattle.pq_sum.specs.Cells.{IsPuttable, IsRemovable, removed}
 use Rattle.pq_sum.specs.Sum.{GivesNone, IsChange, IsSumOf, IsSumTree, MayChange, UnitesParts, replaced}
 use Rattle.pq_sum.proofs.Replaced.{take_before}
 use Rattle.pq_sum.proofs.Trees.{tree_still}

@@ -12,7 +12,7 @@ use Rattle.pq_rewrite.proofs.Halves.{all_halves}
 use Rattle.pq_rewrite.proofs.Standing.{has_still}
 use Rattle.pq_forward.specs.Forward.{IsPolicyWithin}
 use Rattle.pq_meaning.specs.Parts.{FitAsParts, IsUnionOfParts}
-use Rattle.pq_sum.specs.Calls.{IsRemovable, MayRemove, removed}
+use Rattle.pq_sum.specs.Cells.{IsRemovable, MayRemove, removed}
 use Rattle.pq_sum.specs.Sum.{GivesNone, HasLeaf, IsChange, IsChanged, IsCounted, IsLeaf, IsSumTree, MayChange, UnitesParts, replaced}
 use Rattle.pq_sum.proofs.Moving.{all_both, one_last, removed_before, removed_last, without_last}
 use Rattle.pq_sum.proofs.Trees.{parts_of, tree_still}

@@ -1,107 +1,92 @@
--- What the calls on a sum promise.
-use Rattle.std.specs.Prelude.{ℕ, suc, ◌+◌, ◌*◌, ◌-◌, ◌^◌, ◌≤◌, ◌<◌, ◌≡◌, List, [], ◌∷◌, take, drop, length}
+-- What the calls on a sum promise, in which each part has a place.
+use Rattle.std.specs.Prelude.{ℕ, ◌+◌, ◌*◌, ◌^◌, ◌≤◌, ◌<◌, List, [], ◌∷◌, length}
 use Rattle.pq_fields.specs.Writes.{Written}
 use Rattle.pq_model.specs.Topology.{Topology}
 use Rattle.pq_policy.specs.Policy.{PolicyTree}
 use Rattle.pq_store.specs.Tree.{Tree}
 use Rattle.pq_meaning.specs.Parts.{FitAsParts}
-use Rattle.pq_sum.specs.Sum.{AreParts, IsSumOf, UnitesParts, replaced}
-
--- the item at a place, where there is one
-abbrev pub at_place : {A : Type 0} → ℕ → List A → List A
-at_place i xs = take 1 (drop i xs)
-
--- a list without the item at a place, in place of which its last item stands
-abbrev pub removed : {A : Type 0} → ℕ → List A → List A
-removed i xs = take (length xs - 1) (replaced i (drop (length xs - 1) xs) xs)
-
--- diagrams of at most 1,024 parts that may come together
-pub record MayOpen (ts : List (Tree (List Written))) (nodes : List ℕ) : Type 0 where
-  pub topology : Topology
-  pub parts : List PolicyTree
-  pub each : AreParts topology ts parts nodes
-  pub few : length parts ≤ 1024
-  pub fits : FitAsParts topology parts
+use Rattle.pq_sum.specs.Sum.{AreParts, UnitesParts, replaced}
+use Rattle.pq_sum.specs.Cells.{at_place}
+use Rattle.pq_sum.specs.Places.{IsSummed, Sum}
 
 -- the sum is that of the parts
-abbrev pub IsOpened : List (Tree (List Written)) → List ℕ → List (Tree (List Written)) → List ℕ → Type 0
-IsOpened old nodes now cells =
-    (T : Topology) (ps : List PolicyTree) → AreParts T old ps nodes → length ps ≤ 1024 → FitAsParts T ps → IsSumOf T now ps cells
+abbrev pub IsOpenedAt : List (Tree (List Written)) → List ℕ → List (Tree (List Written)) → Sum → Type 0
+IsOpenedAt old nodes now s =
+    (T : Topology) (ps : List PolicyTree) → AreParts T old ps nodes → length ps ≤ 1024 → FitAsParts T ps → IsSummed T now ps s
 
--- the sum is that of parts, and with this one in the slot they may come together
-pub record IsPuttable (T : Topology) (ts : List (Tree (List Written))) (cells : List ℕ) (slot node : ℕ) (ps : List PolicyTree) (p : PolicyTree) : Type 0 where
-  pub sum : IsSumOf T ts ps cells
-  pub gives : UnitesParts T ts (p ∷ []) node
-  pub within : slot ≤ length ps
-  pub room : slot < 1024
-  pub fits : FitAsParts T (replaced slot (p ∷ []) ps)
-
-pub record MayPut (ts : List (Tree (List Written))) (cells : List ℕ) (slot node : ℕ) : Type 0 where
-  pub topology : Topology
-  pub parts : List PolicyTree
-  pub part : PolicyTree
-  pub put : IsPuttable topology ts cells slot node parts part
-
--- the sum is that of the parts with this one in the slot
-abbrev pub IsPut : List (Tree (List Written)) → List ℕ → ℕ → ℕ → List (Tree (List Written)) → List ℕ → Type 0
-IsPut old cells slot node now new_cells =
-    (T : Topology) (ps : List PolicyTree) (p : PolicyTree) → IsPuttable T old cells slot node ps p → IsSumOf T now (replaced slot (p ∷ []) ps) new_cells
-
--- that takes at most k steps where there are at most 2^k parts, before and after it
-abbrev pub CountsPut : List (Tree (List Written)) → List ℕ → ℕ → ℕ → ℕ → ℕ → Type 0
-CountsPut old cells slot node before after =
-    (T : Topology) (ps : List PolicyTree) (p : PolicyTree) → IsPuttable T old cells slot node ps p
-    → (k : ℕ) → length ps ≤ 2 ^ k → length (replaced slot (p ∷ []) ps) ≤ 2 ^ k → after ≤ before + k
-
--- the sum is that of parts that may come together, and these are the slots of one of them and of the last
-pub record IsRemovable (T : Topology) (ts : List (Tree (List Written))) (cells : List ℕ) (slot last : ℕ) (ps : List PolicyTree) : Type 0 where
-  pub sum : IsSumOf T ts ps cells
-  pub all : length ps ≡ suc last
-  pub within : slot ≤ last
-  pub fits : FitAsParts T ps
-
-pub record MayRemove (ts : List (Tree (List Written))) (cells : List ℕ) (slot last : ℕ) : Type 0 where
-  pub topology : Topology
-  pub parts : List PolicyTree
-  pub remove : IsRemovable topology ts cells slot last parts
-
--- the sum is that of the parts without that of the slot
-abbrev pub IsRemoved : List (Tree (List Written)) → List ℕ → ℕ → ℕ → List (Tree (List Written)) → List ℕ → Type 0
-IsRemoved old cells slot last now new_cells =
-    (T : Topology) (ps : List PolicyTree) → IsRemovable T old cells slot last ps → IsSumOf T now (removed slot ps) new_cells
-
--- that takes at most 2k steps where there were at most 2^k parts
-abbrev pub CountsRemoval : List (Tree (List Written)) → List ℕ → ℕ → ℕ → ℕ → ℕ → Type 0
-CountsRemoval old cells slot last before after =
-    (T : Topology) (ps : List PolicyTree) → IsRemovable T old cells slot last ps → (k : ℕ) → length ps ≤ 2 ^ k → after ≤ before + 2 * k
-
--- the cells are those of a sum
-pub record IsSum (cells : List ℕ) : Type 0 where
+-- it is a sum of some parts
+pub record IsSum (s : Sum) : Type 0 where
   pub topology : Topology
   pub trees : List (Tree (List Written))
   pub parts : List PolicyTree
-  pub sum : IsSumOf topology trees parts cells
+  pub summed : IsSummed topology trees parts s
 
--- and a part stands in the slot
-pub record HasPart (cells : List ℕ) (slot : ℕ) : Type 0 where
-  pub is_sum : IsSum cells
-  pub within : slot < length is_sum.parts
+-- and one of them has this place
+pub record HasPartAt (s : Sum) (place : ℕ) : Type 0 where
+  pub is_sum : IsSum s
+  pub within : place < length is_sum.parts
+
+-- the diagram is that of the part of the place
+abbrev pub IsPartAt : Sum → ℕ → ℕ → Type 0
+IsPartAt s place id =
+    (T : Topology) (ts : List (Tree (List Written))) (ps : List PolicyTree) → IsSummed T ts ps s → place < length ps → UnitesParts T ts (at_place place ps) id
 
 -- the diagram is the union of all parts
-abbrev pub IsTotal : List ℕ → ℕ → Type 0
-IsTotal cells id = (T : Topology) (ts : List (Tree (List Written))) (ps : List PolicyTree) → IsSumOf T ts ps cells → UnitesParts T ts ps id
+abbrev pub IsTotal : Sum → ℕ → Type 0
+IsTotal s id = (T : Topology) (ts : List (Tree (List Written))) (ps : List PolicyTree) → IsSummed T ts ps s → UnitesParts T ts ps id
 
--- the diagram is that of the part in the slot
-abbrev pub IsPartAt : List ℕ → ℕ → ℕ → Type 0
-IsPartAt cells slot id =
-    (T : Topology) (ts : List (Tree (List Written))) (ps : List PolicyTree) → IsSumOf T ts ps cells → slot < length ps → UnitesParts T ts (at_place slot ps) id
+-- the sum is that of parts, and with this one at the place they may come together
+pub record IsPuttableAt (T : Topology) (ts : List (Tree (List Written))) (s : Sum) (place node : ℕ) (ps : List PolicyTree) (p : PolicyTree) : Type 0 where
+  pub summed : IsSummed T ts ps s
+  pub gives : UnitesParts T ts (p ∷ []) node
+  pub within : place ≤ length ps
+  pub room : place < 1024
+  pub fits : FitAsParts T (replaced place (p ∷ []) ps)
 
--- the sum is one of diagrams in this store
-pub record IsSumIn (ts : List (Tree (List Written))) (cells : List ℕ) : Type 0 where
+pub record MayPutAt (ts : List (Tree (List Written))) (s : Sum) (place node : ℕ) : Type 0 where
   pub topology : Topology
   pub parts : List PolicyTree
-  pub sum : IsSumOf topology ts parts cells
+  pub part : PolicyTree
+  pub put : IsPuttableAt topology ts s place node parts part
 
--- the sum in the new store is that of the same parts
-abbrev pub IsSameSum : List (Tree (List Written)) → List ℕ → List (Tree (List Written)) → List ℕ → Type 0
-IsSameSum old cells now new_cells = (T : Topology) (ps : List PolicyTree) → IsSumOf T old ps cells → IsSumOf T now ps new_cells
+-- the sum is that of the parts with this one at the place
+abbrev pub IsPutAt : List (Tree (List Written)) → Sum → ℕ → ℕ → List (Tree (List Written)) → Sum → Type 0
+IsPutAt old s place node now new =
+    (T : Topology) (ps : List PolicyTree) (p : PolicyTree) → IsPuttableAt T old s place node ps p → IsSummed T now (replaced place (p ∷ []) ps) new
+
+-- that takes at most k steps where there are at most 2^k parts, before and after it
+abbrev pub CountsPutAt : List (Tree (List Written)) → Sum → ℕ → ℕ → ℕ → ℕ → Type 0
+CountsPutAt old s place node before after =
+    (T : Topology) (ps : List PolicyTree) (p : PolicyTree) → IsPuttableAt T old s place node ps p
+    → (k : ℕ) → length ps ≤ 2 ^ k → length (replaced place (p ∷ []) ps) ≤ 2 ^ k → after ≤ before + k
+
+-- the sum is that of parts that may come together, and one of them has this place
+pub record IsRemovableAt (T : Topology) (ts : List (Tree (List Written))) (s : Sum) (place : ℕ) (ps : List PolicyTree) : Type 0 where
+  pub summed : IsSummed T ts ps s
+  pub within : place < length ps
+  pub fits : FitAsParts T ps
+
+pub record MayRemoveAt (ts : List (Tree (List Written))) (s : Sum) (place : ℕ) : Type 0 where
+  pub topology : Topology
+  pub parts : List PolicyTree
+  pub remove : IsRemovableAt topology ts s place parts
+
+-- the sum is that of the parts without that of the place
+abbrev pub IsRemovedAt : List (Tree (List Written)) → Sum → ℕ → List (Tree (List Written)) → Sum → Type 0
+IsRemovedAt old s place now new =
+    (T : Topology) (ps : List PolicyTree) → IsRemovableAt T old s place ps → IsSummed T now (replaced place [] ps) new
+
+-- that takes at most 2k steps where there were at most 2^k parts
+abbrev pub CountsRemovalAt : List (Tree (List Written)) → Sum → ℕ → ℕ → ℕ → Type 0
+CountsRemovalAt old s place before after =
+    (T : Topology) (ps : List PolicyTree) → IsRemovableAt T old s place ps → (k : ℕ) → length ps ≤ 2 ^ k → after ≤ before + 2 * k
+
+-- it is a sum of diagrams of this store
+pub record IsSumIn (ts : List (Tree (List Written))) (s : Sum) : Type 0 where
+  pub topology : Topology
+  pub parts : List PolicyTree
+  pub summed : IsSummed topology ts parts s
+
+-- the new sum is that of the same parts, in the new store
+abbrev pub IsSameSum : List (Tree (List Written)) → Sum → List (Tree (List Written)) → Sum → Type 0
+IsSameSum old s now new = (T : Topology) (ps : List PolicyTree) → IsSummed T old ps s → IsSummed T now ps new

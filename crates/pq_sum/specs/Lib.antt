@@ -1,2 +1,4 @@
 pub mod Sum
+pub mod Cells
+pub mod Places
 pub mod Calls

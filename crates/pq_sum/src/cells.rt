@@ -94,7 +94,7 @@ pub(crate) fn fill<L: Ledger>(
 }
 
 /// The leaf in a slot in which there is a part.
-pub fn leaf_at(cells: &[NodeId], slot: usize) -> NodeId
+pub(crate) fn leaf_at(cells: &[NodeId], slot: usize) -> NodeId
     requires { HasLeaf cells.now slot }
     ensures { IsLeaf cells.now slot result }
 {

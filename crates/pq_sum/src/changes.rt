@@ -1,7 +1,7 @@
 //! Changes of the cells of a sum of 1,024 slots.
 ghost use Rattle.std.specs.Prelude.{◌≡◌, replicate, IfOk, OnOk};
 ghost use Rattle.pq_store.specs.Store.{Keeps};
-ghost use Rattle.pq_sum.specs.Calls.{CountsPut, CountsRemoval, IsOpened, IsPut, IsRemoved, MayOpen, MayPut, MayRemove};
+ghost use Rattle.pq_sum.specs.Cells.{CountsPut, CountsRemoval, IsOpened, IsPut, IsRemoved, MayOpen, MayPut, MayRemove};
 
 use crate::cells::{fill, leaf_at, set};
 use crate::joined::nothing;
@@ -20,7 +20,7 @@ fn all_cells(alloc: Global, none: NodeId) -> Result<Vec<NodeId>, AllocError>
 }
 
 /// The cells of the sum of these parts.
-pub fn opened<L: Ledger>(
+pub(crate) fn opened<L: Ledger>(
     store: &mut Store<WriteSet>,
     parts: &[NodeId],
     steps: &mut Steps<L>,
@@ -36,7 +36,7 @@ pub fn opened<L: Ledger>(
 }
 
 /// Puts a part into a slot.
-pub fn put<L: Ledger>(
+pub(crate) fn put<L: Ledger>(
     store: &mut Store<WriteSet>,
     cells: &mut [NodeId],
     slot: usize,
@@ -54,7 +54,7 @@ pub fn put<L: Ledger>(
 }
 
 /// Takes the part of a slot out, and puts that of the last slot there.
-pub fn remove<L: Ledger>(
+pub(crate) fn remove<L: Ledger>(
     store: &mut Store<WriteSet>,
     cells: &mut [NodeId],
     slot: usize,

@@ -4,6 +4,7 @@
 mod cells;
 mod changes;
 mod joined;
+mod slots;
+mod sum;
 
-pub use cells::leaf_at;
-pub use changes::{opened, put, remove};
+pub use sum::Sum;

@@ -1,0 +1,7 @@
+use Rattle.std.proofs.Common.{◌≡◌}
+use Rattle.std.specs.List.{range_with_len}
+use Rattle.pq_sum.proofs.slots.first_slots.Given as goal
+
+-- the slots before this one
+abbrev pub invariant-loop-slot : goal.invariant-loop-slot
+invariant-loop-slot l = l.slots.items ≡ range_with_len 0 l.slot
