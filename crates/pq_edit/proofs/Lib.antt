@@ -1,0 +1,7 @@
+mod Among
+mod Changed
+mod Counted
+mod LawfulEdited
+mod LawfulEdits
+mod OneEdit
+mod Statements
