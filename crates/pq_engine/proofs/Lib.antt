@@ -1,1 +1,4 @@
 pub mod PlacesLemmas
+pub mod EditedLemmas
+pub mod EngineLemmas
+pub mod SumsLemmas

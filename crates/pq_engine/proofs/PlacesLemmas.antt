@@ -2,7 +2,8 @@
 use Rattle.std.proofs.Common.{ℕ, zero, suc, ◌+◌, ◌<◌, ◌≤◌, ◌≡◌, ◌∙◌, List, [], ◌∷◌, ◌++◌, take, drop, length, map, get_or, refl, sym, ap, ap₂, subst, arith}
 use Rattle.std.specs.Prelude.{Bool, true, false, bytes_eq, if◌then◌else◌, slice_set}
 use Rattle.std.proofs.lemmas.List.{at_drop_more, take-append-drop, take-set, drop-set}
-use Rattle.pq_engine.specs.Places.{place_in, replaced}
+use Rattle.pq_sum.specs.Sum.{replaced}
+use Rattle.pq_engine.specs.Places.{place_in}
 
 module _ {A : Type 0} where
   pub set_is : (xs : List A) (i : ℕ) (x : A) → i < length xs → slice_set xs i x ≡ replaced i (x ∷ []) xs
@@ -35,6 +36,12 @@ module _ {A : Type 0} where
   put_within zero new (x ∷ xs) within = omega arith
   put_within (suc i) new [] within = absurd (omega arith)
   put_within (suc i) new (x ∷ xs) within = let less = put_within i new xs (omega arith) in omega (arith, less)
+
+  pub removed_long : (i : ℕ) (xs : List A) → i < length xs → suc (length (replaced i [] xs)) ≡ length xs
+  removed_long zero [] within = absurd (omega arith)
+  removed_long zero (x ∷ xs) within = refl
+  removed_long (suc i) [] within = absurd (omega arith)
+  removed_long (suc i) (x ∷ xs) within = ap suc (removed_long i xs (omega arith))
 
   -- where nothing stood in a place, it is the last one
   pub put_last : (i : ℕ) (new : A) (xs : List A) → i ≤ length xs → [] ≡ take 1 (drop i xs) → length (replaced i (new ∷ []) xs) ≡ suc i

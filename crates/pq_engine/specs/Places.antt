@@ -1,15 +1,11 @@
 -- Places in lists of what is named.
-use Rattle.std.specs.Prelude.{ℕ, zero, suc, ◌+◌, List, [], ◌∷◌, ◌++◌, take, drop, length, map, if◌then◌else◌, bytes_eq, Option}
+use Rattle.std.specs.Prelude.{ℕ, suc, List, [], ◌∷◌, if◌then◌else◌, bytes_eq, Option}
 use Rattle.std.specs.declared.option.Option.TheVariants.{None, Some}
 
 -- the place of the first that has the name; the length where none has
 abbrev pub place_in : List ℕ → List (List ℕ) → ℕ
 place_in name [] = 0
 place_in name (n ∷ ns) = if bytes_eq n name then 0 else suc (place_in name ns)
-
--- a list with these in place of the item at a place; where it has none there, with these behind its last
-abbrev pub replaced : {A : Type 0} → ℕ → List A → List A → List A
-replaced i new xs = take i xs ++ (new ++ drop (suc i) xs)
 
 -- one item or none, as a list
 abbrev pub listed : {A : Type 0} → Option A → List A

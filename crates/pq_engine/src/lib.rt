@@ -1,6 +1,13 @@
 //! Documents that are edited, with their installs.
 #![tactic(auto)]
 
+mod diagrams;
+mod engine;
+mod kept;
 mod named;
+mod opening;
+mod parts;
+mod queries;
+mod renewal;
 
-pub use named::{place_of, put_at, put_back, remove_at, insert_back};
+pub use engine::Engine;

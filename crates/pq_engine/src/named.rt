@@ -2,7 +2,8 @@
 ghost use Rattle.std.specs.Prelude.{◌≡◌, ◌≤◌, ◌<◌, [], ◌∷◌, ◌++◌, suc, length, map, take, drop, IfOk, OnOk, OnErr};
 ghost use Rattle.std.specs.declared.option.Option.TheVariants.{None};
 ghost use Rattle.std.specs.Vec.{vec_capacity};
-ghost use Rattle.pq_engine.specs.Places.{listed, place_in, replaced};
+ghost use Rattle.pq_sum.specs.Sum.{replaced};
+ghost use Rattle.pq_engine.specs.Places.{listed, place_in};
 
 use pq_term::Name;
 use std::alloc::AllocError;
@@ -10,7 +11,7 @@ use std::mem;
 
 /// The place of the first that has the name; the length where none has.
 #[tactic(auto, using(crate::proofs::PlacesLemmas::place_here, crate::proofs::PlacesLemmas::place_after))]
-pub fn place_of<T>(named: &[(Name, T)], name: &Name) -> usize
+pub(crate) fn place_of<T>(named: &[(Name, T)], name: &Name) -> usize
     ensures { result ≡ place_in name.now (map (λ n. n.0) named.now) }
 {
     for place in 0..named.len() {
@@ -23,7 +24,7 @@ pub fn place_of<T>(named: &[(Name, T)], name: &Name) -> usize
 
 /// Puts what is named into a place; gives what stood there.
 #[tactic(auto, using(crate::proofs::PlacesLemmas::set_is))]
-pub fn put_at<T: Drop>(
+pub(crate) fn put_at<T: Drop>(
     named: &mut Vec<(Name, T)>,
     place: usize,
     new: (Name, T),
@@ -43,7 +44,7 @@ pub fn put_at<T: Drop>(
 
 /// Puts back what stood in a place; nothing stood in the last one where it was behind the others.
 #[tactic(auto, using(crate::proofs::PlacesLemmas::set_is))]
-pub fn put_back<T: Drop>(named: &mut Vec<(Name, T)>, place: usize, old: Option<(Name, T)>)
+pub(crate) fn put_back<T: Drop>(named: &mut Vec<(Name, T)>, place: usize, old: Option<(Name, T)>)
     requires place { place < length named.old.items }
     requires last { old ≡ None → length named.old.items ≡ suc place }
     ensures { named.new.items ≡ replaced place (listed old) named.old.items }
@@ -57,7 +58,7 @@ pub fn put_back<T: Drop>(named: &mut Vec<(Name, T)>, place: usize, old: Option<(
 }
 
 /// Takes what stands in a place out.
-pub fn remove_at<T: Drop>(named: &mut Vec<(Name, T)>, place: usize) -> (Name, T)
+pub(crate) fn remove_at<T: Drop>(named: &mut Vec<(Name, T)>, place: usize) -> (Name, T)
     requires { place < length named.old.items }
     ensures removed { named.new.items ≡ replaced place [] named.old.items }
     ensures old { result ∷ [] ≡ take 1 (drop place named.old.items) }
@@ -67,7 +68,7 @@ pub fn remove_at<T: Drop>(named: &mut Vec<(Name, T)>, place: usize) -> (Name, T)
 }
 
 /// Puts back what was taken out.
-pub fn insert_back<T: Drop>(named: &mut Vec<(Name, T)>, place: usize, old: (Name, T))
+pub(crate) fn insert_back<T: Drop>(named: &mut Vec<(Name, T)>, place: usize, old: (Name, T))
     requires place { place ≤ length named.old.items }
     requires room { length named.old.items < vec_capacity named.old }
     ensures { named.new.items ≡ take place named.old.items ++ (old ∷ drop place named.old.items) }
