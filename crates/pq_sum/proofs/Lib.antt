@@ -1,6 +1,6 @@
 mod Replaced
 mod Items
-mod Slots
+mod Differing
 mod Placed
 mod Unions
 pub mod Trees

@@ -129,13 +129,24 @@ module _ (ss : List ℕ) (n : ℕ) (all : length ss ≡ n) (below : (i s : ℕ) 
               near (suc i) at = below i q at
 
 -- one number more
-pub turn_more : (a n : ℕ) → range_with_len a (suc n) ≡ range_with_len a n ++ (a + n) ∷ []
-turn_more a zero = ap (λ m. m ∷ []) (omega arith)
-turn_more a (suc n) = ap (λ l. a ∷ l) (turn_more (a + 1) n ∙ ap (λ m. range_with_len (a + 1) n ++ m ∷ []) (omega arith))
+turn_from : (a n : ℕ) → range_with_len a (suc n) ≡ range_with_len a n ++ (a + n) ∷ []
+turn_from a zero = ap (λ m. m ∷ []) (omega arith)
+turn_from a (suc n) = ap (λ l. a ∷ l) (turn_from (a + 1) n ∙ ap (λ m. range_with_len (a + 1) n ++ m ∷ []) (omega arith))
+
+pub turn_more : (n m : ℕ) → m ≡ n + 1 → range_with_len 0 m ≡ range_with_len 0 n ++ n ∷ []
+turn_more n m is =
+    ap (λ k. range_with_len 0 k) (let same : m ≡ suc n = omega (arith, is) in same)
+    ∙ (turn_from 0 n ∙ ap (λ k. range_with_len 0 n ++ k ∷ []) (let same : 0 + n ≡ n = omega arith in same))
 
 -- one slot more that is renamed
-pub renamed_more : (f : ℕ → ℕ) (ss : List ℕ) (i d : ℕ) → i < length ss
-    → slice_set (map f (take i ss) ++ drop i ss) i (f (get_or (map f (take i ss) ++ drop i ss) i d)) ≡ map f (take (i + 1) ss) ++ drop (i + 1) ss
-renamed_more f [] i d within = absurd (omega arith)
-renamed_more f (s ∷ ss) zero d within = refl
-renamed_more f (s ∷ ss) (suc i) d within = ap (λ l. f s ∷ l) (renamed_more f ss i d (omega arith))
+renamed_next : (f : ℕ → ℕ) (ss : List ℕ) (i d : ℕ) → i < length ss
+    → slice_set (map f (take i ss) ++ drop i ss) i (f (get_or (map f (take i ss) ++ drop i ss) i d)) ≡ map f (take (suc i) ss) ++ drop (suc i) ss
+renamed_next f [] i d within = absurd (omega arith)
+renamed_next f (s ∷ ss) zero d within = refl
+renamed_next f (s ∷ ss) (suc i) d within = ap (λ l. f s ∷ l) (renamed_next f ss i d (omega arith))
+
+pub renamed_more : (f : ℕ → ℕ) (ss now : List ℕ) (i d v : ℕ) → i < length ss → now ≡ map f (take i ss) ++ drop i ss → v ≡ f (get_or now i d)
+    → slice_set now i v ≡ map f (take (i + 1) ss) ++ drop (i + 1) ss
+renamed_more f ss now i d v within are is =
+    ap (λ x. slice_set now i x) is ∙ (ap (λ l. slice_set l i (f (get_or l i d))) are
+    ∙ (renamed_next f ss i d within ∙ ap (λ n. map f (take n ss) ++ drop n ss) (let same : suc i ≡ i + 1 = omega arith in same)))
