@@ -251,11 +251,7 @@ pub(crate) fn tree_sources<L: Ledger>(
 }
 
 /// The sources with the trees that are made from them.
-fn joined(
-    alloc: Global,
-    document: &Document,
-    sources: TreeSources,
-) -> Result<Prepared, AllocError>
+fn joined(alloc: Global, document: &Document, sources: TreeSources) -> Result<Prepared, AllocError>
     requires compilable { IsCompilable (document_tree document.now) }
     requires sources { AreTreeSources (document_tree document.now) sources }
     ensures { IfOk result (IsPrepared (document_tree document.now)) }
