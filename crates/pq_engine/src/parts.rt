@@ -15,7 +15,7 @@ ghost use Rattle.pq_engine.specs.Sums.{AwaitsPart, AwaitsRemoval};
 use crate::diagrams::{with_part, without_part};
 use crate::kept::Kept;
 use crate::named::{insert_back, place_of, put_at, put_back, remove_at};
-use crate::renewal::{Renewed, renewed};
+use crate::renewal::{Renewed, renew};
 use pq_compile::{CompileFault, Document, few_values};
 use pq_edit::edited_documents_are_lawful;
 use pq_io::Steps;
@@ -51,7 +51,7 @@ fn summed(
     ensures change { IfOk result (IsPartsChange (document_tree document.now) kept.now.install) }
     ensures cause { IfErr result (IsCompileFault (document_tree document.now)) }
 {
-    let renewed = match renewed(
+    let renewed = match renew(
         alloc,
         document,
         forward,

@@ -11,7 +11,7 @@ ghost use Rattle.pq_engine.specs.Engine.{IsEngine, engine_of};
 
 use crate::kept::Kept;
 use crate::named::{insert_back, place_of, put_at, put_back, remove_at};
-use crate::renewal::{Renewed, renewed};
+use crate::renewal::{Renewed, renew};
 use pq_classes::QueryClasses;
 use pq_compile::{CompileFault, Document, classified, few_values};
 use pq_edit::edited_documents_are_lawful;
@@ -49,7 +49,7 @@ fn queries_changed<L: Ledger>(
         Ok(told) => told,
         Err(fault) => return Err(CompileFault::of_prepare(fault)),
     };
-    match renewed(
+    match renew(
         alloc,
         document,
         &kept.forward,

@@ -23,7 +23,7 @@ pub(crate) struct Renewed {
 }
 
 /// The install of a document after a change, and the messages that turn the tables of the old install into its tables.
-pub(crate) fn renewed(
+pub(crate) fn renew(
     alloc: Global,
     document: &Document,
     forward: &Store<WriteSet>,
