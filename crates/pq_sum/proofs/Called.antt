@@ -1,18 +1,14 @@
 -- What the calls on the cells of a sum ask and give.
-use Rattle.std.proofs.Common.{ℕ, ◌+◌, ◌*◌, ◌^◌, ◌<◌, ◌≤◌, ◌≡◌, ◌∙◌, List, [], ◌∷◌, ◌++◌, take, length, get_or, replicate, refl, sym, ap, subst, arith}
+use Rattle.std.proofs.Common.{ℕ, ◌≡◌, ◌∙◌, List, [], ◌∷◌, ◌++◌, take, length, replicate, refl, sym, ap, subst}
 use Rattle.std.proofs.Math.Seq.{take-append_seam}
-use Rattle.std.specs.Prelude.{All}
 use Rattle.pq_fields.specs.Writes.{Written}
 use Rattle.pq_model.specs.Topology.{Topology}
-use Rattle.pq_policy.specs.Policy.{PolicyTree}
-use Rattle.pq_store.specs.Compaction.{IsCompaction}
 use Rattle.pq_store.specs.Store.{Keeps}
 use Rattle.pq_store.specs.Tree.{Tree}
 use Rattle.pq_sum.specs.Cells.{IsOpened, IsPut, MayOpen, MayPut}
-use Rattle.pq_sum.specs.Sum.{GivesNone, HasLeaf, IsChanged, IsFilled, IsSumTree, MayChange, MayFill}
+use Rattle.pq_sum.specs.Sum.{GivesNone, IsChanged, IsFilled, IsSumTree, MayChange, MayFill}
 use Rattle.pq_sum.proofs.Filling.{none_filled, parts_still}
-use Rattle.pq_sum.proofs.Moving.{cells_within, put_change, put_sum, tree_moved}
-use Rattle.pq_sum.proofs.Trees.{root_of, some_cell}
+use Rattle.pq_sum.proofs.Moving.{put_change, put_sum}
 
 abbrev Trees : Type 0
 Trees = List (Tree (List Written))

@@ -1,5 +1,5 @@
 -- A leaf put into a tree, and into one of two halves.
-use Rattle.std.proofs.Common.{ℕ, zero, suc, ◌+◌, ◌*◌, ◌^◌, ◌/◌, ◌-◌, ◌<◌, ◌≤◌, ◌≡◌, ◌∙◌, List, [], ◌∷◌, ◌++◌, take, drop, length, length-append, get_or, inl, inr, refl, sym, ap, subst, arith}
+use Rattle.std.proofs.Common.{ℕ, zero, suc, ◌+◌, ◌^◌, ◌/◌, ◌<◌, ◌≤◌, ◌≡◌, List, [], ◌∷◌, ◌++◌, take, drop, length, length-append, get_or, inl, inr, refl, sym, ap, subst, arith}
 use Rattle.std.specs.Prelude.{◌⊎◌, slice_set}
 use Rattle.std.proofs.Math.Nat.{pow-le-pow_right}
 use Rattle.std.proofs.lemmas.List.{append-nil, drop_all, length-drop, length-take, take-append-drop}
@@ -138,15 +138,10 @@ module _ (old mid : Trees) (front back new_front new_back : List ℕ) (slot leaf
   changed_may_join x y at_x at_y =
       roots_may_join may.topology mid may.height new_front new_back (replaced slot may.new may.parts) x y at_x at_y both_changed may.change.fits
 
-  -- there is a root of each half
+  -- there is a root of the first half
   pub some_front : 0 < length new_front
   some_front =
       let some = some_cell may.topology mid may.height new_front (take (2 ^ may.height) (replaced slot may.new may.parts)) both_changed.first in
-      omega (arith, some)
-
-  pub some_back : 0 < length new_back
-  some_back =
-      let some = some_cell may.topology mid may.height new_back (drop (2 ^ may.height) (replaced slot may.new may.parts)) both_changed.behind in
       omega (arith, some)
 
 -- halves and the union of their roots are a tree

@@ -1,5 +1,5 @@
 -- One item of a list, put in place of another, or taken out.
-use Rattle.std.proofs.Common.{ℕ, zero, suc, ◌+◌, ◌-◌, ◌<◌, ◌≤◌, ◌≡◌, ◌≢◌, ◌∙◌, List, [], ◌∷◌, ◌++◌, take, drop, length, refl, sym, ap, subst, Some, arith}
+use Rattle.std.proofs.Common.{ℕ, zero, suc, ◌-◌, ◌<◌, ◌≤◌, ◌≡◌, ◌≢◌, ◌∙◌, List, [], ◌∷◌, ◌++◌, take, drop, length, refl, sym, ap, subst, Some, arith}
 use Rattle.std.specs.Prelude.{slice_get}
 use Rattle.std.proofs.lemmas.List.{length-take}
 use Rattle.std.proofs.lemmas.Option.{same_Some}
@@ -28,7 +28,7 @@ module _ {X : Type 0} where
   put_elsewhere (z ∷ xs) (suc i) (suc s) x y other is = put_elsewhere xs i s x y (λ same. other (ap (λ n. suc n) same)) is
 
   -- an item of a front
-  pub taken_item : (xs : List X) (n s : ℕ) (y : X) → s < n → slice_get xs s ≡ Some y → slice_get (take n xs) s ≡ Some y
+  taken_item : (xs : List X) (n s : ℕ) (y : X) → s < n → slice_get xs s ≡ Some y → slice_get (take n xs) s ≡ Some y
   taken_item [] n s y within is = absurd cc
   taken_item (x ∷ xs) zero s y within is = absurd (omega arith)
   taken_item (x ∷ xs) (suc n) zero y within is = is

@@ -1,12 +1,11 @@
 -- The leaf in a slot.
-use Rattle.std.proofs.Common.{ℕ, zero, suc, ◌+◌, ◌*◌, ◌^◌, ◌/◌, ◌-◌, ◌<◌, ◌≤◌, ◌≡◌, ◌∙◌, List, [], ◌∷◌, ◌++◌, take, drop, length, get_or, refl, sym, ap, subst, arith}
+use Rattle.std.proofs.Common.{ℕ, zero, suc, ◌+◌, ◌^◌, ◌/◌, ◌-◌, ◌<◌, ◌≤◌, ◌≡◌, List, [], ◌∷◌, take, drop, length, get_or, refl, sym, ap, subst, arith}
 use Rattle.std.proofs.lemmas.List.{length-drop, length-take}
 use Rattle.pq_fields.specs.Writes.{Written}
 use Rattle.pq_model.specs.Topology.{Topology}
 use Rattle.pq_policy.specs.Policy.{PolicyTree}
 use Rattle.pq_store.specs.Tree.{Tree}
 use Rattle.pq_sum.specs.Sum.{AreHalves, HasLeaf, IsLeaf, IsSumTree, UnitesParts}
-use Rattle.pq_sum.proofs.Replaced.{take_none}
 use Rattle.pq_sum.proofs.Trees.{cells_of, double, halves_of, root_of, some_slots}
 
 module _ {X : Type 0} where

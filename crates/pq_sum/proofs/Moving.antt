@@ -1,22 +1,20 @@
 -- A sum in another store, and parts taken out.
-use Rattle.std.proofs.Common.{ℕ, zero, suc, ◌+◌, ◌*◌, ◌^◌, ◌-◌, ◌<◌, ◌≤◌, ◌≡◌, ◌∙◌, List, [], ◌∷◌, ◌++◌, take, drop, length, refl, sym, ap, subst, Some, arith}
+use Rattle.std.proofs.Common.{ℕ, zero, suc, ◌^◌, ◌-◌, ◌<◌, ◌≡◌, ◌∙◌, List, [], ◌∷◌, ◌++◌, take, drop, length, refl, sym, ap, subst, arith}
 use Rattle.std.specs.Prelude.{All, slice_get}
 use Rattle.std.specs.List.{AllZip}
-use Rattle.std.proofs.lemmas.List.{append-nil, drop_all, length-append, length-drop, length-take, take-append-drop}
+use Rattle.std.proofs.lemmas.List.{append-nil, drop_all, length-drop, take-append-drop}
 use Rattle.std.proofs.lemmas.List.Elements.{All-cons, All-head, All-nil, All-tail}
 use Rattle.pq_fields.specs.Writes.{Written}
 use Rattle.pq_model.specs.Topology.{Topology}
 use Rattle.pq_policy.specs.Policy.{PolicyTree}
-use Rattle.pq_store.specs.Compaction.{IsCompaction}
-use Rattle.pq_store.specs.Store.{HasAt, Keeps}
+use Rattle.pq_store.specs.Store.{Keeps}
 use Rattle.pq_store.specs.Tree.{Tree}
 use Rattle.pq_rewrite.proofs.Standing.{has_still, has_within}
-use Rattle.pq_meaning.specs.Parts.{FitAsParts, IsUnionOfParts}
-use Rattle.pq_sum.specs.Cells.{IsPuttable, IsRemovable, removed}
-use Rattle.pq_sum.specs.Sum.{GivesNone, IsChange, IsSumOf, IsSumTree, MayChange, UnitesParts, replaced}
+use Rattle.pq_meaning.specs.Parts.{IsUnionOfParts}
+use Rattle.pq_sum.specs.Cells.{IsPuttable, removed}
+use Rattle.pq_sum.specs.Sum.{IsChange, IsSumTree, UnitesParts, replaced}
 use Rattle.pq_sum.proofs.Replaced.{take_before}
 use Rattle.pq_sum.proofs.Trees.{tree_still}
-use Rattle.pq_sum.proofs.Unions.{halves_fit, none_unites}
 
 abbrev Trees : Type 0
 Trees = List (Tree (List Written))

@@ -104,11 +104,6 @@ module _ {X : Type 0} (slotted placed : List X) (slots : List ℕ) (are : ArePla
       (place.0, item.1 ∙ (sym item.2 ∙ at))
 
   -- so what holds of all, or of some, in one order does in the other
-  pub all_placed : (P : X → Type 0) → All P slotted → All P placed
-  all_placed P each k d within =
-      let slot = item_slotted k (get_or placed k d) (slice_get-get_or placed k d within) in
-      subst P (get_or_from_slice_get slotted slot.0 (get_or placed k d) d slot.1) (each slot.0 d (slice_get_within slotted slot.0 (get_or placed k d) slot.1))
-
   pub all_slotted : (P : X → Type 0) → All P placed → All P slotted
   all_slotted P each k d within =
       let place = item_placed k (get_or slotted k d) (slice_get-get_or slotted k d within) in
@@ -128,7 +123,7 @@ module _ {X : Type 0} (slotted placed : List X) (slots : List ℕ) (are : ArePla
     pub slot_within : slot < length slotted
     slot_within = slots_below place slot at
 
-    pub place_within : place < length placed
+    place_within : place < length placed
     place_within = let item = zip_item Stands placed slots place slot are.each at in slice_get_within placed place item.0 item.1
 
     -- the item of a place stands in its slot
@@ -168,13 +163,13 @@ module _ {X : Type 0} (slotted placed : List X) (slots : List ℕ) (are : ArePla
         moved : slot ≤ last → (y : X) (s : ℕ) → Left y s → slice_get (removed slot slotted) (renamed last slot s) ≡ Some y
         moved within y s (other, is) = elim (eqb_tells s last) [
           | inl same ↦
-            let before : slot < last = let near = λ (e : slot ≡ last). other (same.1 ∙ sym e) in omega (arith, within, near) in
-            subst (λ t. slice_get (removed slot slotted) t ≡ Some y) (sym (renamed_last last slot s same.1))
-            (removed_here slotted slot last all within before y (subst (λ t. slice_get slotted t ≡ Some y) same.1 is))
+              let before : slot < last = let near = λ (e : slot ≡ last). other (same.1 ∙ sym e) in omega (arith, within, near) in
+              subst (λ t. slice_get (removed slot slotted) t ≡ Some y) (sym (renamed_last last slot s same.1))
+              (removed_here slotted slot last all within before y (subst (λ t. slice_get slotted t ≡ Some y) same.1 is))
           | inr differs ↦
-            let less = slice_get_within slotted s y is in
-            subst (λ t. slice_get (removed slot slotted) t ≡ Some y) (sym (renamed_other last slot s differs.1))
-            (removed_elsewhere slotted slot last all within s y other (let unequal = differs.1 in omega (arith, less, all, unequal)) is)
+              let less = slice_get_within slotted s y is in
+              subst (λ t. slice_get (removed slot slotted) t ≡ Some y) (sym (renamed_other last slot s differs.1))
+              (removed_elsewhere slotted slot last all within s y other (let unequal = differs.1 in omega (arith, less, all, unequal)) is)
         ]
 
   -- an item behind the last
@@ -204,7 +199,11 @@ module _ {X : Type 0} (slotted placed : List X) (slots : List ℕ) (are : ArePla
 module _ {X : Type 0} where
   in_turn : (front : List X) (xs : List X) (n : ℕ) → length front ≡ n → AllZip (λ x s. slice_get (front ++ xs) s ≡ Some x) xs (range_with_len n (length xs))
   in_turn front [] n is = tt
-  in_turn front (x ∷ xs) n is = (here front n is, subst (λ l. AllZip (λ y s. slice_get l s ≡ Some y) xs (range_with_len (n + 1) (length xs))) (joined front) (in_turn (front ++ x ∷ []) xs (n + 1) (let long = length-append front (x ∷ []) in omega (arith, long, is))))
+  in_turn front (x ∷ xs) n is = (
+    here front n is,
+    subst (λ l. AllZip (λ y s. slice_get l s ≡ Some y) xs (range_with_len (n + 1) (length xs))) (joined front)
+        (in_turn (front ++ x ∷ []) xs (n + 1) (let long = length-append front (x ∷ []) in omega (arith, long, is))),
+  )
     where
       here : (ys : List X) (m : ℕ) → length ys ≡ m → slice_get (ys ++ x ∷ xs) m ≡ Some x
       here [] zero all = refl

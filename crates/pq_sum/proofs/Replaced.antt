@@ -1,5 +1,5 @@
 -- A list with an item replaced, and its halves.
-use Rattle.std.proofs.Common.{ℕ, zero, suc, ◌+◌, ◌<◌, ◌≤◌, ◌≡◌, ◌∙◌, List, [], ◌∷◌, ◌++◌, take, drop, length, refl, sym, ap, subst, arith}
+use Rattle.std.proofs.Common.{ℕ, zero, suc, ◌+◌, ◌<◌, ◌≤◌, ◌≡◌, List, [], ◌∷◌, take, drop, length, refl, sym, ap, arith}
 use Rattle.pq_sum.specs.Sum.{replaced}
 
 module _ {X : Type 0} where

@@ -1,5 +1,5 @@
 -- What the calls on a sum ask and give.
-use Rattle.std.proofs.Common.{ℕ, suc, ◌+◌, ◌*◌, ◌^◌, ◌<◌, ◌≤◌, ◌≡◌, ◌∙◌, List, [], ◌∷◌, ◌++◌, length, get_or, map, inl, inr, refl, sym, ap, subst, Some, arith}
+use Rattle.std.proofs.Common.{ℕ, suc, ◌+◌, ◌<◌, ◌≤◌, ◌≡◌, ◌∙◌, List, [], ◌∷◌, length, get_or, map, inl, inr, sym, ap, subst, Some, arith}
 use Rattle.std.specs.Prelude.{All, slice_get}
 use Rattle.std.specs.List.{range_with_len, remove}
 use Rattle.std.proofs.Math.Nat.{eq-or-lt_of_le}
@@ -16,11 +16,12 @@ use Rattle.pq_forward.specs.Forward.{IsPolicyWithin}
 use Rattle.pq_meaning.specs.Parts.{FitAsParts, IsUnionOfParts, any_yields}
 use Rattle.pq_sum.specs.Sum.{HasLeaf, IsLeaf, UnitesParts, replaced}
 use Rattle.pq_sum.specs.Cells.{CountsPut, CountsRemoval, IsOpened, IsPut, IsPuttable, IsRemovable, IsRemoved, MayPut, MayRemove, removed}
-use Rattle.pq_sum.specs.Places.{ArePlaced, IsSlotFor, IsSummed, Sum, renamed}
-use Rattle.pq_sum.specs.Calls.{CountsPutAt, CountsRemovalAt, HasPartAt, IsOpenedAt, IsPartAt, IsPuttableAt, IsPutAt, IsRemovableAt, IsRemovedAt, IsSameSum, IsSum, IsSumIn, IsTotal, MayPutAt, MayRemoveAt}
+use Rattle.pq_sum.specs.Places.{ArePlaced, IsSlotFor, Sum, renamed}
+use Rattle.pq_sum.specs.Calls.{HasPartAt, IsOpenedAt, IsPartAt, IsSameSum, IsSumIn, IsTotal}
+use Rattle.pq_sum.specs.Calls.{CountsPutAt, CountsRemovalAt, IsPuttableAt, IsPutAt, IsRemovableAt, IsRemovedAt, MayPutAt, MayRemoveAt}
 use Rattle.pq_sum.proofs.Moving.{cells_within, tree_moved}
 use Rattle.pq_sum.proofs.Placed.{all_slotted, any_placed, any_slotted, placed_in_turn, placed_more, placed_put, placed_taken, same_item, slot_within, slots_length}
-use Rattle.pq_sum.proofs.Trees.{parts_of, root_of, some_cell}
+use Rattle.pq_sum.proofs.Trees.{parts_of, root_of}
 
 abbrev Trees : Type 0
 Trees = List (Tree (List Written))
@@ -85,16 +86,17 @@ module _ (s : Sum) (place : ℕ) where
         (leaf T ts 10 is.slotted is.sum (slot_within is.slotted ps s.slots is.placed place slot at))
 
 module _ (s : Sum) where
-  pub some_root : IsSum s → 0 < length s.cells
-  some_root sum =
-      let is = sum.summed in
-      let some = some_cell sum.topology sum.trees 10 s.cells is.slotted is.sum in
-      omega (arith, some)
-
   pub is_total : (root : ℕ) → root ≡ get_or s.cells 0 root → IsTotal s root
   is_total root at T ts ps is = united_placed T is.slotted ps s.slots is.placed ts root (root_of T ts 10 s.cells is.slotted root at is.sum)
 
 -- A part that is put.
+
+pub put_within : (old : Trees) (s : Sum) (place node : ℕ) → MayPutAt old s place node → place ≤ length s.slots
+put_within old s place node may =
+    let is = may.put.summed in
+    let long = slots_length is.slotted may.parts s.slots is.placed in
+    let within = may.put.within in
+    omega (arith, long, within)
 
 module _ (old : Trees) (s : Sum) (place node slot : ℕ) (slots : List ℕ) (for : IsSlotFor s.slots place slots slot) where
   module _ (T : Topology) (ps : List PolicyTree) (p : PolicyTree) (put : IsPuttableAt T old s place node ps p) where
@@ -111,24 +113,24 @@ module _ (old : Trees) (s : Sum) (place node slot : ℕ) (slots : List ℕ) (for
         let all = is.placed.all in
         elim (eq-or-lt_of_le put.within) [
           | inl last ↦
-            let next = for.next (omega (arith, last, long)) in
-            let same = next.1 in
-            let room = put.room in
-            record {
-              placed = subst (λ n. ArePlaced (replaced n (p ∷ []) is.slotted) (replaced place (p ∷ []) ps) slots) (sym same)
-                  (subst (λ l. ArePlaced (replaced place (p ∷ []) is.slotted) (replaced place (p ∷ []) ps) l) (sym next.0) (placed_more is.slotted ps s.slots is.placed place last p));
-              within = omega (arith, same, last, all);
-              room = omega (arith, same, room);
-            }
+              let next = for.next (omega (arith, last, long)) in
+              let same = next.1 in
+              let room = put.room in
+              record {
+                placed = subst (λ n. ArePlaced (replaced n (p ∷ []) is.slotted) (replaced place (p ∷ []) ps) slots) (sym same)
+                    (subst (λ l. ArePlaced (replaced place (p ∷ []) is.slotted) (replaced place (p ∷ []) ps) l) (sym next.0) (placed_more is.slotted ps s.slots is.placed place last p));
+                within = omega (arith, same, last, all);
+                room = omega (arith, same, room);
+              }
           | inr before ↦
-            let held = for.held (omega (arith, before, long)) in
-            let below = slot_within is.slotted ps s.slots is.placed place slot held.1 in
-            let few : length is.slotted ≤ 1024 = parts_of T old 10 s.cells is.slotted is.sum in
-            record {
-              placed = subst (λ l. ArePlaced (replaced slot (p ∷ []) is.slotted) (replaced place (p ∷ []) ps) l) (sym held.0) (placed_put is.slotted ps s.slots is.placed place slot held.1 p);
-              within = omega (arith, below);
-              room = omega (arith, below, few);
-            }
+              let held = for.held (omega (arith, before, long)) in
+              let below = slot_within is.slotted ps s.slots is.placed place slot held.1 in
+              let few : length is.slotted ≤ 1024 = parts_of T old 10 s.cells is.slotted is.sum in
+              record {
+                placed = subst (λ l. ArePlaced (replaced slot (p ∷ []) is.slotted) (replaced place (p ∷ []) ps) l) (sym held.0) (placed_put is.slotted ps s.slots is.placed place slot held.1 p);
+                within = omega (arith, below);
+                room = omega (arith, below, few);
+              }
         ]
 
     puttable : IsPuttable T old s.cells slot node put.summed.slotted p
@@ -162,6 +164,13 @@ module _ (old : Trees) (s : Sum) (place node slot : ℕ) (slots : List ℕ) (for
       counts T put.summed.slotted p (puttable T ps p put) k (omega (arith, all, few)) (omega (arith, then_all, more))
 
 -- A part that is taken out.
+
+pub removal_within : (old : Trees) (s : Sum) (place : ℕ) → MayRemoveAt old s place → place < length s.slots
+removal_within old s place may =
+    let is = may.remove.summed in
+    let long = slots_length is.slotted may.parts s.slots is.placed in
+    let within = may.remove.within in
+    omega (arith, long, within)
 
 module _ (old : Trees) (s : Sum) (place slot last : ℕ) (slot_is : slot ≡ get_or s.slots place slot) (last_is : last + 1 ≡ length s.slots) where
   module _ (T : Topology) (ps : List PolicyTree) (may : IsRemovableAt T old s place ps) where

@@ -1,17 +1,16 @@
 -- Trees of sums, and their halves.
-use Rattle.std.proofs.Common.{ℕ, zero, suc, ◌+◌, ◌*◌, ◌^◌, ◌/◌, ◌-◌, ◌<◌, ◌≤◌, ◌≡◌, ◌∙◌, List, [], ◌∷◌, ◌++◌, take, drop, length, length-append, get_or, refl, sym, ap, subst, Some, arith}
-use Rattle.std.specs.List.{AllZip}
-use Rattle.std.proofs.lemmas.List.{length-take-le, length-drop, take-append-le, take_all, drop-append-le, drop_all}
+use Rattle.std.proofs.Common.{ℕ, zero, suc, ◌+◌, ◌*◌, ◌^◌, ◌/◌, ◌≤◌, ◌≡◌, ◌∙◌, List, [], ◌∷◌, ◌++◌, take, drop, length, length-append, get_or, refl, sym, ap, subst, arith}
+use Rattle.std.proofs.lemmas.List.{length-drop}
 use Rattle.std.proofs.Math.Nat.{pow-succ'}
 use Rattle.std.proofs.Math.Seq.{take-append_seam}
 use Rattle.pq_fields.specs.Writes.{Written}
 use Rattle.pq_model.specs.Topology.{Topology}
 use Rattle.pq_policy.specs.Policy.{PolicyTree}
-use Rattle.pq_store.specs.Store.{HasAt, Keeps}
+use Rattle.pq_store.specs.Store.{Keeps}
 use Rattle.pq_store.specs.Tree.{Tree}
 use Rattle.pq_rewrite.proofs.Standing.{has_still}
-use Rattle.pq_meaning.specs.Parts.{FitAsParts, IsUnionOfParts}
-use Rattle.pq_sum.specs.Sum.{AreHalves, AreParts, IsFork, IsSlot, IsSumTree, UnitesParts}
+use Rattle.pq_meaning.specs.Parts.{IsUnionOfParts}
+use Rattle.pq_sum.specs.Sum.{AreHalves, IsSumTree, UnitesParts}
 
 -- a tree has twice the slots of its halves
 pub double : (h : ℕ) → 2 ^ suc h ≡ 2 * 2 ^ h

@@ -1,19 +1,16 @@
 -- Unions of parts, and what gives nothing.
-use Rattle.std.proofs.Common.{ℕ, ◌<◌, ◌≡◌, ◌∙◌, List, [], ◌∷◌, ◌++◌, take, drop, length, inl, inr, sym, subst, Some}
-use Rattle.std.specs.Prelude.{◌⊎◌, slice_get}
-use Rattle.std.specs.List.{All}
+use Rattle.std.proofs.Common.{ℕ, ◌<◌, ◌≡◌, List, [], ◌++◌, take, drop, length, inl, inr, sym, subst}
+use Rattle.std.specs.Prelude.{◌⊎◌}
 use Rattle.std.proofs.lemmas.List.{take-append-drop}
-use Rattle.pq_fields.specs.Packet.{Numbers, Fit}
 use Rattle.pq_fields.specs.Writes.{Written, on}
 use Rattle.pq_model.specs.Topology.{Topology}
 use Rattle.pq_policy.specs.Policy.{PolicyTree, yields}
-use Rattle.pq_store.specs.Tree.{Tree, value}
+use Rattle.pq_store.specs.Tree.{Tree}
 use Rattle.pq_store.specs.Tree.Tree.{Tip}
-use Rattle.pq_store.specs.Store.{HasAt, Keeps}
 use Rattle.pq_store.proofs.RoomLemmas.{room_for}
 use Rattle.pq_apply.specs.Product.{FitTogetherAt}
 use Rattle.pq_rewrite.specs.Calls.{IsIdleFreeAt, IsUnion, UnitesAt}
-use Rattle.pq_rewrite.specs.Rewriting.{Gives, IsCanonicalRewriting, IsGiving, IsIdleFree}
+use Rattle.pq_rewrite.specs.Rewriting.{Gives, IsCanonicalRewriting, IsIdleFree}
 use Rattle.pq_rewrite.proofs.Halves.{all_halves, any_halves}
 use Rattle.pq_rewrite.proofs.Sets.{any_none, given_none}
 use Rattle.pq_rewrite.proofs.Standing.{has_there, has_within}

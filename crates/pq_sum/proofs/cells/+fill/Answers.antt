@@ -1,8 +1,7 @@
-use Rattle.std.proofs.Common.{ℕ, ◌+◌, ◌*◌, ◌-◌, ◌/◌, ◌^◌, ◌<◌, ◌≤◌, ◌≡◌, ◌∙◌, List, ◌∷◌, ◌++◌, take, drop, length, sym, ap, arith}
+use Rattle.std.proofs.Common.{◌/◌, ◌≡◌, ◌∙◌, ◌++◌, take, drop, length, ap, arith}
 use Rattle.std.proofs.lemmas.Bool.Decides.{nat_tests}
-use Rattle.pq_sum.specs.Sum.{IsFilled}
 use Rattle.pq_sum.proofs.Changing.{root_set}
-use Rattle.pq_sum.proofs.Filling.{MayFillHalves, filled_front, filled_may_join, filled_none, filled_slot, may_fill_first, may_fill_halves, may_fill_second, whole_filled}
+use Rattle.pq_sum.proofs.Filling.{filled_front, filled_may_join, filled_none, filled_slot, may_fill_first, may_fill_halves, may_fill_second, whole_filled}
 use Rattle.pq_sum.proofs.cells.+fill.Goals as goal
 
 pub returns-then-is_empty-clause-filled : goal.returns-then-is_empty-clause-filled

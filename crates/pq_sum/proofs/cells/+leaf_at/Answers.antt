@@ -1,4 +1,4 @@
-use Rattle.std.proofs.Common.{ℕ, ◌+◌, ◌-◌, ◌/◌, ◌<◌, ◌≤◌, ◌≡◌, ◌∙◌, List, take, drop, length, refl, ap, arith}
+use Rattle.std.proofs.Common.{ℕ, ◌+◌, ◌-◌, ◌/◌, ◌≡◌, ◌∙◌, List, take, drop, length, refl, ap, arith}
 use Rattle.std.proofs.lemmas.List.{length-drop, take_all}
 use Rattle.pq_sum.proofs.Leaves.{first_leaf, halves_have_leaf, only_leaf, second_leaf, some_leaf_cell}
 use Rattle.pq_sum.proofs.cells.+leaf_at.Goals as goal

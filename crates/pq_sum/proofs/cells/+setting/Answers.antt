@@ -1,6 +1,6 @@
-use Rattle.std.proofs.Common.{ℕ, ◌+◌, ◌*◌, ◌-◌, ◌/◌, ◌^◌, ◌<◌, ◌≤◌, ◌≡◌, ◌∙◌, List, ◌∷◌, ◌++◌, take, drop, length, refl, sym, ap, arith}
+use Rattle.std.proofs.Common.{◌+◌, ◌*◌, ◌/◌, ◌≡◌, ◌∙◌, ◌++◌, take, drop, length, ap, arith}
 use Rattle.std.proofs.lemmas.Result.{on_ok_weaker}
-use Rattle.pq_sum.proofs.Changing.{changed_may_join, changed_slot, first_changed, first_counted, first_may_change, half_may_change, half_slots, halves_counted, root_set, second_changed, second_counted, second_may_change, some_back, some_front, whole_changed, whole_counted}
+use Rattle.pq_sum.proofs.Changing.{changed_may_join, changed_slot, first_changed, first_counted, first_may_change, half_may_change, half_slots, halves_counted, root_set, second_changed, second_counted, second_may_change, some_front, whole_changed, whole_counted}
 use Rattle.pq_sum.proofs.Trees.{some_cell}
 use Rattle.pq_sum.proofs.cells.+setting.Goals as goal
 

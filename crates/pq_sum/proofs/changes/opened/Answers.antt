@@ -1,4 +1,4 @@
-use Rattle.std.proofs.Common.{◌≡◌, ◌∙◌, sym, subst}
+use Rattle.std.proofs.Common.{◌∙◌, sym, subst}
 use Rattle.pq_sum.specs.Sum.{IsSumTree}
 use Rattle.pq_sum.proofs.Called.{is_opened, lent, may_fill}
 use Rattle.pq_sum.proofs.changes.opened.Goals as goal

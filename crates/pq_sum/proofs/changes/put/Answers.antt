@@ -1,6 +1,6 @@
 use Rattle.pq_sum.proofs.Called.{is_put, put_may_change}
 use Rattle.pq_sum.proofs.Moving.{put_change, put_sum}
-use Rattle.std.proofs.Common.{List, [], ◌∷◌}
+use Rattle.std.proofs.Common.{[], ◌∷◌}
 use Rattle.pq_sum.proofs.changes.put.Goals as goal
 
 pub set-requires-clause-change : goal.set-requires-clause-change

@@ -1,4 +1,4 @@
-use Rattle.std.proofs.Common.{◌+◌, ◌*◌, ◌<◌, ◌≤◌, inl, inr, arith}
+use Rattle.std.proofs.Common.{inl, inr, arith}
 use Rattle.std.proofs.Math.Nat.{eq-or-lt_of_le}
 use Rattle.pq_sum.proofs.Removing.{has_last, last_counted, may_move_last, may_take_last, moved_counted, moved_last, taken_last}
 use Rattle.pq_sum.proofs.changes.remove.Goals as goal

@@ -1,7 +1,6 @@
-use Rattle.std.proofs.Common.{ℕ, ◌≡◌, ◌∙◌, List, [], sym, subst}
+use Rattle.std.proofs.Common.{◌∙◌, sym, subst}
 use Rattle.std.proofs.lemmas.Bool.{eqb-true, eqb-false}
-use Rattle.pq_policy.specs.Policy.{PolicyTree}
-use Rattle.pq_sum.specs.Sum.{GivesNone, UnitesParts}
+use Rattle.pq_sum.specs.Sum.{GivesNone}
 use Rattle.pq_sum.proofs.Unions.{back_idle_free, back_within, front_idle_free, front_within, halves_together, none_is, united_at, united_with_none}
 use Rattle.pq_sum.proofs.joined.joined.Goals as goal
 

@@ -1,4 +1,4 @@
-use Rattle.std.proofs.Common.{◌≡◌, ◌∙◌, ◌++◌, ◌∷◌, [], sym, ap, refl}
+use Rattle.std.proofs.Common.{◌∙◌, ◌++◌, ◌∷◌, [], sym, ap, refl}
 use Rattle.pq_sum.proofs.Differing.{turn_more}
 use Rattle.pq_sum.proofs.slots.first_slots.Goals as goal
 

@@ -1,4 +1,3 @@
-use Rattle.std.proofs.Common.{◌≡◌, ◌<◌, length, arith}
 use Rattle.pq_sum.specs.Places.{renamed}
 use Rattle.pq_sum.proofs.Differing.{renamed_more}
 use Rattle.pq_sum.proofs.slots.rename.Goals as goal
