@@ -1,7 +1,6 @@
 -- How the logic keeps engines.
-use Rattle.std.specs.Prelude.{◌≡◌, ℕ, List, refl}
+use Rattle.std.specs.Prelude.{◌≡◌, ℕ, zero, suc, List, [], refl}
 use Rattle.std.specs.Coded.{Coded, code_by, coded×, coded_ℕ, coded_list}
-use Rattle.std.proofs.Common.{ap, ap₂}
 use base.Stored.{Gv, gnil, gcons}
 use Rattle.pq_fields.specs.declared.field.Field.{Field}
 use Rattle.pq_fields.specs.declared.field.Field.TheVariants.{Switch}
@@ -45,16 +44,16 @@ top_parts pred.Some = (6, (Switch, (0, 0)))
 top_parts Negated = (7, (Switch, (0, 0)))
 
 abbrev top_by : ℕ → Field → ℕ → ℕ → PredTop
-top_by 0 f n len = Always
-top_by 1 f n len = Never
-top_by 2 f n len = Equals f n
-top_by 3 f n len = Leads f n len
-top_by 4 f n len = LeadsWide f n len
-top_by 5 f n len = Every
-top_by 6 f n len = pred.Some
+top_by zero f n len = Always
+top_by (suc zero) f n len = Never
+top_by (suc (suc zero)) f n len = Equals f n
+top_by (suc (suc (suc zero))) f n len = Leads f n len
+top_by (suc (suc (suc (suc zero)))) f n len = LeadsWide f n len
+top_by (suc (suc (suc (suc (suc zero))))) f n len = Every
+top_by (suc (suc (suc (suc (suc (suc zero)))))) f n len = pred.Some
 top_by k f n len = Negated
 
-top_again : (t : PredTop) → top_by (top_parts t).0 (top_parts t).1.0 (top_parts t).1.1.0 (top_parts t).1.1.1 ≡ t
+pub top_again : (t : PredTop) → top_by (top_parts t).0 (top_parts t).1.0 (top_parts t).1.1.0 (top_parts t).1.1.1 ≡ t
 top_again Always = refl
 top_again Never = refl
 top_again (Equals f n) = refl
@@ -101,17 +100,17 @@ policy_parts policy.Either = (7, (no_pred, (Switch, 0)))
 policy_parts policy.InTurn = (8, (no_pred, (Switch, 0)))
 
 abbrev policy_by : ℕ → PredTree → Field → ℕ → PolicyTop
-policy_by 0 p f n = Pass
-policy_by 1 p f n = Discard
-policy_by 2 p f n = Spread
-policy_by 3 p f n = Only p
-policy_by 4 p f n = Write f n
-policy_by 5 p f n = Forward n
-policy_by 6 p f n = Choose p
-policy_by 7 p f n = policy.Either
+policy_by zero p f n = Pass
+policy_by (suc zero) p f n = Discard
+policy_by (suc (suc zero)) p f n = Spread
+policy_by (suc (suc (suc zero))) p f n = Only p
+policy_by (suc (suc (suc (suc zero)))) p f n = Write f n
+policy_by (suc (suc (suc (suc (suc zero))))) p f n = Forward n
+policy_by (suc (suc (suc (suc (suc (suc zero)))))) p f n = Choose p
+policy_by (suc (suc (suc (suc (suc (suc (suc zero))))))) p f n = policy.Either
 policy_by k p f n = policy.InTurn
 
-policy_again : (t : PolicyTop) → policy_by (policy_parts t).0 (policy_parts t).1.0 (policy_parts t).1.1.0 (policy_parts t).1.1.1 ≡ t
+pub policy_again : (t : PolicyTop) → policy_by (policy_parts t).0 (policy_parts t).1.0 (policy_parts t).1.1.0 (policy_parts t).1.1.1 ≡ t
 policy_again Pass = refl
 policy_again Discard = refl
 policy_again Spread = refl
@@ -159,17 +158,17 @@ query_parts Other = (7, ((no_pred, no_groups), (no_pred, no_groups)))
 query_parts Repeated = (8, ((no_pred, no_groups), (no_pred, no_groups)))
 
 abbrev query_by : ℕ → PredTree → List Group → PredTree → List Group → QueryTop
-query_by 0 p gs q hs = Enters p gs
-query_by 1 p gs q hs = Leaves p gs
-query_by 2 p gs q hs = Passes p gs q hs
-query_by 3 p gs q hs = Ends p
-query_by 4 p gs q hs = query.InTurn
-query_by 5 p gs q hs = query.Either
-query_by 6 p gs q hs = Both
-query_by 7 p gs q hs = Other
+query_by zero p gs q hs = Enters p gs
+query_by (suc zero) p gs q hs = Leaves p gs
+query_by (suc (suc zero)) p gs q hs = Passes p gs q hs
+query_by (suc (suc (suc zero))) p gs q hs = Ends p
+query_by (suc (suc (suc (suc zero)))) p gs q hs = query.InTurn
+query_by (suc (suc (suc (suc (suc zero))))) p gs q hs = query.Either
+query_by (suc (suc (suc (suc (suc (suc zero)))))) p gs q hs = Both
+query_by (suc (suc (suc (suc (suc (suc (suc zero))))))) p gs q hs = Other
 query_by k p gs q hs = Repeated
 
-query_again : (t : QueryTop) → query_by (query_parts t).0 (query_parts t).1.0.0 (query_parts t).1.0.1 (query_parts t).1.1.0 (query_parts t).1.1.1 ≡ t
+pub query_again : (t : QueryTop) → query_by (query_parts t).0 (query_parts t).1.0.0 (query_parts t).1.0.1 (query_parts t).1.1.0 (query_parts t).1.1.1 ≡ t
 query_again (Enters p gs) = refl
 query_again (Leaves p gs) = refl
 query_again (Passes p gs q hs) = refl

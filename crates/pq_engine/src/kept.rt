@@ -1,3 +1,5 @@
+ghost use Rattle.std.specs.Prelude.{◌≡◌};
+
 use crate::parts::PartsChange;
 use crate::queries::QueriesChange;
 use pq_classes::QueryClasses;
@@ -6,8 +8,6 @@ use pq_model::Message;
 use pq_rewrite::WriteSet;
 use pq_store::Store;
 use pq_sum::Sum;
-
-ghost use Rattle.std.specs.Prelude.{◌≡◌};
 
 /// What an engine keeps besides its document.
 #[derive(Drop)]
