@@ -9,10 +9,13 @@ use Rattle.pq_meaning.specs.Parts.{FitAsParts}
 use Rattle.pq_store.proofs.RoomLemmas.{room_for}
 use Rattle.pq_sum.specs.Cells.{at_place}
 use Rattle.pq_sum.specs.Sum.{replaced}
+use Rattle.pq_compile.specs.declared.preparing.PrepareFault.{PrepareFault}
+use Rattle.pq_compile.specs.declared.preparing.PrepareFault.TheVariants as prepare
+use Rattle.pq_compile.specs.Compiled.{IsCompileFault, prepare_fault}
 use Rattle.pq_compile.specs.Documents.{DocumentTree}
 use Rattle.pq_compile.specs.Lawful.{names_in}
 use Rattle.pq_compile.specs.Names.{Named}
-use Rattle.pq_compile.specs.Prepared.{AreTold, HasFewValues, IsClassified, IsCompilable, parts_in}
+use Rattle.pq_compile.specs.Prepared.{HasFewValues, IsClassified, IsCompilable, IsPrepareFault, parts_in}
 use Rattle.pq_compile.proofs.Values.{room}
 use Rattle.pq_edit.specs.Edits.{EditTree, PartPut, PartRemoved, QueryPut, QueryRemoved, IsNamedIn, edited, put, without}
 use Rattle.pq_engine.specs.declared.kept.Kept.{Kept}
@@ -25,9 +28,15 @@ use Rattle.pq_engine.specs.Sums.{AwaitsPart, AwaitsRemoval}
 use Rattle.pq_engine.proofs.EditedLemmas.{named_within, put_is, without_is}
 use Rattle.pq_engine.proofs.PlacesLemmas.{map_replaced, place_within, put_at_place, removed_long}
 
+pub bodies_long : {A : Type 0} (ns : List (Named A)) → length (map (λ n. n.1) ns) ≡ length ns
+bodies_long {A} ns = length-map ns (λ (n : Named A). n.1)
+
 -- the parts of a document that states few numbers may come together
 pub parts_fit : (d : DocumentTree) → IsCompilable d → HasFewValues d → FitAsParts d.topology (parts_in d)
 parts_fit d can few = room_for (λ ns within. (within.topology, within.policies)) (room d can few)
+
+pub parts_few : (d : DocumentTree) → IsCompilable d → length (parts_in d) ≤ 1024
+parts_few d can = let few = can.lawful.few_parts in let long = bodies_long d.parts in omega (arith, few, long)
 
 topology_stays : (d : DocumentTree) (e : EditTree) → (edited d e).topology ≡ d.topology
 topology_stays d (PartPut p) = refl
@@ -35,8 +44,8 @@ topology_stays d (PartRemoved name) = refl
 topology_stays d (QueryPut q) = refl
 topology_stays d (QueryRemoved name) = refl
 
-pub bodies_long : {A : Type 0} (ns : List (Named A)) → length (map (λ n. n.1) ns) ≡ length ns
-bodies_long {A} ns = length-map ns (λ (n : Named A). n.1)
+pub part_within : (d : DocumentTree) (i : ℕ) → i < length d.parts → i < length (parts_in d)
+part_within d i within = let long = bodies_long d.parts in omega (arith, within, long)
 
 name_place : {A : Type 0} (name : List ℕ) (ns : List (Named A)) → place_in name (names_in ns) ≤ length ns
 name_place {A} name ns =
@@ -141,3 +150,12 @@ module _ (d : DocumentTree) (name : List ℕ) (there : IsNamedIn name d.parts) (
       let long : length (without name d.parts) ≡ length (replaced (place_in name (names_in d.parts)) [] d.parts) = ap length (without_is name d.parts) in
       let steps = counts k (omega (arith, less, long, old)) in
       omega (arith, steps)
+
+-- Faults.
+
+-- a fault of what trees are made from is one of compiling
+pub prepare_cause : (d : DocumentTree) (fault : PrepareFault) → IsPrepareFault d fault → IsCompileFault d (prepare_fault fault)
+prepare_cause d (prepare.ValuesFull field count) is = is
+prepare_cause d (prepare.InstancesFull count) is = is
+prepare_cause d (prepare.TagWidth classes) is = is
+prepare_cause d prepare.Memory is = tt

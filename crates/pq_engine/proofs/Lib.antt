@@ -2,3 +2,4 @@ pub mod PlacesLemmas
 pub mod EditedLemmas
 pub mod EngineLemmas
 pub mod SumsLemmas
+pub mod DocumentLemmas
