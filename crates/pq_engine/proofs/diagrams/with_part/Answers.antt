@@ -21,8 +21,8 @@ returns-in_err-put-clause-steps g c =
     let long = replaced_long c.args.document.now c.in_ok-store.store c.in_ok-store.sum c.args.place copied in
     let before = c.part_diagram.ensures.steps in
     λ k within.
-        let after = c.put.ensures.steps d.topology copied.before copied.part (puttable d c.requires.compilable c.requires.values c.in_ok-store.store c.part_diagram.new.store c.in_ok-store.sum c.args.place c.in_ok-part.part copied c.part_diagram.ensures.keeps c.in_ok-part.ensures.part) k (omega (arith, few, within)) (omega (arith, long, within)) in
-        omega (arith, before, after)
+    let after = c.put.ensures.steps d.topology copied.before copied.part (puttable d c.requires.compilable c.requires.values c.in_ok-store.store c.part_diagram.new.store c.in_ok-store.sum c.args.place c.in_ok-part.part copied c.part_diagram.ensures.keeps c.in_ok-part.ensures.part) k (omega (arith, few, within)) (omega (arith, long, within)) in
+    omega (arith, before, after)
 
 pub returns-clause-sum : goal.returns-clause-sum
 returns-clause-sum g c =
@@ -38,5 +38,5 @@ returns-clause-steps g c =
     let long = replaced_long c.args.document.now c.in_ok-store.store c.in_ok-store.sum c.args.place copied in
     let before = c.part_diagram.ensures.steps in
     λ k within.
-        let after = c.put.ensures.steps d.topology copied.before copied.part (puttable d c.requires.compilable c.requires.values c.in_ok-store.store c.part_diagram.new.store c.in_ok-store.sum c.args.place c.in_ok-part.part copied c.part_diagram.ensures.keeps c.in_ok-part.ensures.part) k (omega (arith, few, within)) (omega (arith, long, within)) in
-        omega (arith, before, after)
+    let after = c.put.ensures.steps d.topology copied.before copied.part (puttable d c.requires.compilable c.requires.values c.in_ok-store.store c.part_diagram.new.store c.in_ok-store.sum c.args.place c.in_ok-part.part copied c.part_diagram.ensures.keeps c.in_ok-part.ensures.part) k (omega (arith, few, within)) (omega (arith, long, within)) in
+    omega (arith, before, after)

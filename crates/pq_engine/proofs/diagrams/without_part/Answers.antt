@@ -16,8 +16,8 @@ returns-in_err-remove-clause-steps g c =
     let copied = removal_copied d c.args.forward.now c.in_ok-store.store c.args.sum.now c.in_ok-store.sum c.args.place c.in_ok-store.ensures.same c.requires.awaits in
     let long = removed_before c.args.document.now c.in_ok-store.store c.in_ok-store.sum c.args.place copied in
     λ k within.
-        let after = c.remove.ensures.steps d.topology copied.before (removable d c.in_ok-store.store c.in_ok-store.sum c.args.place copied) k (omega (arith, long, within)) in
-        omega (arith, after)
+    let after = c.remove.ensures.steps d.topology copied.before (removable d c.in_ok-store.store c.in_ok-store.sum c.args.place copied) k (omega (arith, long, within)) in
+    omega (arith, after)
 
 pub returns-clause-sum : goal.returns-clause-sum
 returns-clause-sum g c =
@@ -31,5 +31,5 @@ returns-clause-steps g c =
     let copied = removal_copied d c.args.forward.now c.in_ok-store.store c.args.sum.now c.in_ok-store.sum c.args.place c.in_ok-store.ensures.same c.requires.awaits in
     let long = removed_before c.args.document.now c.in_ok-store.store c.in_ok-store.sum c.args.place copied in
     λ k within.
-        let after = c.remove.ensures.steps d.topology copied.before (removable d c.in_ok-store.store c.in_ok-store.sum c.args.place copied) k (omega (arith, long, within)) in
-        omega (arith, after)
+    let after = c.remove.ensures.steps d.topology copied.before (removable d c.in_ok-store.store c.in_ok-store.sum c.args.place copied) k (omega (arith, long, within)) in
+    omega (arith, after)
