@@ -3,7 +3,7 @@ mod Items
 mod Differing
 mod Placed
 mod Unions
-mod Trees
+pub mod Trees
 mod Changing
 mod Filling
 mod Leaves

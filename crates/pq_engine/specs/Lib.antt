@@ -1,0 +1,5 @@
+pub mod Places
+pub mod Codes
+pub mod Engine
+pub mod Sums
+pub mod Changes
