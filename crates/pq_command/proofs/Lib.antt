@@ -5,3 +5,4 @@ pub mod Lists
 pub mod Openings
 pub mod SpeakCompletes
 pub mod Turns
+pub mod Readings

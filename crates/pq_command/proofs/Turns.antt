@@ -17,7 +17,7 @@ use Rattle.pq_command.specs.declared.outcome.Outcome.{Outcome}
 use Rattle.pq_command.specs.declared.outcome.Outcome.TheVariants.{Done, Words, ReadFault, TooLong, Lex, Syntax, Name, ValuesFull, InstancesFull, TagWidth, TableFull, GroupFull, Damaged, NoSwitch, NoBarrier, Speaking, ScheduleFull, WriteFault, Memory}
 use Rattle.pq_command.specs.declared.reading.Unread.{Unread}
 use Rattle.pq_command.specs.declared.reading.Unread.TheVariants as unread
-use Rattle.pq_command.specs.Answers.{Streams, streams}
+use Rattle.pq_command.specs.Answers.{OnRefusalInTurns, Streams, streams}
 use Rattle.pq_command.specs.Reading.{install_limit, piece_size}
 use Rattle.pq_command.specs.Speaks.{Bars, ButLast, GoesOn, Hears, IsLast, IsOpened, IsReadEnough, IsSpeakAnswer, IsTurnEnd, IsUnderWay, IsUnread, SaysAll, SaysPart, end_outcome, needs_more, said, sends, session_of, state_after, stated, talk_after, unread_outcome}
 use Rattle.pq_command.proofs.Headings.{few-follow}
@@ -331,3 +331,57 @@ unread-stops datapath left now before text unread.Failed read (short, needs) = (
 unread-stops datapath left now before text unread.TooLong read (long, (front, last, is, room, (short, needs))) =
     (text, read, (long, (front, last, is, room, (short, inl (needs, Appends-nil before)))))
 unread-stops datapath left now before text unread.Memory read short = inl (text, read, (short, Appends-nil before))
+
+-- Outcomes of a session under way.
+
+-- where no outcome that leaves the sink as it was comes, any fact holds of them
+pub no-refusal : (o : Outcome) (fact : Type 0) → OnRefusalInTurns o ⊥ → OnRefusalInTurns o fact
+no-refusal Done fact none = tt
+no-refusal WriteFault fact none = tt
+no-refusal ReadFault fact none = tt
+no-refusal TooLong fact none = tt
+no-refusal (Speaking t) fact none = tt
+no-refusal Memory fact none = tt
+no-refusal Words fact none = absurd none
+no-refusal (Lex at) fact none = absurd none
+no-refusal (Syntax at) fact none = absurd none
+no-refusal (Name at kind) fact none = absurd none
+no-refusal (ValuesFull f n) fact none = absurd none
+no-refusal (InstancesFull n) fact none = absurd none
+no-refusal (TagWidth n) fact none = absurd none
+no-refusal (TableFull d t n) fact none = absurd none
+no-refusal (GroupFull d n) fact none = absurd none
+no-refusal (Damaged at) fact none = absurd none
+no-refusal NoSwitch fact none = absurd none
+no-refusal NoBarrier fact none = absurd none
+no-refusal ScheduleFull fact none = absurd none
+
+-- the end of a turn is no refusal
+pub turn-is-none : (t : Talk) (sent : List ℕ) (o : Outcome) (before after : Option (List ℕ)) → IsTurnEnd t sent o before after → OnRefusalInTurns o ⊥
+turn-is-none t sent WriteFault before after end = tt
+turn-is-none t sent Memory before after end = tt
+turn-is-none t sent (Speaking u) before after end = tt
+turn-is-none t sent Done before after end = tt
+turn-is-none t sent ReadFault before after end = tt
+turn-is-none t sent TooLong before after end = tt
+turn-is-none t sent Words before after end = end
+turn-is-none t sent (Lex at) before after end = end
+turn-is-none t sent (Syntax at) before after end = end
+turn-is-none t sent (Name at kind) before after end = end
+turn-is-none t sent (ValuesFull f n) before after end = end
+turn-is-none t sent (InstancesFull n) before after end = end
+turn-is-none t sent (TagWidth n) before after end = end
+turn-is-none t sent (TableFull d u n) before after end = end
+turn-is-none t sent (GroupFull d n) before after end = end
+turn-is-none t sent (Damaged at) before after end = end
+turn-is-none t sent NoSwitch before after end = end
+turn-is-none t sent NoBarrier before after end = end
+turn-is-none t sent ScheduleFull before after end = end
+
+-- nor is that of the input
+pub end-is-none : (t : Talk) → OnRefusalInTurns (end_outcome t) ⊥
+end-is-none Installed = tt
+end-is-none Greeting = tt
+end-is-none Asking = tt
+end-is-none Installing = tt
+end-is-none (Failed r) = tt

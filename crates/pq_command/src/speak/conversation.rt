@@ -164,7 +164,7 @@ impl Conversation {
         ensures answer { (datapath : ℕ) (left before : Option (List ℕ)) (text : List ℕ) → IsUnderWay datapath (streams left (S.left source.old) before (K.put sink.old)) self.speaker text → length text ≡ self.read → IsSpeakAnswer datapath result (streams left (S.left source.new) before (K.put sink.new)) }
         ensures read_faults { HasReadFaults result (S.faults source.old) (S.faults source.new) }
         ensures write_faults { HasWriteFaults result (K.faults sink.old) (K.faults sink.new) }
-        ensures refusal { OnRefusalInTurns result (sink.new ≡ sink.old) }
+        ensures in_turns { OnRefusalInTurns result ⊥ }
     {
         let Ok(mut piece) = zeros(alloc, PIECE) else {
             return Outcome::Memory;
