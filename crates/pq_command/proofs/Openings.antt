@@ -80,9 +80,10 @@ one-session datapath text session other came more first second =
     let same : (record { size = length first.bytes; rest = first.bytes ++ came }) ≡ (record { size = length second.bytes; rest = second.bytes ++ more }) =
     same_Some _ _ (sym first.line ∙ second.line) in
     let parts = parted first.bytes second.bytes came more (ap (λ (s : Stated). s.size) same) (ap (λ (s : Stated). s.rest) same) in
-    let spelled : IsSpelling second.install first.bytes = subst (IsSpelling second.install) (sym parts.0) second.spelled in
-    (first.messages ∙ ap (session_of datapath) (one-list first.install second.install first.bytes datapath first.spelled spelled) ∙ sym second.messages,
-    parts.1)
+    let spelled : IsSpelling second.install first.bytes = subst (IsSpelling second.install) (sym parts.0) second.spelled in (
+      first.messages ∙ ap (session_of datapath) (one-list first.install second.install first.bytes datapath first.spelled spelled) ∙ sym second.messages,
+      parts.1,
+    )
 
 -- What was judged.
 

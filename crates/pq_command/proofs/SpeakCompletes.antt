@@ -108,14 +108,16 @@ same-bytes bytes text now t install came taken enough is stated-now = by enough.
     by (inl whole) =
         let rest = rest-of bytes text now taken in
         let both = here rest.0 rest.2 in
-        let full : ltb (length t.rest) t.size ≡ false = sym (ap (is_cut text) stated-now) ∙ whole in
-        (both.0,
-        sym (take-append-le t.size t.rest rest.0 (ltb-false (length t.rest) t.size full))
-        ∙ ap (take t.size) both.1 ∙ ap (λ (n : ℕ). take n (install ++ came)) both.0 ∙ front)
+        let full : ltb (length t.rest) t.size ≡ false = sym (ap (is_cut text) stated-now) ∙ whole in (
+          both.0,
+          sym (take-append-le t.size t.rest rest.0 (ltb-false (length t.rest) t.size full))
+              ∙ ap (take t.size) both.1 ∙ ap (λ (n : ℕ). take n (install ++ came)) both.0 ∙ front,
+        )
     by (inr end) =
-        let both = here [] (whole-text bytes text now taken end ∙ sym (append-nil text)) in
-        (both.0,
-        ap (take t.size) (sym (append-nil t.rest) ∙ both.1) ∙ ap (λ (n : ℕ). take n (install ++ came)) both.0 ∙ front)
+        let both = here [] (whole-text bytes text now taken end ∙ sym (append-nil text)) in (
+          both.0,
+          ap (take t.size) (sym (append-nil t.rest) ∙ both.1) ∙ ap (λ (n : ℕ). take n (install ++ came)) both.0 ∙ front,
+        )
 
 -- the install isn't damaged
 not-damaged : (install : List ℕ) (i : Install) (size at : ℕ) → IsSpelling i install → size ≡ length install → IsDamagedIn size install at → ⊥
@@ -123,7 +125,7 @@ not-damaged install i size at spelled whole (inl damaged) =
     spelled_stands install at (length install) i damaged (subst (IsSpelling i) (sym (take_all (length install) install (omega arith))) spelled)
 not-damaged install i size at spelled whole (inr (j, read, less)) =
     let same = same_length install i j (length install) at (omega arith) read.within
-        (subst (IsSpelling i) (sym (take_all (length install) install (omega arith))) spelled) read.spelled in
+    (subst (IsSpelling i) (sym (take_all (length install) install (omega arith))) spelled) read.spelled in
     absurd (omega (arith, same, less, whole))
 
 -- nothing bars the session

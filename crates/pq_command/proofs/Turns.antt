@@ -69,9 +69,14 @@ read-fails datapath left mid now before after speaker text is kept short =
 pub too-long : (datapath : ℕ) (left mid now before after : Option (List ℕ)) (speaker : State) (text piece : List ℕ)
     → IsUnderWay datapath (streams left mid before after) speaker text → Consumes mid now piece → length text ≤ install_limit
     → install_limit < length text + length piece → length piece ≤ piece_size → IsSpeakAnswer datapath TooLong (streams left now before after)
-too-long datapath left mid now before after speaker text piece is read short more room =
-    (text ++ piece, Consumes-trans left mid now text piece is.read read, (omega (arith, more, length-append text piece),
-    (text, piece, refl, room, (short, inr (is.session, is.came, is.opened, still-going datapath _ speaker text is, is.put)))))
+too-long datapath left mid now before after speaker text piece is read short more room = (
+  text ++ piece,
+  Consumes-trans left mid now text piece is.read read,
+  (
+    omega (arith, more, length-append text piece),
+    (text, piece, refl, room, (short, inr (is.session, is.came, is.opened, still-going datapath _ speaker text is, is.put))),
+  ),
+)
 
 -- the end of input
 pub ends : (datapath : ℕ) (left mid now before after : Option (List ℕ)) (speaker : State) (text : List ℕ)
@@ -100,15 +105,25 @@ ends datapath left mid now before after speaker text is read end short = by spea
 pub no-memory : (datapath : ℕ) (left now before after : Option (List ℕ)) (speaker : State) (text : List ℕ)
     → IsUnderWay datapath (streams left now before after) speaker text → length text ≤ install_limit → IsSpeakAnswer datapath Memory (streams left now before after)
 no-memory datapath left now before after speaker text is short =
-    inr (text, is.read, (short, is.session, is.came, is.opened, record {
-      before = is.came;
-      last = [];
-      count = length (said is.session is.came);
-      pieces = sym (append-nil is.came);
-      short = omega arith;
-      put = subst (Appends before after) (sym (take_all _ (said is.session is.came) (omega arith))) is.put;
-      answered = inr (omega arith);
-    }))
+    inr (
+      text,
+      is.read,
+      (
+        short,
+        is.session,
+        is.came,
+        is.opened,
+        record {
+          before = is.came;
+          last = [];
+          count = length (said is.session is.came);
+          pieces = sym (append-nil is.came);
+          short = omega arith;
+          put = subst (Appends before after) (sym (take_all _ (said is.session is.came) (omega arith))) is.put;
+          answered = inr (omega arith);
+        },
+      ),
+    )
 
 -- a part of the answer to the last piece
 part : (session : Session) (came piece : List ℕ) (left now before middle after : Option (List ℕ)) (n : ℕ) → length piece ≤ piece_size → Appends before middle (said session came)
@@ -150,21 +165,40 @@ turn-ends datapath left mid now before middle after speaker text piece o is read
     opened-now = opened-append datapath text piece is.session is.came is.opened
 
     cut : (n : ℕ) → Appends middle after (take n (sends speaker piece)) → Hears datapath (streams left now before after) (SaysPart (streams left now before after))
-    cut n put =
-        (text ++ piece, all, (short, is.session, is.came ++ piece, opened-now,
-        part is.session is.came piece left now before middle after n room is.put (subst (λ (s : State). Appends middle after (take n (sends s piece))) is.state put)))
+    cut n put = (
+      text ++ piece,
+      all,
+      (
+        short,
+        is.session,
+        is.came ++ piece,
+        opened-now,
+        part is.session is.came piece left now before middle after n room is.put (subst (λ (s : State). Appends middle after (take n (sends s piece))) is.state put),
+      ),
+    )
 
     by : (o : Outcome) → IsTurnEnd (heard speaker piece).state.talk (sends speaker piece) o middle after → IsSpeakAnswer datapath o (streams left now before after)
     by WriteFault (n, put) = cut n put
     by Memory (n, put) = inr (cut n put)
     by (Speaking t) (is-talk, failed, put) =
         let talk : t ≡ talk_after is.session (is.came ++ piece) =
-        is-talk ∙ ap (λ (s : State). (heard s piece).state.talk) is.state ∙ ap (λ (s : State). s.talk) (sym (state-append is.session is.came piece)) in
-        (text ++ piece, all, (short, is.session, is.came ++ piece, opened-now,
-        (inr (subst (λ (u : Talk). has_failed u ≡ true) talk failed, (is.came, piece, refl, room, still-going datapath _ speaker text is)),
-        talk, installed-goes t failed,
-        subst (Appends before after) (sym (said-append is.session is.came piece))
-            (Appends-trans before middle after _ _ is.put (subst (λ (s : State). Appends middle after (sends s piece)) is.state put)))))
+        is-talk ∙ ap (λ (s : State). (heard s piece).state.talk) is.state ∙ ap (λ (s : State). s.talk) (sym (state-append is.session is.came piece)) in (
+          text ++ piece,
+          all,
+          (
+            short,
+            is.session,
+            is.came ++ piece,
+            opened-now,
+            (
+              inr (subst (λ (u : Talk). has_failed u ≡ true) talk failed, (is.came, piece, refl, room, still-going datapath _ speaker text is)),
+              talk,
+              installed-goes t failed,
+              subst (Appends before after) (sym (said-append is.session is.came piece))
+                  (Appends-trans before middle after _ _ is.put (subst (λ (s : State). Appends middle after (sends s piece)) is.state put)),
+            ),
+          ),
+        )
     by Done end = absurd end
     by Words end = absurd end
     by ReadFault end = absurd end
@@ -216,9 +250,11 @@ first-ends session speaker first hello before middle after o is state put end =
     greeted = subst (Appends before middle) is put
 
     cut : (n : ℕ) → Appends middle after (take n (sends (opened session) first)) → AppendsPart before after (said session first)
-    cut n next =
-        (length hello_bytes + n, subst (Appends before after) (sym (take-append-add hello_bytes (sends (opened session) first) n))
-        (Appends-trans before middle after _ _ greeted next))
+    cut n next = (
+      length hello_bytes + n,
+      subst (Appends before after) (sym (take-append-add hello_bytes (sends (opened session) first) n))
+          (Appends-trans before middle after _ _ greeted next),
+    )
 
     by : (o : Outcome) → IsTurnEnd (talk_after session first) (sends (opened session) first) o middle after → IsTurnEnd (talk_after session first) (said session first) o before after
     by WriteFault (n, next) = cut n next

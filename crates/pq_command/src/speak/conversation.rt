@@ -159,7 +159,12 @@ impl Conversation {
     }
 
     /// Hears the switch and answers it, until the input ends or the session fails.
-    pub(crate) fn go_on<S: Source, K: Sink>(self, alloc: Global, source: &mut S, sink: &mut K) -> Outcome
+    pub(crate) fn go_on<S: Source, K: Sink>(
+        self,
+        alloc: Global,
+        source: &mut S,
+        sink: &mut K,
+    ) -> Outcome
         requires { self.read ≤ install_limit }
         ensures answer { (datapath : ℕ) (left before : Option (List ℕ)) (text : List ℕ) → IsUnderWay datapath (streams left (S.left source.old) before (K.put sink.old)) self.speaker text → length text ≡ self.read → IsSpeakAnswer datapath result (streams left (S.left source.new) before (K.put sink.new)) }
         ensures read_faults { HasReadFaults result (S.faults source.old) (S.faults source.new) }
@@ -169,7 +174,10 @@ impl Conversation {
         let Ok(mut piece) = zeros(alloc, PIECE) else {
             return Outcome::Memory;
         };
-        let Conversation { mut speaker, mut read } = self;
+        let Conversation {
+            mut speaker,
+            mut read,
+        } = self;
         for turn in 0..INSTALL_LIMIT + 2 {
             let taken = match source.read(&mut piece) {
                 Ok(taken) => taken,

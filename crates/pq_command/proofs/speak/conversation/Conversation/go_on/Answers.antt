@@ -29,7 +29,7 @@ returns-then-taken-eq0-clause-answer g c datapath left before text is long =
     let none : Consumes mid now [] = subst (λ n. Consumes mid now (take n c.read.new.into)) c.if-taken-eq0.true c.in-Ok-read.ensures.bytes.0 in
     let end : IsAtEnd now = c.in-Ok-read.ensures.bytes.1 c.if-taken-eq0.true (omega (arith, room)) in
     subst (λ o. IsSpeakAnswer datapath o (streams left now before (g.K.Sink.put c.loop-turn.sink))) (sym c.end_of.ensures)
-        (ends datapath left mid now before (g.K.Sink.put c.loop-turn.sink) c.loop-turn.speaker u.0 u.1 none end (omega (arith, u.2, i.short)))
+    (ends datapath left mid now before (g.K.Sink.put c.loop-turn.sink) c.loop-turn.speaker u.0 u.1 none end (omega (arith, u.2, i.short)))
 
 pub returns-then-read-gt-INSTALL_LIMIT-clause-answer : goal.returns-then-read-gt-INSTALL_LIMIT-clause-answer
 returns-then-read-gt-INSTALL_LIMIT-clause-answer g c datapath left before text is long =
@@ -69,13 +69,12 @@ loop-turn-preserved g c =
     let said : Appends (put c.loop-turn.sink) (put c.hear.new.sink) (sends c.loop-turn.speaker (take n into)) = subst (λ p. Appends (put c.loop-turn.sink) (put c.hear.new.sink) (sends c.loop-turn.speaker (take n p))) here c.in-Ok-hear.ensures.put in
     record {
       under_way = λ datapath left before text is long. (
-        let u = i.under_way datapath left before text is long in
-        (
-          u.0 ++ take n into,
-          goes-on datapath left (g.S.Source.left c.loop-turn.source) (g.S.Source.left c.read.new.self) before (put c.loop-turn.sink) (put c.hear.new.sink) c.loop-turn.speaker c.hear.new.speaker u.0 (take n into) u.1 c.in-Ok-read.ensures.bytes.0 state said c.in-Ok-hear.ensures.going,
-          omega (arith, length-append u.0 (take n into), u.2, c.in-Ok-read.ensures.bound.1),
-        )
-      );
+          let u = i.under_way datapath left before text is long in (
+            u.0 ++ take n into,
+            goes-on datapath left (g.S.Source.left c.loop-turn.source) (g.S.Source.left c.read.new.self) before (put c.loop-turn.sink) (put c.hear.new.sink) c.loop-turn.speaker c.hear.new.speaker u.0 (take n into) u.1 c.in-Ok-read.ensures.bytes.0 state said c.in-Ok-hear.ensures.going,
+            omega (arith, length-append u.0 (take n into), u.2, c.in-Ok-read.ensures.bound.1),
+          )
+          );
       reads = same ∙ i.reads;
       writes = c.in-Ok-hear.ensures.kept ∙ i.writes;
       turns = omega (arith, i.turns, c.if-taken-eq0.false);
