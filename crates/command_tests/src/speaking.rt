@@ -85,7 +85,12 @@ fn all_sent(alloc: Global) -> Result<Vec<u8>, AllocError> {
 #[test]
 fn a_session_installs(rt: HostRuntime) -> Result<(), Fail> {
     let alloc = rt.alloc();
-    let bytes = text(alloc, "586\n", &install(alloc)?, &[HELLO, FEATURES, CARRIED_OUT])?;
+    let bytes = text(
+        alloc,
+        "586\n",
+        &install(alloc)?,
+        &[HELLO, FEATURES, CARRIED_OUT],
+    )?;
     let (outcome, put) = spoken(alloc, "1", bytes, &[], &[])?;
     assert_eq!(rt; outcome, Outcome::Done);
     assert_eq!(rt; put.len(), 568);
@@ -96,7 +101,12 @@ fn a_session_installs(rt: HostRuntime) -> Result<(), Fail> {
 #[test]
 fn a_session_in_single_bytes_installs(rt: HostRuntime) -> Result<(), Fail> {
     let alloc = rt.alloc();
-    let bytes = text(alloc, "586\n", &install(alloc)?, &[HELLO, FEATURES, CARRIED_OUT])?;
+    let bytes = text(
+        alloc,
+        "586\n",
+        &install(alloc)?,
+        &[HELLO, FEATURES, CARRIED_OUT],
+    )?;
     let words = words(alloc, &["speak", "1"])?;
     let mut source = StreamSource::new(Dripping { bytes: &bytes });
     let mut sink = MemorySink::new(alloc, Vec::new(alloc), 0, 65536)?;
@@ -136,28 +146,113 @@ fn each_session_ends_in_its_state(rt: HostRuntime) -> Result<(), Fail> {
         ("half a HELLO", &["040000"], stopped(Talk::Greeting), 8),
         ("an ERROR first", &[ERROR], refused(), 8),
         ("an old HELLO", &["0100000800000000"], bad_version(1), 8),
-        ("a newer HELLO", &["0600000800000000"], stopped(Talk::Asking), 16),
-        ("an old echo first", &["0302000800000000"], bad_version(3), 8),
+        (
+            "a newer HELLO",
+            &["0600000800000000"],
+            stopped(Talk::Asking),
+            16,
+        ),
+        (
+            "an old echo first",
+            &["0302000800000000"],
+            bad_version(3),
+            8,
+        ),
         ("a length of 4", &["0400000400000000"], bad_length(4), 8),
-        ("an ERROR of 11 bytes", &["0401000b00000000"], bad_length(11), 8),
+        (
+            "an ERROR of 11 bytes",
+            &["0401000b00000000"],
+            bad_length(11),
+            8,
+        ),
         ("early features", &[FEATURES], stopped(Talk::Greeting), 8),
-        ("bytes after the failure", &["0100000800000000", HELLO, FEATURES, "0402000800000001"], bad_version(1), 8),
+        (
+            "bytes after the failure",
+            &["0100000800000000", HELLO, FEATURES, "0402000800000001"],
+            bad_version(1),
+            8,
+        ),
         ("a HELLO", &[HELLO], stopped(Talk::Asking), 16),
         ("two HELLOs", &[HELLO, HELLO], stopped(Talk::Asking), 16),
         ("an ERROR for the question", &[HELLO, ERROR], refused(), 16),
-        ("a newer echo", &[HELLO, "0502000800000000"], bad_version(5), 16),
-        ("features of 24 bytes", &[HELLO, "0406001800000000"], bad_length(24), 16),
-        ("another switch", &[HELLO, other_switch], failed(Reason::OtherSwitch { datapath: 7 }), 16),
-        ("an echo with a body", &[HELLO, "0402000a00000009beef"], stopped(Talk::Asking), 26),
-        ("features", &[HELLO, FEATURES], stopped(Talk::Installing), 568),
-        ("an ERROR for a message", &[HELLO, FEATURES, ERROR], refused(), 568),
-        ("the answer to another barrier", &[HELLO, FEATURES, "0415000800000003"], stopped(Talk::Installing), 568),
-        ("an early answer", &[HELLO, CARRIED_OUT, FEATURES], stopped(Talk::Installing), 568),
-        ("a later ERROR", &[HELLO, FEATURES, CARRIED_OUT, ERROR], Outcome::Done, 568),
-        ("a later echo", &[HELLO, FEATURES, CARRIED_OUT, "0402000800000009"], Outcome::Done, 576),
-        ("half a later message", &[HELLO, FEATURES, CARRIED_OUT, "04020009000000"], Outcome::Done, 568),
-        ("another version later", &[HELLO, FEATURES, CARRIED_OUT, "0502000800000000"], bad_version(5), 568),
-        ("a length of 7 later", &[HELLO, FEATURES, CARRIED_OUT, "0402000700000000"], bad_length(7), 568),
+        (
+            "a newer echo",
+            &[HELLO, "0502000800000000"],
+            bad_version(5),
+            16,
+        ),
+        (
+            "features of 24 bytes",
+            &[HELLO, "0406001800000000"],
+            bad_length(24),
+            16,
+        ),
+        (
+            "another switch",
+            &[HELLO, other_switch],
+            failed(Reason::OtherSwitch { datapath: 7 }),
+            16,
+        ),
+        (
+            "an echo with a body",
+            &[HELLO, "0402000a00000009beef"],
+            stopped(Talk::Asking),
+            26,
+        ),
+        (
+            "features",
+            &[HELLO, FEATURES],
+            stopped(Talk::Installing),
+            568,
+        ),
+        (
+            "an ERROR for a message",
+            &[HELLO, FEATURES, ERROR],
+            refused(),
+            568,
+        ),
+        (
+            "the answer to another barrier",
+            &[HELLO, FEATURES, "0415000800000003"],
+            stopped(Talk::Installing),
+            568,
+        ),
+        (
+            "an early answer",
+            &[HELLO, CARRIED_OUT, FEATURES],
+            stopped(Talk::Installing),
+            568,
+        ),
+        (
+            "a later ERROR",
+            &[HELLO, FEATURES, CARRIED_OUT, ERROR],
+            Outcome::Done,
+            568,
+        ),
+        (
+            "a later echo",
+            &[HELLO, FEATURES, CARRIED_OUT, "0402000800000009"],
+            Outcome::Done,
+            576,
+        ),
+        (
+            "half a later message",
+            &[HELLO, FEATURES, CARRIED_OUT, "04020009000000"],
+            Outcome::Done,
+            568,
+        ),
+        (
+            "another version later",
+            &[HELLO, FEATURES, CARRIED_OUT, "0502000800000000"],
+            bad_version(5),
+            568,
+        ),
+        (
+            "a length of 7 later",
+            &[HELLO, FEATURES, CARRIED_OUT, "0402000700000000"],
+            bad_length(7),
+            568,
+        ),
     ];
     for (what, sent, expected, count) in rows {
         let bytes = text(alloc, "586\n", &install(alloc)?, sent)?;
@@ -187,17 +282,94 @@ fn nothing_is_sent_before_all_is_right(rt: HostRuntime) -> Result<(), Fail> {
         ("ten digits", "1", "1234567890\n", &whole, &[], syntax),
         ("ten digits alone", "1", "1234567890", &[], &[], syntax),
         ("a carriage return", "1", "586\r\n", &whole, &[], syntax),
-        ("no bytes of an install", "1", "0\n", &whole, &[], Outcome::Damaged { at: 0 }),
-        ("a byte too few", "1", "585\n", &whole, &[HELLO], Outcome::Damaged { at: 578 }),
-        ("a byte too many", "1", "587\n", &whole, &[HELLO], Outcome::Damaged { at: 586 }),
-        ("more than there is", "1", "999999999\n", &whole, &[], Outcome::Damaged { at: 586 }),
-        ("cut", "1", "586\n", &whole[..580], &[], Outcome::Damaged { at: 578 }),
-        ("a changed byte", "1", "10\n", &whole[1..], &[], Outcome::Damaged { at: 0 }),
-        ("switch 2", "2", "586\n", &whole, &[HELLO], Outcome::NoSwitch),
-        ("switch 0", "0", "586\n", &whole, &[HELLO], Outcome::NoSwitch),
-        ("the last switch", "18446744073709551615", "586\n", &whole, &[], Outcome::NoSwitch),
-        ("no barrier", "1", "578\n", &no_barrier, &[HELLO], Outcome::NoBarrier),
-        ("an xid twice", "1", "586\n", &one_xid_twice, &[HELLO], Outcome::NoBarrier),
+        (
+            "no bytes of an install",
+            "1",
+            "0\n",
+            &whole,
+            &[],
+            Outcome::Damaged { at: 0 },
+        ),
+        (
+            "a byte too few",
+            "1",
+            "585\n",
+            &whole,
+            &[HELLO],
+            Outcome::Damaged { at: 578 },
+        ),
+        (
+            "a byte too many",
+            "1",
+            "587\n",
+            &whole,
+            &[HELLO],
+            Outcome::Damaged { at: 586 },
+        ),
+        (
+            "more than there is",
+            "1",
+            "999999999\n",
+            &whole,
+            &[],
+            Outcome::Damaged { at: 586 },
+        ),
+        (
+            "cut",
+            "1",
+            "586\n",
+            &whole[..580],
+            &[],
+            Outcome::Damaged { at: 578 },
+        ),
+        (
+            "a changed byte",
+            "1",
+            "10\n",
+            &whole[1..],
+            &[],
+            Outcome::Damaged { at: 0 },
+        ),
+        (
+            "switch 2",
+            "2",
+            "586\n",
+            &whole,
+            &[HELLO],
+            Outcome::NoSwitch,
+        ),
+        (
+            "switch 0",
+            "0",
+            "586\n",
+            &whole,
+            &[HELLO],
+            Outcome::NoSwitch,
+        ),
+        (
+            "the last switch",
+            "18446744073709551615",
+            "586\n",
+            &whole,
+            &[],
+            Outcome::NoSwitch,
+        ),
+        (
+            "no barrier",
+            "1",
+            "578\n",
+            &no_barrier,
+            &[HELLO],
+            Outcome::NoBarrier,
+        ),
+        (
+            "an xid twice",
+            "1",
+            "586\n",
+            &one_xid_twice,
+            &[HELLO],
+            Outcome::NoBarrier,
+        ),
     ];
     for (what, datapath, line, bytes, sent, expected) in rows {
         let bytes = text(alloc, line, bytes, sent)?;
@@ -239,10 +411,15 @@ fn a_failing_call_ends_a_session(rt: HostRuntime) -> Result<(), Fail> {
         (&[], &[2], Outcome::WriteFault, 11),
     ];
     for (reads, writes, expected, count) in rows {
-        let bytes = text(alloc, "586\n", &install(alloc)?, &[HELLO, FEATURES, CARRIED_OUT])?;
+        let bytes = text(
+            alloc,
+            "586\n",
+            &install(alloc)?,
+            &[HELLO, FEATURES, CARRIED_OUT],
+        )?;
         let (outcome, put) = spoken(alloc, "1", bytes, reads, writes)?;
         assert_eq!(rt; outcome, expected);
-        assert!(rt; put == all_sent(alloc)?[..count]);
+        assert!(rt; put.as_slice() == &all_sent(alloc)?[..count]);
     }
     Ok(())
 }
@@ -258,7 +435,11 @@ fn each_end_has_its_status_and_its_line(rt: HostRuntime) -> Result<(), Fail> {
         (stopped(Talk::Installing), 3, "installing"),
         (bad_version(1), 3, "bad version 1"),
         (bad_length(4), 3, "bad length 4"),
-        (failed(Reason::OtherSwitch { datapath: 7 }), 3, "other switch 7"),
+        (
+            failed(Reason::OtherSwitch { datapath: 7 }),
+            3,
+            "other switch 7",
+        ),
         (refused(), 3, "switch error 5 2"),
     ] {
         assert_eq!(rt; outcome.code(), code);
