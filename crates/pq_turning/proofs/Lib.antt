@@ -1,0 +1,4 @@
+mod Numbered
+mod Listed
+mod Turned
+mod Done

@@ -1,0 +1,6 @@
+//! Laws of edits: what the messages between the installs of documents do to the tables of switches.
+#![tactic(auto)]
+
+mod laws;
+
+pub use laws::{edited_tables_implement, edits_turn_tables};
