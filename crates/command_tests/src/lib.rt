@@ -10,8 +10,6 @@ mod replays;
 #[cfg(test)]
 mod rows;
 #[cfg(test)]
-mod speaking;
-#[cfg(test)]
 mod summaries;
 #[cfg(test)]
 mod two_tables;
