@@ -8,8 +8,4 @@ mod inspections;
 #[cfg(test)]
 mod replays;
 #[cfg(test)]
-mod rows;
-#[cfg(test)]
-mod summaries;
-#[cfg(test)]
 mod two_tables;
