@@ -3,7 +3,7 @@ ghost use Rattle.std.specs.Prelude.{◌≡◌, ◌^◌, ◌<◌, ◌≤◌, ◌+
 ghost use Rattle.std.specs.Io.KnownBytes.{Consumes, IsAtEnd};
 ghost use Rattle.pq_io.specs.Faults.{Rose};
 ghost use Rattle.pq_pieces.specs.Lines.{going};
-ghost use Rattle.pq_pieces.specs.Reading.{HasReadCause, IsFilled, IsNext, IsUnread, Looks, Reads};
+ghost use Rattle.pq_pieces.specs.Reading.{HasReadCause, IsFilled, IsNext, IsUnread, Looks, Reads, chunk_size};
 ghost use Rattle.pq_pieces.specs.Scans.{IsStopped};
 
 use crate::line::Line;
@@ -72,6 +72,7 @@ impl Pieces {
         ensures short { OnOk result (length piece.new.items ≤ limit) }
         ensures stopped { IfErr result (λ unread. (rest : List ℕ) → IsStopped unread limit (going line piece.old.items (self.old.pending ++ rest))) }
         ensures same { self.new.is_ended ≡ self.old.is_ended }
+        ensures few { length self.new.pending ≤ chunk_size }
     {
         match scan(piece, line, &self.chunk[self.from..self.to], limit) {
             Ok(Found::Parted { used }) => {
@@ -122,6 +123,7 @@ impl Pieces {
         ensures short { IfOk result (λ piece. length piece.text.items ≤ limit) }
         ensures unread { IfErr result (λ unread. Reads (S.left source.old) (S.left source.new) (λ read. IsUnread unread limit (self.old.pending ++ read) (S.left source.new))) }
         ensures ended { OnOk result (self.new.is_ended ≡ true → IsAtEnd (S.left source.new)) }
+        ensures few { OnOk result (length self.new.pending ≤ chunk_size) }
         ensures cause { HasReadCause result (S.faults source.old) (S.faults source.new) }
     {
         let mut text = Vec::new(alloc);

@@ -2,3 +2,4 @@ mod Numbered
 mod Listed
 mod Turned
 mod Done
+mod Lawful

@@ -47,11 +47,16 @@ found_in R renews (s ∷ ss) (ms ∷ lists) all n = by (s.datapath == n) (found_
 pub same_topology : (d : DocumentTree) (i : Install) → IsInstalled d i → i.topology ≡ d.topology
 same_topology d i h = h.install.emission.topology
 
+-- the messages that an install has for a switch, with the trees that they come from
+abbrev pub FilledFor : (d : DocumentTree) (i : Install) → IsInstalled d i → Switch → List Message → Type 0
+FilledFor d i h s ms = (a : AreMessages d.topology h.install.tags h.install.writes s.datapath ms) × AreFilled a.first a.second
+
+pub renews : (d : DocumentTree) (i : Install) (h : IsInstalled d i) (s : Switch) (ms : List Message) → FilledFor d i h s ms → Renews ms
+renews d i h s ms (a, filled) = record { renewal = renewal_of a.first a.second; numbered = numbered a.first a.second filled; messages = a.messages }
+
 pub found : (d : DocumentTree) (i : Install) → IsInstalled d i → (n : ℕ) → Found (is_switch d.topology n) (messages_of i n)
 found d i h n = subst (λ T. Found (is_switch d.topology n) (messages_in T.switches i.messages n)) (sym (same_topology d i h))
-    (found_in (λ s ms. (a : AreMessages d.topology h.install.tags h.install.writes s.datapath ms) × AreFilled a.first a.second)
-    (λ s ms p. record { renewal = renewal_of p.0.first p.0.second; numbered = numbered p.0.first p.0.second p.1; messages = p.0.messages })
-    d.topology.switches i.messages h.filled n)
+    (found_in (FilledFor d i h) (renews d i h) d.topology.switches i.messages h.filled n)
 
 -- the tables that the messages of a renewal leave in empty ones
 pub leaves : (ms : List Message) (r : Renews ms) (t : Tables) → applies_all t ms ≡ renewed r.renewal
@@ -69,16 +74,10 @@ pub delta-listed : (d e : DocumentTree) (i j : Install) → IsInstalled d i → 
     → (n : ℕ) → listed_for (delta i j) n ≡ switch_delta (messages_of i n) (messages_of j n)
 delta-listed d e i j h k same n =
     (λ u. listed_for (deltas (to_old u).switches i.messages j.messages) n)
-    ∙ listed R Q d.topology.switches i.messages j.messages (subst (λ T. Ascends (map (λ s. s.datapath) T.switches)) (same_topology d i h) h.lawful.topology.ascending)
-    h.filled (subst (λ T. AllZip Q T.switches j.messages) (sym same) k.filled) n
+    ∙ listed (FilledFor d i h) (FilledFor e j k) d.topology.switches i.messages j.messages (subst (λ T. Ascends (map (λ s. s.datapath) T.switches)) (same_topology d i h) h.lawful.topology.ascending)
+    h.filled (subst (λ T. AllZip (FilledFor e j k) T.switches j.messages) (sym same) k.filled) n
     ∙ (λ u. switch_delta (messages_in (sym (same_topology d i h) u).switches i.messages n) (messages_in (sym to_old u).switches j.messages n))
   where
-    R : Switch → List Message → Type 0
-    R s ms = (a : AreMessages d.topology h.install.tags h.install.writes s.datapath ms) × AreFilled a.first a.second
-
-    Q : Switch → List Message → Type 0
-    Q s ms = (a : AreMessages e.topology k.install.tags k.install.writes s.datapath ms) × AreFilled a.first a.second
-
     to_old : j.topology ≡ d.topology
     to_old = same_topology e j k ∙ sym same
 

@@ -3,4 +3,4 @@
 
 mod laws;
 
-pub use laws::{edited_tables_implement, edits_turn_tables};
+pub use laws::{deltas_of_documents_are_lawful, edited_tables_implement, edits_turn_tables};
