@@ -2,20 +2,18 @@
 use Rattle.std.proofs.Common.{◌≡◌, ℕ, ◌≤◌, List, ◌++◌, length, ap, sym, ◌∙◌, subst, arith, length-append, append-nil, Option, Some, None, inl, inr}
 use Rattle.std.proofs.lemmas.Option.{same_Some}
 use Rattle.std.specs.Io.KnownBytes.{Consumes, IsAtEnd}
-use Rattle.pq_compile.proofs.OneDocument.{no_document_fault, one_document}
-use Rattle.pq_compile.proofs.OneFault.{no_compile_fault}
-use Rattle.pq_compile.specs.Compiled.{IsWithinLimits}
 use Rattle.pq_inspect.proofs.Unspoiled.{not_spoiled}
 use Rattle.pq_install.specs.declared.fault.InstallFault.TheVariants as install
 use Rattle.pq_replay.specs.declared.fault.ReplayFault.TheVariants as replay
 use Rattle.pq_replay.proofs.Replayable.{not_damaged, no_syntax_fault, not_too_many}
 use Rattle.pq_command.specs.declared.words.Command.{Command}
-use Rattle.pq_command.specs.declared.words.Command.TheVariants.{Compile, Replay, Inspect, Summary, SummaryOf, Generate, Speak}
+use Rattle.pq_command.specs.declared.words.Command.TheVariants.{Compile, Session, Replay, Inspect, Summary, SummaryOf, Generate, Speak}
 use Rattle.pq_command.specs.declared.outcome.Outcome.{Outcome}
-use Rattle.pq_command.specs.declared.outcome.Outcome.TheVariants.{Done, Words, ReadFault, TooLong, Lex, Syntax, Name, ValuesFull, InstancesFull, TagWidth, TableFull, GroupFull, Damaged, NoSwitch, NoBarrier, Speaking, ScheduleFull, WriteFault, Memory}
+use Rattle.pq_command.specs.declared.outcome.Outcome.TheVariants.{Done, Words, ReadFault, TooLong, Lex, Syntax, Name, ValuesFull, InstancesFull, TagWidth, TableFull, GroupFull, Damaged, NoSwitch, NoBarrier, Speaking, SessionFull, ScheduleFull, WriteFault, Memory}
 use Rattle.pq_command.specs.Answers.{Completes, HasNoFault, HasReadFaults, HasWriteFaults, IsAnswer, IsAnswerOn, IsDoneOrMemory, ReadsMore, ReadsWhole, StopsReading, Streams, Task, streams}
 use Rattle.pq_generate.specs.Generated.{generated_text}
-use Rattle.pq_command.specs.Tasks.{CompletesAs, IsAnswerTo, compile_outcome, compile_task, document_outcome, generate_task, inspect_task, replay_task, summary_task}
+use Rattle.pq_command.specs.Tasks.{CompletesAs, IsAnswerTo, compile_task, generate_task, inspect_task, replay_task, summary_task}
+use Rattle.pq_command.proofs.SessionCompletes.{document_completes, memory, sat_through}
 use Rattle.pq_command.proofs.SpeakCompletes.{spoken}
 
 -- known bytes that were read to their end are what was read
@@ -63,6 +61,7 @@ on_done task s text writes written completes accepted none (Damaged at) answer f
 on_done task s text writes written completes accepted none NoSwitch answer faults = completes NoSwitch text accepted answer
 on_done task s text writes written completes accepted none NoBarrier answer faults = completes NoBarrier text accepted answer
 on_done task s text writes written completes accepted none (Speaking t) answer faults = completes (Speaking t) text accepted answer
+on_done task s text writes written completes accepted none SessionFull answer faults = completes SessionFull text accepted answer
 on_done task s text writes written completes accepted none ScheduleFull answer faults = completes ScheduleFull text accepted answer
 
 -- where no read failed and there isn't more to read, reading stops for want of memory alone
@@ -86,6 +85,7 @@ stopped task s reads read no_more none (Damaged at) stops faults = absurd stops
 stopped task s reads read no_more none NoSwitch stops faults = absurd stops
 stopped task s reads read no_more none NoBarrier stops faults = absurd stops
 stopped task s reads read no_more none (Speaking t) stops faults = absurd stops
+stopped task s reads read no_more none SessionFull stops faults = absurd stops
 stopped task s reads read no_more none ScheduleFull stops faults = absurd stops
 
 -- and so the command is done, where no read and no write failed
@@ -102,16 +102,7 @@ is_done task None (Some bytes) now before after reads read writes written comple
     λ short accepted. stopped task (streams (Some bytes) now before after) reads read
     (λ more. not_more bytes now before after task.limit more short) no_read o stops read_faults
 
--- an outcome that is Memory
-memory : (o : Outcome) → o ≡ Memory → IsDoneOrMemory o
-memory o is = subst IsDoneOrMemory (sym is) tt
-
 -- each command completes
-document_completes : Completing compile_task
-document_completes o text (d, spells, within) (inl (f, is, fault)) = memory o (is ∙ ap document_outcome (no_document_fault text d f spells fault))
-document_completes o text (d, spells, within) (inr (e, spelt, (f, is, fault))) =
-    memory o (is ∙ ap compile_outcome (no_compile_fault e f (subst IsWithinLimits (one_document text d e spells spelt) within) fault))
-
 replay_completes : Completing replay_task
 replay_completes o text accepted (replay.Damaged at, is, fault) = absurd (not_damaged text at accepted fault)
 replay_completes o text accepted (replay.Syntax at, is, fault) = absurd (no_syntax_fault text at accepted fault)
@@ -128,6 +119,9 @@ finished : (command : Command) (left now before after : Option (List ℕ)) (read
     → HasReadFaults o reads read → HasWriteFaults o writes written → CompletesAs command left o
 finished Compile left now before after reads read writes written no_read no_write o answer read_faults write_faults =
     is_done compile_task None left now before after reads read writes written document_completes no_read no_write o answer read_faults write_faults
+finished Session None now before after reads read writes written no_read no_write o answer read_faults write_faults = tt
+finished Session (Some bytes) now before after reads read writes written no_read no_write o answer read_faults write_faults =
+    sat_through bytes now before after reads read writes written no_read no_write o answer read_faults write_faults
 finished Replay left now before after reads read writes written no_read no_write o answer read_faults write_faults =
     is_done replay_task None left now before after reads read writes written replay_completes no_read no_write o answer read_faults write_faults
 finished Inspect left now before after reads read writes written no_read no_write o answer read_faults write_faults =

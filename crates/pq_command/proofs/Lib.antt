@@ -1,8 +1,12 @@
 pub mod Complete
+pub mod Courses
+pub mod Endings
 pub mod Headings
 pub mod Labels
 pub mod Lists
 pub mod Openings
+pub mod Parted
+pub mod Readings
+pub mod SessionCompletes
 pub mod SpeakCompletes
 pub mod Turns
-pub mod Readings

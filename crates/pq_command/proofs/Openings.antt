@@ -13,7 +13,7 @@ use Rattle.pq_install.proofs.Renamed.{all_as_read, install_as_read, spelled_at_f
 use Rattle.pq_speaker.specs.Rules.{Session}
 use Rattle.pq_speaker.specs.Speaking.{EndsWithOwnBarrier}
 use Rattle.pq_command.specs.declared.outcome.Outcome.{Outcome}
-use Rattle.pq_command.specs.declared.outcome.Outcome.TheVariants.{Done, Words, ReadFault, TooLong, Lex, Syntax, Name, ValuesFull, InstancesFull, TagWidth, TableFull, GroupFull, Damaged, NoSwitch, NoBarrier, Speaking, ScheduleFull, WriteFault, Memory}
+use Rattle.pq_command.specs.declared.outcome.Outcome.TheVariants.{Done, Words, ReadFault, TooLong, Lex, Syntax, Name, ValuesFull, InstancesFull, TagWidth, TableFull, GroupFull, Damaged, NoSwitch, NoBarrier, Speaking, SessionFull, ScheduleFull, WriteFault, Memory}
 use Rattle.pq_command.specs.Speaks.{Bars, IsDamagedFor, IsOpened, IsSpelling, Stated, has_switch, session_of, stated}
 use Rattle.pq_command.proofs.Headings.{followed, stated-append}
 
@@ -140,5 +140,6 @@ damaged d text at size o line fault = by o fault
     by NoSwitch fault = absurd fault
     by NoBarrier fault = absurd fault
     by (Speaking t) fault = absurd fault
+    by SessionFull fault = absurd fault
     by ScheduleFull fault = absurd fault
     by WriteFault fault = absurd fault

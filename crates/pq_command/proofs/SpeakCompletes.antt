@@ -16,7 +16,7 @@ use Rattle.pq_speaker.specs.Rules.{Session, has_failed}
 use Rattle.pq_speaker.specs.Speaking.{EndsWithOwnBarrier, Heard, IsState, State, heard, kept}
 use Rattle.pq_speaker.proofs.Pieces.{failed-heard}
 use Rattle.pq_command.specs.declared.outcome.Outcome.{Outcome}
-use Rattle.pq_command.specs.declared.outcome.Outcome.TheVariants.{Done, Words, ReadFault, TooLong, Lex, Syntax, Name, ValuesFull, InstancesFull, TagWidth, TableFull, GroupFull, Damaged, NoSwitch, NoBarrier, Speaking, ScheduleFull, WriteFault, Memory}
+use Rattle.pq_command.specs.declared.outcome.Outcome.TheVariants.{Done, Words, ReadFault, TooLong, Lex, Syntax, Name, ValuesFull, InstancesFull, TagWidth, TableFull, GroupFull, Damaged, NoSwitch, NoBarrier, Speaking, SessionFull, ScheduleFull, WriteFault, Memory}
 use Rattle.pq_command.specs.Answers.{HasNoFault, HasReadFaults, HasWriteFaults, IsDoneOrMemory, Streams, streams}
 use Rattle.pq_command.specs.Reading.{install_limit, piece_size}
 use Rattle.pq_command.specs.Speaks.{Bars, Begins, BeginsInstall, ButLast, Hears, IsDamagedIn, IsLast, IsOpened, IsReadEnough, IsSpeakAnswer, IsSpelling, IsSpokenThrough, Stated, has_switch, is_cut, needs_more, state_after, stated, talk_after}
@@ -162,6 +162,7 @@ not-barred d bytes text now session came o is taken enough bars = by o bars
     by (TableFull e t n) bars = absurd bars
     by (GroupFull e n) bars = absurd bars
     by (Speaking t) bars = absurd bars
+    by SessionFull bars = absurd bars
     by ScheduleFull bars = absurd bars
     by WriteFault bars = absurd bars
 
@@ -203,4 +204,5 @@ spoken d bytes now before after reads read writes written no_read no_write o ans
     by (TagWidth n) answer read_faults write_faults = judged d bytes now session came (TagWidth n) is answer
     by (TableFull e t n) answer read_faults write_faults = judged d bytes now session came (TableFull e t n) is answer
     by (GroupFull e n) answer read_faults write_faults = judged d bytes now session came (GroupFull e n) is answer
+    by SessionFull answer read_faults write_faults = judged d bytes now session came SessionFull is answer
     by ScheduleFull answer read_faults write_faults = judged d bytes now session came ScheduleFull is answer

@@ -14,7 +14,7 @@ use Rattle.pq_speaker.specs.Rules.{Session, has_failed, replies_bytes, reply_byt
 use Rattle.pq_speaker.specs.Speaking.{Heard, State, heard, hello_bytes, opened}
 use Rattle.pq_speaker.proofs.Pieces.{heard-append}
 use Rattle.pq_command.specs.declared.outcome.Outcome.{Outcome}
-use Rattle.pq_command.specs.declared.outcome.Outcome.TheVariants.{Done, Words, ReadFault, TooLong, Lex, Syntax, Name, ValuesFull, InstancesFull, TagWidth, TableFull, GroupFull, Damaged, NoSwitch, NoBarrier, Speaking, ScheduleFull, WriteFault, Memory}
+use Rattle.pq_command.specs.declared.outcome.Outcome.TheVariants.{Done, Words, ReadFault, TooLong, Lex, Syntax, Name, ValuesFull, InstancesFull, TagWidth, TableFull, GroupFull, Damaged, NoSwitch, NoBarrier, Speaking, SessionFull, ScheduleFull, WriteFault, Memory}
 use Rattle.pq_command.specs.declared.reading.Unread.{Unread}
 use Rattle.pq_command.specs.declared.reading.Unread.TheVariants as unread
 use Rattle.pq_command.specs.Answers.{OnRefusalInTurns, Streams, streams}
@@ -214,6 +214,7 @@ turn-ends datapath left mid now before middle after speaker text piece o is read
     by (Damaged at) end = absurd end
     by NoSwitch end = absurd end
     by NoBarrier end = absurd end
+    by SessionFull end = absurd end
     by ScheduleFull end = absurd end
 
 -- The beginning.
@@ -275,6 +276,7 @@ first-ends session speaker first hello before middle after o is state put end =
     by (Damaged at) end = absurd end
     by NoSwitch end = absurd end
     by NoBarrier end = absurd end
+    by SessionFull end = absurd end
     by ScheduleFull end = absurd end
 
 -- a session that was opened is under way
@@ -332,6 +334,7 @@ start-ends datapath left now before after text session came o read short enough 
     by (Damaged at) end = absurd end
     by NoSwitch end = absurd end
     by NoBarrier end = absurd end
+    by SessionFull end = absurd end
     by ScheduleFull end = absurd end
 
 -- why nothing is installed for what was read
@@ -357,6 +360,7 @@ start-bars datapath left now before text o read short enough bars = by o bars
     by (TableFull d t n) bars = absurd bars
     by (GroupFull d n) bars = absurd bars
     by (Speaking t) bars = absurd bars
+    by SessionFull bars = absurd bars
     by ScheduleFull bars = absurd bars
     by WriteFault bars = absurd bars
 
@@ -390,6 +394,7 @@ no-refusal (GroupFull d n) fact none = absurd none
 no-refusal (Damaged at) fact none = absurd none
 no-refusal NoSwitch fact none = absurd none
 no-refusal NoBarrier fact none = absurd none
+no-refusal SessionFull fact none = absurd none
 no-refusal ScheduleFull fact none = absurd none
 
 -- the end of a turn is no refusal
@@ -412,6 +417,7 @@ turn-is-none t sent (GroupFull d n) before after end = end
 turn-is-none t sent (Damaged at) before after end = end
 turn-is-none t sent NoSwitch before after end = end
 turn-is-none t sent NoBarrier before after end = end
+turn-is-none t sent SessionFull before after end = end
 turn-is-none t sent ScheduleFull before after end = end
 
 -- nor is that of the input

@@ -4,7 +4,7 @@ use Rattle.std.specs.Io.KnownBytes.{Appends, Consumes, IsAtEnd}
 use Rattle.pq_io.specs.Faults.{Rose}
 use Rattle.pq_io.specs.Pieces.{AppendsPart}
 use Rattle.pq_command.specs.declared.outcome.Outcome.{Outcome}
-use Rattle.pq_command.specs.declared.outcome.Outcome.TheVariants.{Done, Words, ReadFault, TooLong, Speaking, WriteFault, Memory}
+use Rattle.pq_command.specs.declared.outcome.Outcome.TheVariants.{Done, Words, ReadFault, TooLong, Speaking, SessionFull, WriteFault, Memory}
 use Rattle.pq_command.specs.Reading.{piece_size}
 
 -- the bytes that a source has left and a sink was put, before and after a command
@@ -73,6 +73,7 @@ IsOfText WriteFault = ⊥
 IsOfText TooLong = ⊥
 IsOfText ReadFault = ⊥
 IsOfText Words = ⊥
+IsOfText SessionFull = ⊥
 IsOfText _ = Unit {0}
 
 -- a source's faults rose where the outcome is a read fault, and else are as before
@@ -98,6 +99,11 @@ OnRefusalInTurns TooLong fact = Unit {0}
 OnRefusalInTurns (Speaking talk) fact = Unit {0}
 OnRefusalInTurns Memory fact = Unit {0}
 OnRefusalInTurns outcome fact = OnRefusal outcome fact
+
+-- and where it writes a frame for each piece that it reads
+abbrev pub OnRefusalInSession : Outcome → Type 0 → Type 0
+OnRefusalInSession SessionFull fact = Unit {0}
+OnRefusalInSession outcome fact = OnRefusalInTurns outcome fact
 
 -- no fault came
 abbrev pub HasNoFault : ℕ → ℕ → Type 0

@@ -1,6 +1,9 @@
 pub mod Answers
+pub mod Compiles
+pub mod Frames
 pub mod Outcomes
 pub mod Reading
+pub mod Sessions
 pub mod Speaks
 pub mod Tasks
 pub mod Words

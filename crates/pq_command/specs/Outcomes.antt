@@ -8,7 +8,7 @@ use Rattle.pq_speaker.specs.declared.talk.Reason.TheVariants.{BadVersion, BadLen
 use Rattle.pq_topo.specs.declared.fault.NameKind.{NameKind}
 use Rattle.pq_topo.specs.declared.fault.NameKind.TheVariants.{Many, Doubled, BadValue, UnknownSwitch, UnknownPort, UnknownField, NotWritable, NotListed, UnknownPart, UnknownQuery}
 use Rattle.pq_command.specs.declared.outcome.Outcome.{Outcome}
-use Rattle.pq_command.specs.declared.outcome.Outcome.TheVariants.{Done, Words, ReadFault, TooLong, Lex, Syntax, Name, ValuesFull, InstancesFull, TagWidth, TableFull, GroupFull, Damaged, NoSwitch, NoBarrier, Speaking, ScheduleFull, WriteFault, Memory}
+use Rattle.pq_command.specs.declared.outcome.Outcome.TheVariants.{Done, Words, ReadFault, TooLong, Lex, Syntax, Name, ValuesFull, InstancesFull, TagWidth, TableFull, GroupFull, Damaged, NoSwitch, NoBarrier, Speaking, SessionFull, ScheduleFull, WriteFault, Memory}
 
 -- the status of each outcome
 abbrev pub code_of : Outcome → ℕ
@@ -28,6 +28,7 @@ code_of (Damaged at) = 1
 code_of NoSwitch = 1
 code_of NoBarrier = 1
 code_of (Speaking talk) = 3
+code_of SessionFull = 3
 code_of ScheduleFull = 3
 code_of WriteFault = 5
 code_of Memory = 6
@@ -78,6 +79,7 @@ line_of (Damaged at) = codes "damaged " ++ decimal at
 line_of NoSwitch = codes "no switch"
 line_of NoBarrier = codes "no barrier"
 line_of (Speaking talk) = talk_line talk
+line_of SessionFull = codes "session full"
 line_of ScheduleFull = codes "schedule full"
 line_of WriteFault = codes "write fault"
 line_of Memory = codes "memory"

@@ -1,13 +1,9 @@
 -- What each command does.
 use Rattle.std.specs.Prelude.{◌≡◌, ◌≤◌, ◌⊎◌, ℕ, List, length, Option, Some, None, IfSome}
 use Rattle.pq_model.specs.Classes.{HasClasses}
-use Rattle.pq_model.specs.Install.{Install, IsSpelled}
-use Rattle.pq_compile.specs.declared.compiling.CompileFault.{CompileFault}
-use Rattle.pq_compile.specs.declared.compiling.CompileFault.TheVariants as compile
-use Rattle.pq_compile.specs.Compiled.{IsCompileFault, IsInstalled, IsWithinLimits}
-use Rattle.pq_compile.specs.declared.fault.DocumentFault.{DocumentFault}
-use Rattle.pq_compile.specs.declared.fault.DocumentFault.TheVariants as document
-use Rattle.pq_compile.specs.Documents.{DocumentTree, IsDocumentFault, Spells}
+use Rattle.pq_model.specs.Install.{Install}
+use Rattle.pq_compile.specs.Compiled.{IsInstalled}
+use Rattle.pq_compile.specs.Documents.{DocumentTree, Spells}
 use Rattle.pq_compile.specs.Prepared.{languages_in, queries_in}
 use Rattle.pq_generate.specs.Generated.{generated_text}
 use Rattle.pq_query.specs.Instances.{label_sum}
@@ -20,56 +16,16 @@ use Rattle.pq_replay.specs.declared.fault.ReplayFault.{ReplayFault}
 use Rattle.pq_replay.specs.declared.fault.ReplayFault.TheVariants as replay
 use Rattle.pq_replay.specs.Replay.{IsReplay, IsReplayFault, IsReplayable}
 use Rattle.pq_command.specs.declared.words.Command.{Command}
-use Rattle.pq_command.specs.declared.words.Command.TheVariants.{Compile, Replay, Inspect, Summary, SummaryOf, Generate, Speak}
+use Rattle.pq_command.specs.declared.words.Command.TheVariants.{Compile, Session, Replay, Inspect, Summary, SummaryOf, Generate, Speak}
 use Rattle.pq_command.specs.declared.outcome.Outcome.{Outcome}
-use Rattle.pq_command.specs.declared.outcome.Outcome.TheVariants.{Lex, Syntax, Name, ValuesFull, InstancesFull, TagWidth, TableFull, GroupFull, Damaged, ScheduleFull, Memory}
+use Rattle.pq_command.specs.declared.outcome.Outcome.TheVariants.{Syntax, Damaged, ScheduleFull, Memory}
 use Rattle.pq_command.specs.declared.answer.Output.{Output}
 use Rattle.pq_command.specs.declared.answer.Output.TheVariants as output
-use Rattle.pq_command.specs.Answers.{Completes, IsAnswer, IsDoneOrMemory, OnRefusal, OnRefusalInTurns, Streams, Task}
+use Rattle.pq_command.specs.Answers.{Completes, IsAnswer, IsDoneOrMemory, OnRefusal, OnRefusalInSession, OnRefusalInTurns, Streams, Task}
+use Rattle.pq_command.specs.Compiles.{HasNoInstall, IsInstallOf, IsWithinDocument}
 use Rattle.pq_command.specs.Reading.{document_limit, install_limit}
+use Rattle.pq_command.specs.Sessions.{IsSessionAnswer, IsWithinSession}
 use Rattle.pq_command.specs.Speaks.{IsSpeakAnswer, IsSpokenThrough}
-
--- Compile.
-
--- the outcome of a fault of a document
-abbrev pub document_outcome : DocumentFault → Outcome
-document_outcome (document.Lex at) = Lex at
-document_outcome (document.Syntax at) = Syntax at
-document_outcome (document.Name at kind) = Name at kind
-document_outcome document.Memory = Memory
-
--- the outcome of a limit that a document is beyond
-abbrev pub compile_outcome : CompileFault → Outcome
-compile_outcome (compile.ValuesFull field count) = ValuesFull field count
-compile_outcome (compile.InstancesFull count) = InstancesFull count
-compile_outcome (compile.TagWidth classes) = TagWidth classes
-compile_outcome (compile.TableFull switch table entries) = TableFull switch table entries
-compile_outcome (compile.GroupFull switch copies) = GroupFull switch copies
-compile_outcome compile.Memory = Memory
-
--- the text is a document within all limits
-abbrev pub IsWithinDocument : List ℕ → Type 0
-IsWithinDocument text = (d : DocumentTree) × Spells text d × IsWithinLimits d
-
--- these bytes are the spelling of the document's install, which does what the document means
-abbrev pub IsWrittenFor : DocumentTree → List ℕ → Type 0
-IsWrittenFor d written = (i : Install) × IsInstalled d i × IsSpelled i written
-
--- the text is a document, and these bytes are written for it
-abbrev pub IsInstallOf : List ℕ → List ℕ → Type 0
-IsInstallOf text written = (d : DocumentTree) × Spells text d × IsWrittenFor d written
-
--- the outcome is that of the text's first fault
-abbrev pub IsTextFault : Outcome → List ℕ → Type 0
-IsTextFault outcome text = (f : DocumentFault) × (outcome ≡ document_outcome f) × IsDocumentFault text f
-
--- the outcome is that of the first limit that the document is beyond
-abbrev pub IsLimitFault : Outcome → DocumentTree → Type 0
-IsLimitFault outcome d = (f : CompileFault) × (outcome ≡ compile_outcome f) × IsCompileFault d f
-
--- why a text gets no install: its first fault, or the first limit that it is beyond as a document
-abbrev pub HasNoInstall : Outcome → List ℕ → Type 0
-HasNoInstall outcome text = IsTextFault outcome text ⊎ ((d : DocumentTree) × Spells text d × IsLimitFault outcome d)
 
 -- Replay.
 
@@ -161,6 +117,7 @@ HasSize command = Unit {0}
 -- what the outcome of a command says
 abbrev pub IsAnswerTo : Command → Outcome → Streams → Type 0
 IsAnswerTo Compile outcome s = IsAnswer compile_task None outcome s
+IsAnswerTo Session outcome s = IsSessionAnswer outcome s
 IsAnswerTo Replay outcome s = IsAnswer replay_task None outcome s
 IsAnswerTo Inspect outcome s = IsAnswer inspect_task None outcome s
 IsAnswerTo Summary outcome s = IsAnswer summary_task None outcome s
@@ -170,12 +127,14 @@ IsAnswerTo (Speak datapath) outcome s = IsSpeakAnswer datapath outcome s
 
 -- a fact for each outcome that leaves the sink as it was; words that name no command do
 abbrev pub OnRefusalTo : Option Command → Outcome → Type 0 → Type 0
+OnRefusalTo (Some Session) outcome fact = OnRefusalInSession outcome fact
 OnRefusalTo (Some (Speak datapath)) outcome fact = OnRefusalInTurns outcome fact
 OnRefusalTo command outcome fact = OnRefusal outcome fact
 
 -- the command is done, or memory ran out, where it accepts its text
 abbrev pub CompletesAs : Command → Option (List ℕ) → Outcome → Type 0
 CompletesAs Compile left outcome = Completes compile_task None left outcome
+CompletesAs Session left outcome = IfSome left (λ bytes. IsWithinSession bytes → IsDoneOrMemory outcome)
 CompletesAs Replay left outcome = Completes replay_task None left outcome
 CompletesAs Inspect left outcome = Completes inspect_task None left outcome
 CompletesAs Summary left outcome = Completes summary_task None left outcome

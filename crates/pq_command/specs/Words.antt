@@ -2,16 +2,17 @@
 use Rattle.std.specs.Prelude.{ℕ, ◌-◌, ◌^◌, List, [], ◌∷◌, codes, bytes_eq, nat_lt, if◌then◌else◌, Option, Some, None}
 use Rattle.pq_term.specs.Numbers.{decimal_of}
 use Rattle.pq_command.specs.declared.words.Command.{Command}
-use Rattle.pq_command.specs.declared.words.Command.TheVariants.{Compile, Replay, Inspect, Summary, SummaryOf, Generate, Speak}
+use Rattle.pq_command.specs.declared.words.Command.TheVariants.{Compile, Session, Replay, Inspect, Summary, SummaryOf, Generate, Speak}
 
 -- the command that is one word
 abbrev pub command_named : List ℕ → Option Command
 command_named word =
     if bytes_eq word (codes "compile") then Some Compile
+    else (if bytes_eq word (codes "session") then Some Session
     else (if bytes_eq word (codes "replay") then Some Replay
     else (if bytes_eq word (codes "inspect") then Some Inspect
     else (if bytes_eq word (codes "summary") then Some Summary
-    else None)))
+    else None))))
 
 -- a number that is not below another
 abbrev pub not_below : ℕ → Option ℕ → Option ℕ

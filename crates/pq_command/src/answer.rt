@@ -10,6 +10,7 @@ use crate::inspect::inspected;
 use crate::outcome::Outcome;
 use crate::reading::{DOCUMENT_LIMIT, INSTALL_LIMIT, Unread, read_whole};
 use crate::replay::replayed;
+use crate::session::session;
 use crate::speak::speak;
 use crate::summary::summarized;
 use crate::words::Command;
@@ -128,6 +129,7 @@ pub(crate) fn answer<S: Source, K: Sink>(
 {
     match command {
         Command::Compile => answer_input(alloc, Output::Install, source, sink),
+        Command::Session => session(alloc, source, sink),
         Command::Replay => answer_input(alloc, Output::State, source, sink),
         Command::Inspect => answer_input(alloc, Output::Inspection, source, sink),
         Command::Summary => answer_input(alloc, Output::Summary, source, sink),

@@ -6,7 +6,7 @@ ghost use Rattle.pq_model.specs.Classes.{HasClasses};
 ghost use Rattle.pq_model.specs.Install.{IsLawfulInstall, spelling};
 ghost use Rattle.pq_command.specs.Answers.{IsOfText};
 ghost use Rattle.pq_command.specs.Reading.{document_limit};
-ghost use Rattle.pq_command.specs.Tasks.{HasNoInstall, IsInstallOf, IsLimitFault, IsTextFault, IsWrittenFor, compile_outcome};
+ghost use Rattle.pq_command.specs.Compiles.{HasNoInstall, IsInstallOf, IsLimitFault, IsTextFault, IsWrittenFor, compile_outcome};
 
 use crate::outcome::Outcome;
 use pq_compile::{
@@ -39,7 +39,7 @@ pub(crate) fn document_of(alloc: Global, text: &[u8]) -> Result<Document, Outcom
 }
 
 /// The outcome of a limit that a document is beyond.
-fn outcome_of(fault: CompileFault) -> Outcome
+pub(crate) fn outcome_of(fault: CompileFault) -> Outcome
     ensures outcome { result ≡ compile_outcome fault }
     ensures of_text { IsOfText result }
 {
@@ -103,7 +103,7 @@ pub(crate) fn compiled_document(
 }
 
 /// The bytes of an install.
-fn spelled(alloc: Global, install: &Install) -> Result<Vec<u8>, AllocError>
+pub(crate) fn spelled(alloc: Global, install: &Install) -> Result<Vec<u8>, AllocError>
     requires { IsLawfulInstall install.now }
     ensures { IfOk result (λ bytes. bytes.items ≡ spelling install.now) }
 {

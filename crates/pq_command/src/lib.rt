@@ -7,6 +7,7 @@ mod inspect;
 mod outcome;
 mod reading;
 mod replay;
+mod session;
 mod speak;
 mod summary;
 mod top;

@@ -18,7 +18,7 @@ pub enum Outcome {
     Words,
     /// A read failed.
     ReadFault,
-    /// The document has more than 524,288 bytes, or the input of another command more than 268,435,456.
+    /// The document, or a piece of a session, has more than 524,288 bytes, or the input of another command more than 268,435,456.
     TooLong,
     /// What begins at this byte of a document is no token.
     Lex {
@@ -73,6 +73,8 @@ pub enum Outcome {
     Speaking {
         talk: Talk,
     },
+    /// The session has more than 10,000 pieces.
+    SessionFull,
     /// The schedule has more than 100,000 events.
     ScheduleFull,
     /// A write failed.
@@ -212,7 +214,8 @@ impl Outcome {
             Outcome::Words => 2,
             Outcome::ValuesFull { .. } | Outcome::InstancesFull { .. } => 3,
             Outcome::TagWidth { .. } | Outcome::TableFull { .. } => 3,
-            Outcome::GroupFull { .. } | Outcome::Speaking { .. } | Outcome::ScheduleFull => 3,
+            Outcome::GroupFull { .. } | Outcome::Speaking { .. } => 3,
+            Outcome::SessionFull | Outcome::ScheduleFull => 3,
             Outcome::ReadFault => 4,
             Outcome::WriteFault => 5,
             Outcome::Memory => 6,
@@ -244,6 +247,7 @@ impl Outcome {
             Outcome::NoSwitch => String::from_str(alloc, "no switch"),
             Outcome::NoBarrier => String::from_str(alloc, "no barrier"),
             Outcome::Speaking { talk } => talk_line(alloc, *talk),
+            Outcome::SessionFull => String::from_str(alloc, "session full"),
             Outcome::ScheduleFull => String::from_str(alloc, "schedule full"),
             Outcome::WriteFault => String::from_str(alloc, "write fault"),
             Outcome::Memory => String::from_str(alloc, "memory"),

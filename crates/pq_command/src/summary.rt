@@ -4,7 +4,8 @@ ghost use Rattle.pq_compile.specs.Prepared.{HasFewInstances, IsCompilable};
 ghost use Rattle.pq_query.specs.Instances.{label_sum, named_trees};
 ghost use Rattle.pq_command.specs.Answers.{IsOfText};
 ghost use Rattle.pq_command.specs.Reading.{document_limit};
-ghost use Rattle.pq_command.specs.Tasks.{HasNoInstall, IsLimitFault, IsSummarized, IsSummaryOf, counts_of};
+ghost use Rattle.pq_command.specs.Compiles.{HasNoInstall, IsLimitFault};
+ghost use Rattle.pq_command.specs.Tasks.{IsSummarized, IsSummaryOf, counts_of};
 
 use crate::compile::{compiled_document, document_of};
 use crate::outcome::Outcome;

@@ -11,6 +11,8 @@ use pq_term::decimal_value;
 pub enum Command {
     /// Write the install of a document.
     Compile,
+    /// Write the install of a document, and then what each edit of it changes.
+    Session,
     /// Write where packets are after a schedule.
     Replay,
     /// Write an install as JSON text.
@@ -43,6 +45,9 @@ impl Command {
     {
         if word == b"compile".as_slice() {
             return Some(Command::Compile);
+        }
+        if word == b"session".as_slice() {
+            return Some(Command::Session);
         }
         if word == b"replay".as_slice() {
             return Some(Command::Replay);
