@@ -18,7 +18,7 @@ use Rattle.pq_command.specs.Answers.{IsOfText, streams}
 use Rattle.pq_command.specs.Compiles.{HasNoInstall}
 use Rattle.pq_command.specs.Frames.{install_frame}
 use Rattle.pq_command.specs.Reading.{document_limit}
-use Rattle.pq_command.specs.Sessions.{AreFrames, AreFramesTo, AreSteps, Current, HasFirst, IsCut, IsEnded, IsGoingOn, IsSessionAnswer, IsStep, IsStopped, pieces_limit, unread_outcome}
+use Rattle.pq_command.specs.Sessions.{AreFrames, AreFramesTo, AreSteps, Current, HasFirst, IsCut, IsEnded, IsGoingOn, IsSessionAnswer, IsStep, pieces_limit, unread_outcome}
 use Rattle.pq_command.proofs.Parted.{Parted, Whole, comes, none_parted, read_on}
 
 -- Bytes that are put.

@@ -1,5 +1,5 @@
 -- What the outcomes of a session leave in the source and the sink.
-use Rattle.std.proofs.Common.{◌≡◌, ℕ, List, refl, Option}
+use Rattle.std.proofs.Common.{◌≡◌, ℕ, List, Option}
 use Rattle.std.specs.Prelude.{Err}
 use Rattle.pq_pieces.specs.declared.piece.Piece.{Piece}
 use Rattle.pq_pieces.specs.declared.unread.Unread.{Unread}

@@ -1,14 +1,14 @@
 -- A line and an install with more bytes after them.
-use Rattle.std.proofs.Common.{◌≡◌, ℕ, zero, suc, ◌+◌, ◌-◌, ◌<◌, ◌≤◌, min, Bool, true, false, not, ◌&&◌, cond, ltb, eqb, is_none, List, [], ◌∷◌, ◌++◌, length, take, drop, position, refl, sym, ap, ◌∙◌, subst, arith, length-append, length-drop, length-take, append-nil, Option, Some, None, true≢false}
+use Rattle.std.proofs.Common.{◌≡◌, ℕ, zero, suc, ◌+◌, ◌<◌, ◌≤◌, Bool, true, false, not, ltb, eqb, is_none, List, [], ◌∷◌, ◌++◌, length, take, drop, position, refl, sym, ap, ◌∙◌, arith, length-append, length-drop, length-take, Option, Some, None}
 use Rattle.std.specs.Prelude.{◌==◌}
-use Rattle.std.specs.List.{position_or_len, prefix_len}
-use Rattle.std.proofs.lemmas.Bool.{and_parts, eq-eqb, le-ltb, ltb-false, ltb-true, lt-ltb, ne_eqb}
+use Rattle.std.specs.List.{prefix_len}
+use Rattle.std.proofs.lemmas.Bool.{and_parts, eq-eqb, ltb-false, ltb-true, lt-ltb, ne_eqb}
 use Rattle.std.proofs.lemmas.List.{drop-append-le, take-append-le, take_all}
 use Rattle.std.proofs.lemmas.List.Folds.{prefix_len-append}
 use Rattle.std.proofs.lemmas.List.Sums.{prefix_len-le-length}
 use Rattle.std.proofs.lemmas.Option.{same_Some}
 use Rattle.pq_term.specs.Numbers.{decimal_of}
-use Rattle.pq_command.specs.Speaks.{Stated, is_cut, line_end, needs_more, stated, stated_before, stated_to}
+use Rattle.pq_command.specs.Speaks.{Stated, line_end, needs_more, stated, stated_before, stated_to}
 
 abbrev is_feed : ℕ → Bool
 is_feed b = b == 10

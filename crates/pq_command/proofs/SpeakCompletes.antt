@@ -1,25 +1,23 @@
 -- What `speak` accepts is spoken through, where no read and no write failed.
-use Rattle.std.proofs.Common.{◌≡◌, ℕ, ◌+◌, ◌<◌, ◌≤◌, ◌⊎◌, Bool, true, false, ltb, List, [], ◌∷◌, ◌++◌, length, take, drop, refl, sym, ap, ◌∙◌, subst, arith, append_assoc, append-nil, length-append, take_all, Option, Some, None, inl, inr, IfSome, true≢false}
+use Rattle.std.proofs.Common.{◌≡◌, ℕ, ◌<◌, ◌≤◌, ◌⊎◌, true, false, ltb, List, [], ◌++◌, length, take, refl, sym, ap, ◌∙◌, subst, arith, append-nil, length-append, take_all, Option, Some, None, inl, inr, true≢false}
 use Rattle.std.specs.Io.KnownBytes.{Consumes, IsAtEnd}
 use Rattle.std.proofs.Math.Seq.{take-append_seam}
 use Rattle.std.proofs.lemmas.Bool.{ltb-false}
 use Rattle.std.proofs.lemmas.List.{take-append-le}
 use Rattle.std.proofs.lemmas.Option.{same_Some}
 use Rattle.pq_model.specs.Install.{Install, messages_of}
-use Rattle.pq_install.specs.Damage.{IsDamagedAt}
-use Rattle.pq_install.specs.Reading.{IsInstallIn}
 use Rattle.pq_install.proofs.OneSpelling.{same_length}
 use Rattle.pq_install.proofs.Renamed.{spelled_stands}
 use Rattle.pq_speaker.specs.declared.talk.Talk.{Talk}
-use Rattle.pq_speaker.specs.declared.talk.Talk.TheVariants.{Greeting, Asking, Installing, Installed, Failed}
+use Rattle.pq_speaker.specs.declared.talk.Talk.TheVariants.{Installed}
 use Rattle.pq_speaker.specs.Rules.{Session, has_failed}
 use Rattle.pq_speaker.specs.Speaking.{EndsWithOwnBarrier, Heard, IsState, State, heard, kept}
 use Rattle.pq_speaker.proofs.Pieces.{failed-heard}
 use Rattle.pq_command.specs.declared.outcome.Outcome.{Outcome}
 use Rattle.pq_command.specs.declared.outcome.Outcome.TheVariants.{Done, Words, ReadFault, TooLong, Lex, Syntax, Name, ValuesFull, InstancesFull, TagWidth, TableFull, GroupFull, Damaged, NoSwitch, NoBarrier, Speaking, SessionFull, ScheduleFull, WriteFault, Memory}
 use Rattle.pq_command.specs.Answers.{HasNoFault, HasReadFaults, HasWriteFaults, IsDoneOrMemory, Streams, streams}
-use Rattle.pq_command.specs.Reading.{install_limit, piece_size}
-use Rattle.pq_command.specs.Speaks.{Bars, Begins, BeginsInstall, ButLast, Hears, IsDamagedIn, IsLast, IsOpened, IsReadEnough, IsSpeakAnswer, IsSpelling, IsSpokenThrough, Stated, has_switch, is_cut, needs_more, state_after, stated, talk_after}
+use Rattle.pq_command.specs.Reading.{install_limit}
+use Rattle.pq_command.specs.Speaks.{Bars, BeginsInstall, IsDamagedIn, IsLast, IsOpened, IsReadEnough, IsSpeakAnswer, IsSpelling, IsSpokenThrough, Stated, has_switch, is_cut, needs_more, state_after, stated, talk_after}
 use Rattle.pq_command.proofs.Headings.{followed, none-append, stated-append}
 use Rattle.pq_command.proofs.Openings.{one-list, one-session, one-switch, opened-append}
 use Rattle.pq_command.proofs.Turns.{state-append}

@@ -1,11 +1,9 @@
 -- What each turn of a session adds, and how a session ends.
-use Rattle.std.proofs.Common.{◌≡◌, ◌≢◌, ℕ, zero, suc, ◌+◌, ◌-◌, ◌<◌, ◌≤◌, min, Bool, true, false, List, [], ◌∷◌, ◌++◌, length, take, drop, refl, sym, ap, ◌∙◌, subst, arith, append_assoc, append-nil, length-append, length-take, take_all, Option, Some, None, inl, inr, true≢false}
-use Rattle.std.specs.List.{flat_map}
+use Rattle.std.proofs.Common.{◌≡◌, ◌≢◌, ℕ, zero, suc, ◌+◌, ◌<◌, ◌≤◌, true, false, List, [], ◌∷◌, ◌++◌, length, take, drop, refl, sym, ap, ◌∙◌, subst, arith, append_assoc, append-nil, length-append, take_all, Option, inl, inr, true≢false}
 use Rattle.std.specs.Io.KnownBytes.{Appends, Consumes, IsAtEnd, Keeps}
 use Rattle.std.proofs.KnownBytes.{Appends-nil, Appends-trans, Consumes-kept, Consumes-trans}
 use Rattle.std.proofs.Math.Seq.{take-append-add}
 use Rattle.std.proofs.lemmas.Grind.{flat_map-append}
-use Rattle.std.proofs.lemmas.List.{take-append-le}
 use Rattle.pq_io.specs.Pieces.{AppendsPart}
 use Rattle.pq_model.specs.declared.message.Message.{Message}
 use Rattle.pq_speaker.specs.declared.talk.Talk.{Talk}
@@ -19,7 +17,7 @@ use Rattle.pq_command.specs.declared.reading.Unread.{Unread}
 use Rattle.pq_command.specs.declared.reading.Unread.TheVariants as unread
 use Rattle.pq_command.specs.Answers.{OnRefusalInTurns, Streams, streams}
 use Rattle.pq_command.specs.Reading.{install_limit, piece_size}
-use Rattle.pq_command.specs.Speaks.{Bars, ButLast, GoesOn, Hears, IsLast, IsOpened, IsReadEnough, IsSpeakAnswer, IsTurnEnd, IsUnderWay, IsUnread, SaysAll, SaysPart, end_outcome, needs_more, said, sends, session_of, state_after, stated, talk_after, unread_outcome}
+use Rattle.pq_command.specs.Speaks.{Bars, Hears, IsOpened, IsReadEnough, IsSpeakAnswer, IsTurnEnd, IsUnderWay, IsUnread, SaysPart, end_outcome, said, sends, session_of, state_after, stated, talk_after, unread_outcome}
 use Rattle.pq_command.proofs.Headings.{few-follow}
 use Rattle.pq_command.proofs.Openings.{opened-append}
 

@@ -1,5 +1,5 @@
 -- What each command does.
-use Rattle.std.specs.Prelude.{◌≡◌, ◌≤◌, ◌⊎◌, ℕ, List, length, Option, Some, None, IfSome}
+use Rattle.std.specs.Prelude.{◌≡◌, ◌≤◌, ℕ, List, length, Option, Some, None, IfSome}
 use Rattle.pq_model.specs.Classes.{HasClasses}
 use Rattle.pq_model.specs.Install.{Install}
 use Rattle.pq_compile.specs.Compiled.{IsInstalled}

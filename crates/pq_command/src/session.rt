@@ -15,11 +15,7 @@ use pq_io::{Sink, Source};
 use std::alloc::Global;
 
 /// Reads a document and then edits, in pieces, and writes a frame for each piece before it reads the next one.
-pub(crate) fn session<S: Source, K: Sink>(
-    alloc: Global,
-    source: &mut S,
-    sink: &mut K,
-) -> Outcome
+pub(crate) fn session<S: Source, K: Sink>(alloc: Global, source: &mut S, sink: &mut K) -> Outcome
     ensures answer { IsSessionAnswer result (streams (S.left source.old) (S.left source.new) (K.put sink.old) (K.put sink.new)) }
     ensures read_faults { HasReadFaults result (S.faults source.old) (S.faults source.new) }
     ensures write_faults { HasWriteFaults result (K.faults sink.old) (K.faults sink.new) }

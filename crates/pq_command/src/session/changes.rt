@@ -35,11 +35,7 @@ fn push_heading(datapath: u64, count: usize, into: &mut Vec<u8>) -> Result<(), A
 }
 
 /// Appends messages.
-fn push_messages(
-    alloc: Global,
-    messages: &[Message],
-    into: &mut Vec<u8>,
-) -> Result<(), AllocError>
+fn push_messages(alloc: Global, messages: &[Message], into: &mut Vec<u8>) -> Result<(), AllocError>
     requires { All IsLawfulMessage messages.now }
     ensures { OnOk result (into.new.items ≡ into.old.items ++ flat_map message_bytes messages.now) }
 {

@@ -132,11 +132,7 @@ fn accepted(alloc: Global, engine: &mut Engine, piece: &[u8]) -> Result<Vec<u8>,
 }
 
 /// Judges a piece as an edit and makes that; gives the frame for it.
-pub(crate) fn step(
-    alloc: Global,
-    engine: &mut Engine,
-    piece: &[u8],
-) -> Result<Vec<u8>, AllocError>
+pub(crate) fn step(alloc: Global, engine: &mut Engine, piece: &[u8]) -> Result<Vec<u8>, AllocError>
     requires { length piece.now ≤ document_limit }
     ensures { IfOk result (λ bytes. IsStep (current_of engine.old) piece.now bytes.items (current_of engine.new)) }
 {

@@ -1,4 +1,4 @@
-use Rattle.std.proofs.Common.{◌≡◌, ◌∙◌, ap, sym, position, None, Some}
+use Rattle.std.proofs.Common.{◌∙◌, ap, sym, position}
 use Rattle.std.specs.Prelude.{◌==◌}
 use Rattle.pq_model.specs.Install.{Install}
 use Rattle.pq_command.proofs.Lists.{IsListOf, list-at, unlisted}

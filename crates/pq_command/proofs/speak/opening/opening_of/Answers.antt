@@ -1,4 +1,4 @@
-use Rattle.std.proofs.Common.{◌≡◌, ◌∙◌, ℕ, List, ap, drop, length, subst, sym, take}
+use Rattle.std.proofs.Common.{◌∙◌, ℕ, List, ap, length, subst, sym}
 use Rattle.pq_speaker.specs.Speaking.{EndsWithOwnBarrier}
 use Rattle.pq_command.specs.Speaks.{IsDamagedFor, IsSpelling}
 use Rattle.pq_command.proofs.Openings.{damaged, no-barrier, no-switch, opens}

@@ -1,4 +1,4 @@
-use Rattle.std.proofs.Common.{arith, ◌≡◌, ◌∙◌, ◌-◌, ℕ, List, ap, drop, length, subst, sym, take}
+use Rattle.std.proofs.Common.{arith, ◌≡◌, ◌∙◌, ◌-◌, ℕ, List, ap, drop, length, subst, take}
 use Rattle.std.proofs.lemmas.List.{take_rest}
 use Rattle.pq_command.specs.Speaks.{Bars, IsOpened, IsTurnEnd, said, session_of, talk_after}
 use Rattle.pq_command.proofs.Turns.{begun, start-bars, start-ends, unread-stops}
