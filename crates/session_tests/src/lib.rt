@@ -1,6 +1,8 @@
-//! Tests of sessions with a switch.
+//! Tests of sessions: of edits, and with a switch.
 #![tactic(auto)]
 
+#[cfg(test)]
+mod edits;
 #[cfg(test)]
 mod hexadecimal;
 #[cfg(test)]
