@@ -8,7 +8,7 @@ ghost use Rattle.pq_net.specs.Searches.{IsAt, IsNowhere};
 use crate::wiring::Wiring;
 use pq_install::ReportRow;
 use pq_model::Instance;
-use pq_switch::{Sent, Tables, Tagged, hop};
+use pq_switch::{Sent, Settled, Tagged};
 use pq_topo::Switch;
 use std::alloc::{AllocError, Global};
 
@@ -46,7 +46,7 @@ fn row_at(report: &[ReportRow], tag: u16) -> Option<usize>
 pub(crate) fn copies_of(
     alloc: Global,
     wiring: &Wiring,
-    tables: &[Tables],
+    tables: &[Settled],
     x: &Tagged,
 ) -> Result<Vec<Sent>, AllocError>
     requires { length tables.now ≡ length wiring.now.switches }
@@ -54,7 +54,7 @@ pub(crate) fn copies_of(
         IfOk result (λ sent. sent.items ≡ sends own x.now) }
 {
     match switch_at(wiring, x.packet.switch) {
-        Some(index) => hop(alloc, &tables[index], x),
+        Some(index) => tables[index].hop(alloc, x),
         None => Ok(Vec::new(alloc)),
     }
 }

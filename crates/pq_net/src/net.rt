@@ -12,7 +12,7 @@ use crate::state::State;
 use crate::wiring::Wiring;
 use pq_install::{Install, ReportRow};
 use pq_model::{Event, Tagged};
-use pq_switch::Tables;
+use pq_switch::Settled;
 use pq_term::Name;
 use std::alloc::{AllocError, Global};
 use std::marker::Model;
@@ -23,7 +23,7 @@ pub struct Net {
     wiring: Wiring,
     names: Vec<Name>,
     report: Vec<ReportRow>,
-    tables: Vec<Tables>,
+    tables: Vec<Settled>,
     state: State,
 }
 
@@ -34,7 +34,7 @@ impl Model for Net {
     ghost use Rattle.pq_model.specs.SwitchMachine.{Tables as TablesValue};
     ghost use Rattle.pq_model.specs.TablesMachine.{Report, TablesState};
     ghost use Rattle.pq_install.specs.contracts.install.ReportRow as rows;
-    ghost use Rattle.pq_switch.specs.contracts.tables.Tables as switches;
+    ghost use Rattle.pq_switch.specs.contracts.settled.Settled as switches;
     ghost use Rattle.pq_net.specs.contracts.state.State as states;
     ghost use Rattle.pq_net.specs.contracts.wiring.Wiring as wirings;
     ghost use Rattle.pq_net.specs.Network.{Network};

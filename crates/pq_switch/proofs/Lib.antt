@@ -3,9 +3,11 @@ pub mod Choice
 pub mod Falling
 pub mod Kept
 pub mod Lookups
+pub mod OnShelves
 pub mod Passing
 pub mod Patterns
 pub mod Places
+pub mod Pushed
 pub mod Ranges
 pub mod Rows
 pub mod Scan

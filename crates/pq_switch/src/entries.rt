@@ -1,5 +1,6 @@
-ghost use Rattle.std.specs.Prelude.{◌≡◌, [], ◌∷◌, ◌++◌, All, OnOk, OnErr, not};
+ghost use Rattle.std.specs.Prelude.{◌≡◌, [], ◌∷◌, ◌++◌, All, IfOk, OnOk, OnErr, not};
 ghost use Rattle.std.specs.List.{filter, list_any};
+ghost use Rattle.std.specs.Map.{values_of};
 ghost use Rattle.std.specs.Option.{option_copied};
 ghost use Rattle.pq_model.specs.Lawful.{IsLawfulAction};
 ghost use Rattle.pq_model.specs.SwitchMachine.{entry_of, groups_named, is_placed, is_removed, taken};
@@ -8,6 +9,7 @@ use crate::entry::{Entry, Slot};
 use crate::groups::Groups;
 use crate::lookup::{best_in_table, entry_in};
 use crate::place::Place;
+use crate::shelves::Shelved;
 use pq_model::{FlowMod, Tagged};
 use std::alloc::{AllocError, Global};
 use std::collections::BTreeMap;
@@ -23,6 +25,9 @@ pub(crate) struct Entries {
     // Above the number of each slot.
     next: u64,
 }
+
+/// The most entries of one shape that are compared one by one.
+const LARGE: u32 = 256;
 
 impl Model for Entries {
     ghost use Rattle.std.specs.Prelude.{List};
@@ -100,4 +105,53 @@ impl Entries {
             { !groups.removes_named(number, slot.entry.actions.as_slice()) },
         );
     }
+
+    /// Whether many entries of a block have one shape.
+    pub(crate) fn has_large_shape(&self) -> bool {
+        has_large_shape(&self.slots)
+    }
+
+    /// The same entries on shelves.
+    pub(crate) fn shelved(self, alloc: Global) -> Result<Shelved, AllocError>
+        ensures { IfOk result (λ shelved. shelved ≡ self) }
+    {
+        let Entries { slots, next: _ } = self;
+        let rows = rows_of(alloc, slots)?;
+        Shelved::of(alloc, rows)
+    }
+}
+
+// Whether more than 256 entries that stand together are of one block and one shape.
+fn has_large_shape(slots: &BTreeMap<Place, Slot>) -> bool {
+    let mut count = 0u32;
+    let mut last = None;
+    for place in slots.keys() {
+        count = count_with(last, place, count);
+        if count > LARGE {
+            return true;
+        }
+        last = Some(place);
+    }
+    false
+}
+
+// How many of a shape stand together up to a place, where so many do up to the one before.
+fn count_with(last: Option<&Place>, place: &Place, count: u32) -> u32 {
+    match last {
+        Some(other) if other.block == place.block && other.shape == place.shape => {
+            count.saturating_add(1)
+        }
+        _ => 1,
+    }
+}
+
+// The slots in the order of their places.
+fn rows_of(alloc: Global, slots: BTreeMap<Place, Slot>) -> Result<Vec<Slot>, AllocError>
+    ensures { IfOk result (λ rows. rows.items ≡ values_of slots.entries) }
+{
+    let mut rows = Vec::with_capacity(alloc, slots.len())?;
+    for slot in slots.into_values() {
+        rows.push(slot)?;
+    }
+    Ok(rows)
 }

@@ -6,13 +6,17 @@ mod actions;
 mod entries;
 mod entry;
 mod groups;
+mod listing;
 mod lookup;
 mod pattern;
 mod place;
 mod sending;
+mod settled;
+mod shelves;
 mod sorting;
 mod tables;
 
 pub use pq_model::{Sent, Tagged};
 pub use sending::hop;
+pub use settled::Settled;
 pub use tables::Tables;

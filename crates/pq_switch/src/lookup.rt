@@ -147,16 +147,19 @@ fn is_beaten(slot: &Slot, best: Option<&Slot>) -> bool
     }
 }
 
-// The better one of an entry and the best so far.
-fn preferred<'a>(table: u8, x: &Tagged, slot: &'a Slot, best: Option<&'a Slot>) -> Option<&'a Slot>
+/// The better one of an entry and the best so far. Most entries are told apart by their priorities alone.
+pub(crate) fn preferred<'a>(
+    table: u8,
+    x: &Tagged,
+    slot: &'a Slot,
+    best: Option<&'a Slot>,
+) -> Option<&'a Slot>
     ensures { option_copied result ≡ preferred table x.now slot.now (option_copied best.entry) }
 {
-    if !counts(table, x, slot) {
-        return best;
-    }
     match best {
         Some(other) if !comes_before(slot, other) => best,
-        _ => Some(slot),
+        _ if counts(table, x, slot) => Some(slot),
+        _ => best,
     }
 }
 

@@ -11,7 +11,7 @@ use pq_model::{Action, Sent, Tagged};
 use std::alloc::{AllocError, Global};
 
 /// The most tables that a packet passes: GOTO_TABLE leads up, to 254 at the most.
-const MOST_TABLES: u8 = 255;
+pub(crate) const MOST_TABLES: u8 = 255;
 
 /// The copies that a switch with these tables sends for an arriving packet (OpenFlow 1.3.5, section 5.1): those to
 /// ports first, each part in packet order and then by VLAN number, a copy without a header first.
@@ -43,8 +43,8 @@ fn copies(alloc: Global, tables: &Tables, mut x: Tagged) -> Result<Vec<Sent>, Al
     Ok(sent)
 }
 
-// Runs the actions of an entry and gives the packet after them.
-fn run(
+/// Runs the actions of an entry and gives the packet after them.
+pub(crate) fn run(
     groups: &Groups,
     actions: &Actions,
     mut x: Tagged,

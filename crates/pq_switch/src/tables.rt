@@ -5,6 +5,8 @@ ghost use Rattle.pq_model.specs.SwitchMachine.{applies, changes_entries, changes
 use crate::actions::Actions;
 use crate::entries::Entries;
 use crate::groups::Groups;
+use crate::listing::Listing;
+use crate::settled::Settled;
 use pq_model::{Action, FlowCommand, FlowMod, GroupCommand, GroupMod, Message};
 use std::alloc::{AllocError, Global};
 use std::marker::Model;
@@ -53,6 +55,15 @@ impl Tables {
             Message::Group(group) => self.apply_group(alloc, group),
             Message::Barrier { .. } => Ok(()),
         }
+    }
+
+    /// The same tables, laid out for look-ups.
+    pub fn settle(self, alloc: Global) -> Result<Settled, AllocError>
+        ensures { IfOk result (λ settled. settled ≡ self) }
+    {
+        let Tables { entries, groups } = self;
+        let entries = Listing::of(alloc, entries)?;
+        Ok(Settled { entries, groups })
     }
 
     fn apply_flow(&mut self, alloc: Global, flow: &FlowMod) -> Result<(), AllocError>
