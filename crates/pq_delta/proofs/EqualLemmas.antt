@@ -52,6 +52,9 @@ actions_exact = items_exact actions.eq action_exact
 pub actions_itself : (as_ : List Action) → same_actions as_ as_ ≡ true
 actions_itself = items_itself actions.eq action_itself
 
+pub buckets_itself : (b : Buckets) → same_buckets b b ≡ true
+buckets_itself = items_itself same_actions actions_itself
+
 pub buckets_exact : (b c : Buckets) → same_buckets b c ≡ true → b ≡ c
 buckets_exact = items_exact same_actions actions_exact
 

@@ -10,3 +10,4 @@ mod KeysLemmas
 mod StepLemmas
 mod AssemblyLemmas
 mod MessagesLemmas
+mod UnchangedLemmas

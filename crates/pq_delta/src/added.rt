@@ -24,7 +24,7 @@ pub(crate) fn added_entry(message: &Message) -> Option<&FlowMod>
 }
 
 /// The message as the ADD of a group, if it is one.
-fn added_group(message: &Message) -> Option<&GroupMod>
+pub(crate) fn added_group(message: &Message) -> Option<&GroupMod>
     ensures { MatchOption result (group_added message.now ≡ None) (λ group. group_added message.now ≡ Some group.now.buckets) }
 {
     match message {

@@ -72,7 +72,7 @@ fn put_group<'a>(
 }
 
 /// Whether two groups have the same buckets.
-fn same_buckets(one: &[Vec<Action>], other: &[Vec<Action>]) -> bool
+pub(crate) fn same_buckets(one: &[Vec<Action>], other: &[Vec<Action>]) -> bool
     ensures { result ≡ same_buckets (map (λ b. b.items) one.now) (map (λ b. b.items) other.now) }
 {
     one == other

@@ -8,6 +8,7 @@ mod key;
 mod laws;
 mod sending;
 mod switch;
+mod unchanged;
 
 pub use install::delta;
 pub use laws::{deltas_are_lawful, deltas_turn_tables};

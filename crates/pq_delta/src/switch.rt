@@ -12,6 +12,7 @@ use crate::added::{added_entry, group_count};
 use crate::group_changes::{push_group_deletes, push_groups};
 use crate::key::{Key, is_known, keys_of};
 use crate::sending::{push_add, push_barrier, push_delete};
+use crate::unchanged::all_add_same;
 use indexmap::IndexSet;
 use pq_model::Message;
 use std::alloc::{AllocError, Global};
@@ -19,8 +20,9 @@ use std::alloc::{AllocError, Global};
 /// How many messages there are where nothing changes.
 const BARRIERS: usize = 3;
 
-/// The messages that turn the tables that old messages leave into those that new ones leave; none where nothing changes.
-#[tactic(auto, using(crate::proofs::AssemblyLemmas::none_where_nothing_changes, crate::proofs::AssemblyLemmas::all_where_something_changes))]
+/// The messages that turn the tables that old messages leave into those that new ones leave; none where nothing changes. Lists that
+/// are the same are only compared.
+#[tactic(auto, using(crate::proofs::AssemblyLemmas::none_where_nothing_changes, crate::proofs::AssemblyLemmas::all_where_something_changes, crate::proofs::UnchangedLemmas::none_where_the_same))]
 pub(crate) fn switch_delta(
     alloc: Global,
     old: &[Message],
@@ -31,6 +33,9 @@ pub(crate) fn switch_delta(
     ensures messages { IfOk result (λ ms. ms.items ≡ switch_delta old.now new.now) }
     ensures few { IfOk result (λ ms. length ms.items < 2 ^ 32) }
 {
+    if all_add_same(old, new) {
+        return Ok(Vec::new(alloc));
+    }
     let messages = change_messages(alloc, old, new)?;
     if messages.len() == BARRIERS {
         return Ok(Vec::new(alloc));
