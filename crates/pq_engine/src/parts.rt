@@ -78,6 +78,7 @@ fn summed(
 }
 
 /// The change to a document, one part of which was put into the place.
+#[tactic(auto, using(crate::proofs::EngineLemmas::is_before))]
 fn part_put<L: Ledger>(
     alloc: Global,
     document: &Document,
@@ -97,7 +98,13 @@ fn part_put<L: Ledger>(
         Ok(()) => {}
         Err(fault) => return Err(CompileFault::of_prepare(fault)),
     }
-    let (forward, sum, before) = match with_part(document, &kept.forward, &kept.sum, place, unions) {
+    let (forward, sum, before) = match with_part(
+        document,
+        &kept.forward,
+        &kept.sum,
+        place,
+        unions,
+    ) {
         Ok(made) => made,
         Err(_) => return Err(CompileFault::Memory),
     };
@@ -105,6 +112,7 @@ fn part_put<L: Ledger>(
 }
 
 /// The change to a document, one part of which was taken out of the place.
+#[tactic(auto, using(crate::proofs::EngineLemmas::is_before))]
 fn part_removed<L: Ledger>(
     alloc: Global,
     document: &Document,
@@ -124,7 +132,13 @@ fn part_removed<L: Ledger>(
         Ok(()) => {}
         Err(fault) => return Err(CompileFault::of_prepare(fault)),
     }
-    let (forward, sum, before) = match without_part(document, &kept.forward, &kept.sum, place, unions) {
+    let (forward, sum, before) = match without_part(
+        document,
+        &kept.forward,
+        &kept.sum,
+        place,
+        unions,
+    ) {
         Ok(made) => made,
         Err(_) => return Err(CompileFault::Memory),
     };

@@ -1,7 +1,5 @@
 -- The messages of the install before a change.
-use Rattle.std.proofs.Common.{◌≡◌, ◌<◌, ◌^◌, ℕ, List, [], ◌∷◌, Some, sym, subst, ◌∙◌}
-use Rattle.std.specs.Prelude.{slice_get}
-use Rattle.std.specs.declared.option.Option.{Option}
+use Rattle.std.proofs.Common.{◌≡◌, ◌<◌, ◌^◌, ℕ, List, [], ◌∷◌, sym, subst, ◌∙◌}
 use Rattle.std.specs.declared.option.Option.TheVariants.{None}
 use Rattle.std.specs.List.{AllByRecursion, AllZip}
 use Rattle.std.proofs.lemmas.List.Elements.{recursion_from_All}
@@ -22,10 +20,9 @@ use Rattle.pq_layout.specs.Messages.{ArrivingTrees, LeavingTrees}
 use Rattle.pq_layout.specs.Tagging.{Tagging}
 use Rattle.pq_lookup.specs.Sent.{AreFilled}
 use Rattle.pq_join.specs.Tags.{tagging_of}
-use Rattle.pq_rules.specs.declared.fault.RulesFault.{RulesFault}
 use Rattle.pq_meaning.specs.Laws.{HasOneSetOfTrees, PartsDepart}
 use Rattle.pq_meaning.specs.Tags.{ClassesTag}
-use Rattle.pq_emit.specs.Faults.{fault_of, first_fault, group_fault, table_fault}
+use Rattle.pq_emit.specs.Faults.{first_fault, group_fault, table_fault}
 use Rattle.pq_emit.specs.Switches.{AreAllTrees, TablesTrees}
 use Rattle.pq_compile.specs.Compiled.{IsLaidFor}
 use Rattle.pq_compile.specs.Documents.{DocumentTree}

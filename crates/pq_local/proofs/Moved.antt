@@ -1,5 +1,5 @@
 -- The messages of a switch for whose packets the diagrams of both policies say the same.
-use Rattle.std.proofs.Common.{◌≡◌, ◌∙◌, ◌<◌, ℕ, List, [], ◌∷◌, Some, filter, sym, ap}
+use Rattle.std.proofs.Common.{◌≡◌, ◌∙◌, ◌<◌, ℕ, List, [], ◌∷◌, filter, sym, ap}
 use Rattle.std.specs.Prelude.{length}
 use Rattle.std.specs.List.{AllZip}
 use Rattle.std.specs.Option.{option_map}
@@ -51,7 +51,7 @@ pub taken_over : (T : Topology) (forward : List (Tree (List Written))) (before p
 taken_over T forward before policy a m s ms within agree old p at =
     let q = here_at forward before within in
     let alike : (x : Numbers) → departing T (value q.0) (at_switch s.datapath x) ≡ departing T (value p) (at_switch s.datapath x) = λ x.
-        let z = at_switch s.datapath x in
-        ap (filter (departs_by T z)) (same_Some (value q.0 z) (value p z)
-        (ap (option_map (λ t. value t z)) (sym q.1) ∙ (agree x ∙ ap (option_map (λ t. value t z)) at))) in
+    let z = at_switch s.datapath x in
+    ap (filter (departs_by T z)) (same_Some (value q.0 z) (value p z)
+    (ap (option_map (λ t. value t z)) (sym q.1) ∙ (agree x ∙ ap (option_map (λ t. value t z)) at))) in
     served_moved T (tagging_of a m) (departing T (value q.0)) (departing T (value p)) s ms alike (old q.0 q.1)

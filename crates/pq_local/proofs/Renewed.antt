@@ -1,6 +1,5 @@
 -- The install whose messages serve the switches by the new policy.
-use Rattle.std.proofs.Common.{◌≡◌, ◌∙◌, ℕ, List, [], ◌∷◌, Some, length, refl, sym, ap, subst}
-use Rattle.std.specs.Prelude.{All}
+use Rattle.std.proofs.Common.{◌≡◌, ◌∙◌, ℕ, List, [], ◌∷◌, length, refl, sym, ap}
 use Rattle.std.specs.declared.option.Option.{Option}
 use Rattle.std.specs.declared.option.Option.TheVariants.{None}
 use Rattle.std.specs.List.{AllZip}
@@ -10,7 +9,6 @@ use Rattle.pq_letters.specs.Letters.{LettersValue}
 use Rattle.pq_model.specs.declared.message.Message.{Message}
 use Rattle.pq_model.specs.Buckets.{Instance}
 use Rattle.pq_model.specs.Install.{Install, IsLawfulInstall, IsLawfulList}
-use Rattle.pq_model.specs.TablesMachine.{Report}
 use Rattle.pq_model.specs.Topology.{Switch, Topology}
 use Rattle.pq_query.specs.Instances.{instances_of}
 use Rattle.pq_store.specs.Tree.{Tree, value}
@@ -24,7 +22,7 @@ use Rattle.pq_meaning.specs.Compiled.{IsCompiled, IsFilled}
 use Rattle.pq_meaning.specs.Laws.{CompiledImplements, HasOneInstall, HasOneSetOfTrees, PartsDepart}
 use Rattle.pq_meaning.specs.Tags.{ClassesTag}
 use Rattle.pq_emit.specs.Faults.{fault_of, first_fault, group_fault, table_fault}
-use Rattle.pq_emit.specs.Switches.{AreAllTrees, TablesTrees}
+use Rattle.pq_emit.specs.Switches.{TablesTrees}
 use Rattle.pq_emit.proofs.Concluded.{as_many, no_fault}
 use Rattle.pq_compile.specs.Compiled.{AreTablesWithin, IsInstalled}
 use Rattle.pq_compile.specs.Documents.{DocumentTree}

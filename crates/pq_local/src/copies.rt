@@ -34,10 +34,7 @@ fn instances_copied(alloc: Global, instances: &[Instance]) -> Result<Vec<Instanc
 }
 
 /// Equal rows, in order.
-pub(crate) fn report_copied(
-    alloc: Global,
-    rows: &[ReportRow],
-) -> Result<Vec<ReportRow>, AllocError>
+pub(crate) fn report_copied(alloc: Global, rows: &[ReportRow]) -> Result<Vec<ReportRow>, AllocError>
     ensures { IfOk result (λ all. all.items ≡ rows.now) }
 {
     let mut all = Vec::with_capacity(alloc, rows.len())?;

@@ -35,12 +35,7 @@ pub(crate) fn switch_place(store: &Store<WriteSet>, node: NodeId, datapath: u64)
 }
 
 /// Whether two diagrams have one place for the packets at the switch. Then they say the same of these.
-pub(crate) fn agree(
-    store: &Store<WriteSet>,
-    before: NodeId,
-    policy: NodeId,
-    datapath: u64,
-) -> bool
+pub(crate) fn agree(store: &Store<WriteSet>, before: NodeId, policy: NodeId, datapath: u64) -> bool
     requires before { before < length store.now }
     requires policy { policy < length store.now }
     ensures { IsTrue result → AgreeAt store.now datapath before policy }

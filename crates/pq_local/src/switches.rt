@@ -118,7 +118,10 @@ pub(crate) fn all_served(
             Ok(messages) => messages,
             Err(fault) => return Err(fault),
         };
-        all.push(messages)?;
+        match all.push(messages) {
+            Ok(()) => {}
+            Err(_) => return Err(RulesFault::Memory),
+        }
     }
     Ok(all)
 }

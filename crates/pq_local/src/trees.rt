@@ -6,9 +6,7 @@ ghost use Rattle.pq_local.specs.Local.{AreTablesAt};
 
 use pq_classes::QueryClasses;
 use pq_compile::Document;
-use pq_join::{
-    switch_trees, tests_stand_below_prerequisites, trees_are_sound, trees_test_ports,
-};
+use pq_join::{switch_trees, tests_stand_below_prerequisites, trees_are_sound, trees_test_ports};
 use pq_meaning::{parts_depart, parts_ignore_lacking};
 use pq_rewrite::{Arrive, Copies, SwitchTrees, WriteSet};
 use pq_store::{NodeId, Store};

@@ -1,4 +1,4 @@
-use Rattle.std.proofs.Common.{◌≡◌, ◌<◌, ◌∙◌, length, map, sym, ap, subst, arith}
+use Rattle.std.proofs.Common.{◌<◌, length, map, sym, ap, subst, arith}
 use Rattle.pq_emit.proofs.Located.{here_at}
 use Rattle.pq_local.specs.Local.{IsServedAt}
 use Rattle.pq_local.proofs.Zipped.{image_there, there_is, zip_at, zip_more}
@@ -26,4 +26,4 @@ loop-index-preserved c =
     let below : k < length T.switches = omega (arith, long, c.loop-index-test.true) in
     let here = here_at T.switches k below in
     zip_more (IsServedAt T c.args.forward.now c.args.policy told.letters told.classes) (λ ms. ms.items) T.switches k here.0 c.loop-index.all.items c.push.new.self.items c.in-Ok.messages here.1
-    c.in_ok-push.ensures.items (c.in-Ok.ensures here.0 here.1) c.loop-index.invariant
+    c.in-Ok-push.ensures.items (c.in-Ok.ensures here.0 here.1) c.loop-index.invariant
