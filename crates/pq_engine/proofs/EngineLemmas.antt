@@ -4,11 +4,14 @@ use Rattle.std.specs.Prelude.{sum_by}
 use Rattle.std.proofs.lemmas.List.{length-map}
 use Rattle.pq_model.specs.Install.{Install}
 use Rattle.pq_policy.specs.Policy.{PolicyTree}
+use Rattle.pq_fields.specs.Writes.{Written}
+use Rattle.pq_store.specs.Tree.{Tree}
 use Rattle.pq_forward.specs.Forward.{work}
 use Rattle.pq_meaning.specs.Parts.{FitAsParts}
 use Rattle.pq_store.proofs.RoomLemmas.{room_for}
 use Rattle.pq_sum.specs.Cells.{at_place}
-use Rattle.pq_sum.specs.Sum.{replaced}
+use Rattle.pq_sum.specs.Places.{IsSummed}
+use Rattle.pq_sum.specs.Sum.{UnitesParts, replaced}
 use Rattle.pq_compile.specs.declared.preparing.PrepareFault.{PrepareFault}
 use Rattle.pq_compile.specs.declared.preparing.PrepareFault.TheVariants as prepare
 use Rattle.pq_compile.specs.Compiled.{IsCompileFault, prepare_fault}
@@ -21,7 +24,8 @@ use Rattle.pq_edit.specs.Edits.{EditTree, PartPut, PartRemoved, QueryPut, QueryR
 use Rattle.pq_engine.specs.declared.kept.Kept.{Kept}
 use Rattle.pq_engine.specs.declared.parts.PartsChange.{PartsChange}
 use Rattle.pq_engine.specs.declared.queries.QueriesChange.{QueriesChange}
-use Rattle.pq_engine.specs.Changes.{IsPartsChange, IsQueriesChange, IsRenewable, IsUnionWork}
+use Rattle.pq_local.specs.Local.{IsBefore, with_parts}
+use Rattle.pq_engine.specs.Changes.{IsPartsChange, IsQueriesChange, IsRenewable, IsUnionWork, WasKept}
 use Rattle.pq_engine.specs.Engine.{IsEngine, engine_of}
 use Rattle.pq_engine.specs.Places.{place_in}
 use Rattle.pq_engine.specs.Sums.{AwaitsPart, AwaitsRemoval}
@@ -118,6 +122,13 @@ module _ (d : DocumentTree) (k : Kept) (is : IsEngine (engine_of d k)) where
     summed = rw (topology, parts) is.summed;
     classified = change.classified;
   }
+
+-- where the diagram of the parts before is at a place, the document is one whose parts changed
+pub is_before : (d : DocumentTree) (k : Kept) → (was : WasKept d k) → (forward : List (Tree (List Written))) (before : ℕ)
+    → ((ps : List PolicyTree) → IsSummed d.topology k.forward ps k.sum → UnitesParts d.topology forward ps before) → IsBefore d forward before k.install
+is_before d k was forward before stays =
+    let engine = was.engine in
+    record { parts = was.parts; forwards = stays (parts_in (with_parts d was.parts)) engine.summed; installed = engine.installed; within = engine.within.tables }
 
 -- Work.
 

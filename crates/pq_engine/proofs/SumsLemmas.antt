@@ -167,3 +167,7 @@ removed_before d ts s place awaits =
     let long = ap length awaits.removed in
     let parts = parts_long d in
     omega (arith, less, long, parts)
+
+-- a union of parts stays where it is
+pub kept_union : (T : Topology) (ps : List PolicyTree) (old new : List (Tree (List Written))) (id : ℕ) → Keeps old new → UnitesParts T old ps id → UnitesParts T new ps id
+kept_union T ps old new id keeps at = (at.0, keeps id at.0 at.1, at.2)

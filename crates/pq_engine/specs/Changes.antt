@@ -7,6 +7,10 @@ use Rattle.pq_sum.specs.Places.{IsSummed}
 use Rattle.pq_delta.specs.Delta.{AreShort, delta}
 use Rattle.pq_compile.specs.Compiled.{IsInstalled, IsWithinLimits}
 use Rattle.pq_compile.specs.Documents.{DocumentTree}
+use Rattle.pq_compile.specs.Names.{Named}
+use Rattle.pq_policy.specs.Policy.{PolicyTree}
+use Rattle.pq_local.specs.Local.{with_parts}
+use Rattle.pq_engine.specs.Engine.{IsEngine, engine_of}
 use Rattle.pq_compile.specs.Prepared.{IsClassified, IsCompilable, parts_in}
 use Rattle.pq_edit.specs.Edits.{EditTree, PartPut, PartRemoved, QueryPut, QueryRemoved, put}
 use Rattle.pq_engine.specs.declared.kept.Kept.{Kept}
@@ -27,6 +31,11 @@ pub record IsRenewable (d : DocumentTree) (k : Kept) : Type 0 where
   pub compilable : IsCompilable d
   pub lawful : IsLawfulInstall k.install
   pub topology : k.install.topology ≡ d.topology
+
+-- with some other parts, the document is that of an engine that keeps this
+pub record WasKept (d : DocumentTree) (k : Kept) : Type 0 where
+  pub parts : List (Named PolicyTree)
+  pub engine : IsEngine (engine_of (with_parts d parts) k)
 
 -- the sum of the document's parts, and its install
 pub record IsPartsChange (d : DocumentTree) (old : Install) (c : PartsChange) : Type 0 where

@@ -1,6 +1,7 @@
 //! Diagrams of parts, and their sums.
-ghost use Rattle.std.specs.Prelude.{◌≡◌, ◌≤◌, ◌<◌, ◌+◌, ◌*◌, ◌^◌, ℕ, suc, length, sum_by, IfOk};
+ghost use Rattle.std.specs.Prelude.{◌≡◌, ◌≤◌, ◌<◌, ◌+◌, ◌*◌, ◌^◌, ℕ, suc, length, sum_by, List, IfOk};
 ghost use Rattle.pq_forward.specs.Forward.{work};
+ghost use Rattle.pq_policy.specs.Policy.{PolicyTree};
 ghost use Rattle.pq_store.specs.Store.{Keeps};
 ghost use Rattle.pq_sum.specs.Cells.{at_place};
 ghost use Rattle.pq_sum.specs.Places.{IsSummed};
@@ -76,39 +77,45 @@ pub(crate) fn parts_sum<L: Ledger>(
     Ok(sum)
 }
 
-/// The sum of the parts in a store of its own, from the one before the part of the place was put there.
+/// The sum of the parts in a store of its own, from the one before the part of the place was put there. The diagram of all parts
+/// before is in that store too, at the last place that is given.
 pub(crate) fn with_part<L: Ledger>(
     document: &Document,
     forward: &Store<WriteSet>,
     sum: &Sum,
     place: usize,
     steps: &mut Steps<L>,
-) -> Result<(Store<WriteSet>, Sum), AllocError>
+) -> Result<(Store<WriteSet>, Sum, NodeId), AllocError>
     requires compilable { IsCompilable (document_tree document.now) }
     requires values { HasFewValues (document_tree document.now) }
     requires awaits { AwaitsPart (document_tree document.now) forward.now sum.now place }
     ensures sum { IfOk result (λ r. IsSummed document.now.topology r.0 (parts_in (document_tree document.now)) r.1) }
+    ensures before { IfOk result (λ r. (ps : List PolicyTree) → IsSummed document.now.topology forward.now ps sum.now → UnitesParts document.now.topology r.0 ps r.2) }
     ensures steps { (k : ℕ) → length document.now.parts.items ≤ 2 ^ k → steps.new ≤ steps.old + sum_by work (at_place place (parts_in (document_tree document.now))) + k }
 {
     let (mut store, mut sum) = sum.copied(forward)?;
+    let before = sum.total();
     let part = part_diagram(document, &mut store, place, steps)?;
     sum.put(&mut store, place, part, steps)?;
-    Ok((store, sum))
+    Ok((store, sum, before))
 }
 
-/// The sum of the parts in a store of its own, from the one before a part was taken out of the place.
+/// The sum of the parts in a store of its own, from the one before a part was taken out of the place. The diagram of all parts
+/// before is in that store too, at the last place that is given.
 pub(crate) fn without_part<L: Ledger>(
     document: &Document,
     forward: &Store<WriteSet>,
     sum: &Sum,
     place: usize,
     steps: &mut Steps<L>,
-) -> Result<(Store<WriteSet>, Sum), AllocError>
+) -> Result<(Store<WriteSet>, Sum, NodeId), AllocError>
     requires awaits { AwaitsRemoval (document_tree document.now) forward.now sum.now place }
     ensures sum { IfOk result (λ r. IsSummed document.now.topology r.0 (parts_in (document_tree document.now)) r.1) }
+    ensures before { IfOk result (λ r. (ps : List PolicyTree) → IsSummed document.now.topology forward.now ps sum.now → UnitesParts document.now.topology r.0 ps r.2) }
     ensures steps { (k : ℕ) → suc (length document.now.parts.items) ≤ 2 ^ k → steps.new ≤ steps.old + 2 * k }
 {
     let (mut store, mut sum) = sum.copied(forward)?;
+    let before = sum.total();
     sum.remove(&mut store, place, steps)?;
-    Ok((store, sum))
+    Ok((store, sum, before))
 }

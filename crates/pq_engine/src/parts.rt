@@ -8,20 +8,21 @@ ghost use Rattle.pq_compile.specs.Compiled.{IsCompileFault, IsInstalled};
 ghost use Rattle.pq_compile.specs.Documents.{document_tree};
 ghost use Rattle.pq_compile.specs.Prepared.{HasFewValues, IsClassified, IsCompilable, parts_in};
 ghost use Rattle.pq_edit.specs.Edits.{IsLawfulEdit, PartPut, PartRemoved, edited};
-ghost use Rattle.pq_engine.specs.Changes.{IsPartsChange, IsRenewable, IsUnionWork};
+ghost use Rattle.pq_local.specs.Local.{IsBefore};
+ghost use Rattle.pq_engine.specs.Changes.{IsPartsChange, IsRenewable, IsUnionWork, WasKept};
 ghost use Rattle.pq_engine.specs.Engine.{IsEngine, engine_of};
 ghost use Rattle.pq_engine.specs.Sums.{AwaitsPart, AwaitsRemoval};
 
 use crate::diagrams::{with_part, without_part};
 use crate::kept::Kept;
 use crate::named::{insert_back, place_of, put_at, put_back, remove_at};
-use crate::renewal::{Renewed, renew};
+use crate::renewal::{Renewed, renew_parts};
 use pq_compile::{CompileFault, Document, few_values};
 use pq_edit::edited_documents_are_lawful;
 use pq_io::Steps;
 use pq_policy::Policy;
 use pq_rewrite::WriteSet;
-use pq_store::Store;
+use pq_store::{NodeId, Store};
 use pq_sum::Sum;
 use pq_term::Name;
 use std::alloc::Global;
@@ -36,25 +37,29 @@ pub(crate) struct PartsChange {
     pub(crate) renewed: Renewed,
 }
 
-/// The change to a sum of the document's parts; its store is left with nothing but the diagrams of the sum.
+/// The change to a sum of the document's parts, from the diagram of the parts before, which is at the place `before` of the sum's
+/// store; this is left with nothing but the diagrams of the sum.
 fn summed(
     alloc: Global,
     document: &Document,
     kept: &Kept,
     forward: &Store<WriteSet>,
     sum: &Sum,
+    before: NodeId,
 ) -> Result<PartsChange, CompileFault>
     requires renewable { IsRenewable (document_tree document.now) kept.now }
     requires values { HasFewValues (document_tree document.now) }
     requires classified { IsClassified (document_tree document.now) kept.now.told }
     requires summed { IsSummed document.now.topology forward.now (parts_in (document_tree document.now)) sum.now }
+    requires before { IsBefore (document_tree document.now) forward.now before kept.now.install }
     ensures change { IfOk result (IsPartsChange (document_tree document.now) kept.now.install) }
     ensures cause { IfErr result (IsCompileFault (document_tree document.now)) }
 {
-    let renewed = match renew(
+    let renewed = match renew_parts(
         alloc,
         document,
         forward,
+        before,
         sum.total(),
         &kept.told,
         &kept.install,
@@ -73,6 +78,7 @@ fn summed(
 }
 
 /// The change to a document, one part of which was put into the place.
+#[tactic(auto, using(crate::proofs::EngineLemmas::is_before))]
 fn part_put<L: Ledger>(
     alloc: Global,
     document: &Document,
@@ -83,6 +89,7 @@ fn part_put<L: Ledger>(
     requires renewable { IsRenewable (document_tree document.now) kept.now }
     requires classified { IsClassified (document_tree document.now) kept.now.told }
     requires awaits { AwaitsPart (document_tree document.now) kept.now.forward kept.now.sum place }
+    requires was { WasKept (document_tree document.now) kept.now }
     ensures change { IfOk result (IsPartsChange (document_tree document.now) kept.now.install) }
     ensures cause { IfErr result (IsCompileFault (document_tree document.now)) }
     ensures steps { (k : ℕ) → length document.now.parts.items ≤ 2 ^ k → unions.new ≤ unions.old + sum_by work (at_place place (parts_in (document_tree document.now))) + k }
@@ -91,14 +98,21 @@ fn part_put<L: Ledger>(
         Ok(()) => {}
         Err(fault) => return Err(CompileFault::of_prepare(fault)),
     }
-    let (forward, sum) = match with_part(document, &kept.forward, &kept.sum, place, unions) {
+    let (forward, sum, before) = match with_part(
+        document,
+        &kept.forward,
+        &kept.sum,
+        place,
+        unions,
+    ) {
         Ok(made) => made,
         Err(_) => return Err(CompileFault::Memory),
     };
-    summed(alloc, document, kept, &forward, &sum)
+    summed(alloc, document, kept, &forward, &sum, before)
 }
 
 /// The change to a document, one part of which was taken out of the place.
+#[tactic(auto, using(crate::proofs::EngineLemmas::is_before))]
 fn part_removed<L: Ledger>(
     alloc: Global,
     document: &Document,
@@ -109,6 +123,7 @@ fn part_removed<L: Ledger>(
     requires renewable { IsRenewable (document_tree document.now) kept.now }
     requires classified { IsClassified (document_tree document.now) kept.now.told }
     requires awaits { AwaitsRemoval (document_tree document.now) kept.now.forward kept.now.sum place }
+    requires was { WasKept (document_tree document.now) kept.now }
     ensures change { IfOk result (IsPartsChange (document_tree document.now) kept.now.install) }
     ensures cause { IfErr result (IsCompileFault (document_tree document.now)) }
     ensures steps { (k : ℕ) → suc (length document.now.parts.items) ≤ 2 ^ k → unions.new ≤ unions.old + 2 * k }
@@ -117,11 +132,17 @@ fn part_removed<L: Ledger>(
         Ok(()) => {}
         Err(fault) => return Err(CompileFault::of_prepare(fault)),
     }
-    let (forward, sum) = match without_part(document, &kept.forward, &kept.sum, place, unions) {
+    let (forward, sum, before) = match without_part(
+        document,
+        &kept.forward,
+        &kept.sum,
+        place,
+        unions,
+    ) {
         Ok(made) => made,
         Err(_) => return Err(CompileFault::Memory),
     };
-    summed(alloc, document, kept, &forward, &sum)
+    summed(alloc, document, kept, &forward, &sum, before)
 }
 
 /// Puts a part into a document, and makes what changes with it. After a refusal the document is as it was.

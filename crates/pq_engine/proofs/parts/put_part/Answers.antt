@@ -88,3 +88,6 @@ returns-in-Err-part_put-clause-cause g c =
     let e : Document = record { topology = d.topology; parts = c.put_at.new.named; queries = d.queries } in
     let same = part_put_tree d e c.args.name c.place_of-place.result at refl refl c.args.policy c.in-Ok.ensures.put in
     subst (λ t. IsCompileFault t c.in-Err-part_put.fault) same c.in-Err-part_put.ensures.cause
+
+pub part_put-requires-clause-was : goal.part_put-requires-clause-was
+part_put-requires-clause-was g c = record { parts = (document_tree c.args.document.now).parts; engine = c.requires.kept }

@@ -76,3 +76,6 @@ returns-in-Err-clause-cause g c =
     let e : Document = record { topology = d.topology; parts = c.remove_at-old.new.named; queries = d.queries } in
     let same = part_removed_tree d e c.args.name c.place_of-place.result at refl refl c.remove_at-old.ensures.removed in
     subst (λ t. IsCompileFault t c.in-Err.fault) same c.in-Err.ensures.cause
+
+pub part_removed-requires-clause-was : goal.part_removed-requires-clause-was
+part_removed-requires-clause-was g c = record { parts = (document_tree c.args.document.now).parts; engine = c.requires.kept }

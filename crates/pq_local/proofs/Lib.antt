@@ -1,0 +1,7 @@
+mod Zipped
+mod Behind
+mod Moved
+mod Made
+mod Small
+mod Before
+mod Renewed
