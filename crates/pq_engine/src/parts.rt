@@ -78,7 +78,6 @@ fn summed(
 }
 
 /// The change to a document, one part of which was put into the place.
-#[tactic(auto, using(crate::proofs::EngineLemmas::is_before))]
 fn part_put<L: Ledger>(
     alloc: Global,
     document: &Document,
@@ -112,7 +111,6 @@ fn part_put<L: Ledger>(
 }
 
 /// The change to a document, one part of which was taken out of the place.
-#[tactic(auto, using(crate::proofs::EngineLemmas::is_before))]
 fn part_removed<L: Ledger>(
     alloc: Global,
     document: &Document,
