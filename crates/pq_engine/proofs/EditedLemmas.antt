@@ -1,12 +1,12 @@
 -- Documents with something put into a place, or taken out of one.
-use Rattle.std.proofs.Common.{ℕ, zero, suc, ◌+◌, ◌<◌, ◌≤◌, ◌≡◌, ◌∙◌, List, [], ◌∷◌, ◌++◌, take, drop, length, map, refl, sym, ap, ap₂, subst, arith}
-use Rattle.std.specs.Prelude.{Bool, true, false, bytes_eq, if◌then◌else◌, ◌||◌, IsTrue}
+use Rattle.std.proofs.Common.{ℕ, suc, ◌<◌, ◌≤◌, ◌≡◌, ◌∙◌, List, [], ◌∷◌, length, map, refl, sym, ap, arith}
+use Rattle.std.specs.Prelude.{Bool, true, false, bytes_eq, if◌then◌else◌, ◌||◌}
 use Rattle.std.specs.List.{list_any}
 use Rattle.std.specs.Cmp.Lexicographic.{nat_list_eq_equiv}
 use Rattle.std.proofs.lemmas.List.{length-map}
 use Rattle.pq_sum.specs.Sum.{replaced}
 use Rattle.pq_compile.specs.declared.document.Document.{Document}
-use Rattle.pq_compile.specs.Documents.{DocumentTree, document_tree, named_query_tree, part_tree}
+use Rattle.pq_compile.specs.Documents.{document_tree, named_query_tree, part_tree}
 use Rattle.pq_compile.specs.Lawful.{names_in}
 use Rattle.pq_compile.specs.Names.{Named}
 use Rattle.pq_edit.specs.Edits.{IsNamedIn, put, without}

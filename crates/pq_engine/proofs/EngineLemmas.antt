@@ -1,8 +1,7 @@
 -- Engines, before and after an edit.
-use Rattle.std.proofs.Common.{ℕ, suc, ◌+◌, ◌*◌, ◌^◌, ◌<◌, ◌≤◌, ◌≡◌, ◌∙◌, List, [], ◌∷◌, take, drop, length, map, refl, sym, ap, subst, arith}
+use Rattle.std.proofs.Common.{ℕ, suc, ◌+◌, ◌*◌, ◌^◌, ◌<◌, ◌≤◌, ◌≡◌, ◌∙◌, List, [], ◌∷◌, length, map, refl, sym, ap, arith}
 use Rattle.std.specs.Prelude.{sum_by}
 use Rattle.std.proofs.lemmas.List.{length-map}
-use Rattle.pq_model.specs.Install.{Install}
 use Rattle.pq_policy.specs.Policy.{PolicyTree}
 use Rattle.pq_fields.specs.Writes.{Written}
 use Rattle.pq_store.specs.Tree.{Tree}

@@ -1,13 +1,12 @@
 -- Sums of parts as a store grows.
 use Rattle.std.proofs.Common.{ℕ, zero, suc, ◌+◌, ◌-◌, ◌<◌, ◌≤◌, ◌≡◌, ◌∙◌, List, [], ◌∷◌, ◌++◌, take, drop, length, map, refl, sym, ap, subst, arith}
 use Rattle.std.specs.Prelude.{All, sum_by}
-use Rattle.std.specs.List.{AllZip}
 use Rattle.std.proofs.lemmas.List.Elements.{All-nil, All-cons, All-head, All-tail}
 use Rattle.std.proofs.lemmas.List.{length-map}
 use Rattle.pq_fields.specs.Writes.{Written}
 use Rattle.pq_model.specs.Topology.{Topology}
 use Rattle.pq_policy.specs.declared.policy.Policy.{Policy}
-use Rattle.pq_policy.specs.Policy.{IsLawfulPolicy, PolicyTree, policy_tree}
+use Rattle.pq_policy.specs.Policy.{PolicyTree, policy_tree}
 use Rattle.pq_forward.specs.Forward.{IsPolicyWithin, work}
 use Rattle.pq_store.specs.Store.{Keeps}
 use Rattle.pq_store.specs.Tree.{Tree}
@@ -22,7 +21,7 @@ use Rattle.pq_sum.proofs.Trees.{tree_still}
 use Rattle.pq_compile.specs.declared.document.Document.{Document}
 use Rattle.pq_compile.specs.Documents.{DocumentTree, document_tree, part_tree}
 use Rattle.pq_compile.specs.Prepared.{HasFewValues, IsCompilable, parts_in}
-use Rattle.pq_compile.proofs.Values.{lawful_parts, parts_are}
+use Rattle.pq_compile.proofs.Values.{parts_are}
 use Rattle.pq_engine.specs.Sums.{AwaitsPart, AwaitsRemoval}
 use Rattle.pq_engine.proofs.EngineLemmas.{bodies_long, parts_fit}
 use Rattle.pq_engine.proofs.PlacesLemmas.{put_at_place, put_long, put_within, removed_long}

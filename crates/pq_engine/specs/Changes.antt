@@ -1,7 +1,6 @@
 -- What edits make, and their work.
 use Rattle.std.specs.Prelude.{◌≡◌, ℕ, ◌+◌, ◌*◌, ◌^◌, ◌≤◌, List, length, map}
 use Rattle.pq_model.specs.Install.{Install, IsLawfulInstall}
-use Rattle.pq_model.specs.declared.message.Message.{Message}
 use Rattle.pq_forward.specs.Forward.{work}
 use Rattle.pq_sum.specs.Places.{IsSummed}
 use Rattle.pq_delta.specs.Delta.{AreShort, delta}

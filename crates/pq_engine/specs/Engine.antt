@@ -1,12 +1,5 @@
 -- An engine: a document with its install, and what both are made from.
-use Rattle.std.specs.Prelude.{List}
-use Rattle.pq_fields.specs.Writes.{Written}
-use Rattle.pq_model.specs.Buckets.{Instance}
-use Rattle.pq_model.specs.Install.{Install}
-use Rattle.pq_auto.specs.Machine.{Machine}
-use Rattle.pq_letters.specs.Letters.{LettersValue}
-use Rattle.pq_store.specs.Tree.{Tree}
-use Rattle.pq_sum.specs.Places.{IsSummed, Sum}
+use Rattle.pq_sum.specs.Places.{IsSummed}
 use Rattle.pq_compile.specs.Compiled.{IsInstalled, IsWithinLimits}
 use Rattle.pq_compile.specs.Documents.{DocumentTree}
 use Rattle.pq_compile.specs.Prepared.{AreClassified, IsCompilable, parts_in}

@@ -1,5 +1,5 @@
 -- Each row is found on its shelf, so the best of four shelves is the best of all.
-use Rattle.std.proofs.Common.{◌≡◌, ◌≢◌, ◌⊎◌, map, ℕ, zero, suc, ◌+◌, ◌<◌, Bool, true, false, ◌==◌, ◌&&◌, List, [], ◌∷◌, ◌++◌, length, get_or, refl, sym, ap, subst, ◌∙◌, arith, inl, inr}
+use Rattle.std.proofs.Common.{◌≡◌, ◌≢◌, ◌⊎◌, map, ℕ, zero, suc, ◌+◌, ◌<◌, Bool, true, false, ◌==◌, List, [], ◌∷◌, ◌++◌, length, refl, sym, ap, subst, ◌∙◌, arith, inl, inr}
 use Rattle.std.specs.Prelude.{slice_get, slice_set}
 use Rattle.std.proofs.lemmas.Bool.Decides.{nat_tests}
 use Rattle.std.proofs.lemmas.List.{get_or-set_other, get_or-set_same, length-map, length-set}
@@ -13,7 +13,7 @@ use Rattle.pq_model.specs.Tagged.{TaggedPacket}
 use Rattle.pq_switch.specs.Added.{entries_of, in_turn}
 use Rattle.pq_switch.specs.Choice.{IsBest, IsIn, best_of, counts}
 use Rattle.pq_switch.specs.Patterns.{seen}
-use Rattle.pq_switch.specs.Shelves.{AreRows, AreShelved, LieBelow, found, picked, shelf_at, shelf_for, shelf_of}
+use Rattle.pq_switch.specs.Shelves.{AreRows, LieBelow, found, picked, shelf_at, shelf_for, shelf_of}
 use Rattle.pq_switch.specs.declared.entry.Slot.{Slot}
 use Rattle.pq_switch.specs.declared.pattern.Pattern.{Pattern}
 use Rattle.pq_switch.proofs.Choice.{best-all, best-among, best-is_taken, in-either, in-left, in-right}

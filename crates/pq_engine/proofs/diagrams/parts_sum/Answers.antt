@@ -1,4 +1,4 @@
-use Rattle.std.proofs.Common.{◌≤◌, length, sym, subst, arith}
+use Rattle.std.proofs.Common.{sym, subst}
 use Rattle.pq_sum.specs.Sum.{AreParts}
 use Rattle.pq_compile.specs.Documents.{document_tree}
 use Rattle.pq_compile.specs.Prepared.{parts_in}

@@ -1,4 +1,4 @@
-use Rattle.std.proofs.Common.{◌≤◌, ◌∷◌, [], ◌^◌, length, sym, subst, arith}
+use Rattle.std.proofs.Common.{sym, subst, arith}
 use Rattle.pq_sum.specs.Places.{IsSummed}
 use Rattle.pq_compile.specs.Documents.{document_tree}
 use Rattle.pq_engine.proofs.SumsLemmas.{kept_union, removable, removal_copied, removed_before}

@@ -1,9 +1,7 @@
-use Rattle.std.proofs.Common.{◌≡◌, ◌<◌, ℕ, List, length, map, refl, sym, ap, subst, ◌∙◌, arith}
-use Rattle.std.specs.Prelude.{slice_get, slice_set}
-use Rattle.std.proofs.lemmas.List.{length-map}
+use Rattle.std.proofs.Common.{◌≡◌, ◌<◌, length, refl, arith}
+use Rattle.std.specs.Prelude.{slice_get}
 use Rattle.std.proofs.lemmas.Option.{slice_get_read}
 use Rattle.std.specs.declared.option.Option.TheVariants.{Some}
-use Rattle.pq_switch.specs.Shelves.{LieBelow, shelf_for}
 use Rattle.pq_switch.proofs.OnShelves.{shelved_more}
 use Rattle.pq_switch.proofs.shelves.shelves_of.Goals as goal
 

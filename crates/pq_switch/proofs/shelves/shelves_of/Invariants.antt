@@ -1,4 +1,4 @@
-use Rattle.std.proofs.Common.{◌≡◌, ◌<◌, length, map}
+use Rattle.std.proofs.Common.{◌<◌, length, map}
 use Rattle.pq_switch.specs.Shelves.{LieBelow}
 use Rattle.pq_switch.proofs.shelves.shelves_of.Given as goal
 
