@@ -180,6 +180,6 @@ shelved_more f rows old new row s read within is some lie =
     let count : length (map f old) ≡ length old = length-map old f in
     let inside : shelf_for (length (map f old)) s.entry < length (map f old) = subst (λ n. shelf_for n s.entry < n) (sym count) within in
     let put : map f new ≡ slice_set (map f old) (shelf_for (length (map f old)) s.entry) (shelf_at (map f old) (shelf_for (length (map f old)) s.entry) ++ row ∷ []) =
-        is ∙ (λ i. slice_set (map f old) (shelf_for (sym count i) s.entry) (shelf_at (map f old) (shelf_for (sym count i) s.entry) ++ row ∷ [])) in
+    is ∙ (λ i. slice_set (map f old) (shelf_for (sym count i) s.entry) (shelf_at (map f old) (shelf_for (sym count i) s.entry) ++ row ∷ [])) in
     let many : length new ≡ length old = sym (length-map new f) ∙ ap length put ∙ as_many rows (map f old) row s read inside ∙ count in
     (subst (λ n. 0 < n) (sym many) some, subst (LieBelow (row + 1) rows) (sym put) (one_more rows (map f old) row s read inside lie))

@@ -281,7 +281,13 @@ fn each_refused_edit_has_its_line(rt: HostRuntime) -> Result<(), Fail> {
     assert!(rt; refuses(alloc, "switch s2 = 2 ports 1;", "syntax 0")?);
     assert!(rt; refuses(alloc, "part one = drop; part one = drop;", "syntax 17")?);
     assert!(rt; refuses(alloc, "remove query q;", "name 13 unknown_query")?);
-    assert!(rt; refuses(alloc, "query q = in_atom(switch=s2);", "name 25 unknown_switch")?);
+    assert!(rt;
+        refuses(
+            alloc,
+            "query q = in_atom(switch=s2);",
+            "name 25 unknown_switch"
+        )?
+    );
     Ok(())
 }
 
