@@ -214,7 +214,7 @@ fn a_piece_has_524288_bytes_at_the_most(rt: HostRuntime) -> Result<(), Fail> {
     assert!(rt; ends(alloc, &most, Outcome::Done, 1212)?);
     let more = spaces(alloc, 524_289)?;
     assert!(rt; ends(alloc, &more, Outcome::TooLong, 595)?);
-    let (outcome, put) = session(alloc, &more[3..])?;
+    let (outcome, put) = session(alloc, from(&more, 3))?;
     assert_eq!(rt; outcome, Outcome::TooLong);
     assert_eq!(rt; put.len(), 0);
     Ok(())
