@@ -22,6 +22,9 @@ pub const GROUP: u8 = 22;
 /// The port number that stands for the controller (OpenFlow 1.3.5, section 7.2.1).
 pub const CONTROLLER: u32 = 0xffff_fffd;
 
+// The room for a spelling of actions to begin with, in bytes: four actions need no more.
+const ROOM: usize = 64;
+
 // The length that stands for a whole packet, of which the switch keeps no copy.
 const NO_BUFFER: u16 = 0xffff;
 
@@ -73,7 +76,7 @@ pub fn actions_spelling(alloc: Global, actions: &[Action]) -> Result<Vec<u8>, Al
     requires { All IsLawfulAction actions.now }
     ensures { IfOk result (λ bytes. bytes.items ≡ actions_bytes actions.now) }
 {
-    let mut bytes = Vec::new(alloc);
+    let mut bytes = Vec::with_capacity(alloc, ROOM)?;
     for action in actions {
         write_action(*action, &mut bytes)?;
     }

@@ -3,6 +3,7 @@ ghost use Rattle.pq_model.specs.Lawful.{IsLawfulAction, IsLawfulFlow};
 ghost use Rattle.pq_model.specs.Spelling.{apply_bytes, flow_body, flow_code, goto_bytes};
 
 use crate::action::actions_spelling;
+use crate::message::ROOM;
 use pq_model::{Action, FlowCommand, FlowMod};
 use pq_oxm::{write_length, write_match};
 use std::alloc::{AllocError, Global};
@@ -51,6 +52,15 @@ fn write_goto(goto: Option<u8>, into: &mut Vec<u8>) -> Result<(), AllocError>
     }
 }
 
+// The two instructions: actions, and the table to go on in.
+fn write_instructions(alloc: Global, flow: &FlowMod, into: &mut Vec<u8>) -> Result<(), AllocError>
+    requires { IsLawfulFlow flow.now }
+    ensures { OnOk result (into.new.items ≡ into.old.items ++ apply_bytes flow.now.actions ++ goto_bytes flow.now.goto) }
+{
+    write_apply(alloc, &flow.actions, into)?;
+    write_goto(flow.goto, into)
+}
+
 /// What follows the header in the spelling of a flow mod: no cookie mask, no timeouts, no buffer,
 /// any port and group, and no flags (OpenFlow 1.3.5, section 7.3.4.1).
 #[tactic(auto, unfolding(pq_model::specs::Spelling::flow_body))]
@@ -58,7 +68,7 @@ pub fn flow_body(alloc: Global, flow: &FlowMod) -> Result<Vec<u8>, AllocError>
     requires { IsLawfulFlow flow.now }
     ensures { IfOk result (λ bytes. bytes.items ≡ flow_body flow.now) }
 {
-    let mut bytes = Vec::new(alloc);
+    let mut bytes = Vec::with_capacity(alloc, ROOM)?;
     bytes.extend_from_slice(&flow.cookie.to_be_bytes())?;
     bytes.extend_from_slice(&[0; 8])?;
     bytes.extend_from_slice(&[flow.table, flow_code(flow.command), 0, 0, 0, 0])?;
@@ -66,7 +76,6 @@ pub fn flow_body(alloc: Global, flow: &FlowMod) -> Result<Vec<u8>, AllocError>
     bytes.extend_from_slice(&[0xff; 12])?;
     bytes.extend_from_slice(&[0; 4])?;
     write_match(alloc, &flow.matching, &mut bytes)?;
-    write_apply(alloc, &flow.actions, &mut bytes)?;
-    write_goto(flow.goto, &mut bytes)?;
+    write_instructions(alloc, flow, &mut bytes)?;
     Ok(bytes)
 }

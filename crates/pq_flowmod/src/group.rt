@@ -4,6 +4,7 @@ ghost use Rattle.pq_model.specs.Lawful.{IsLawfulAction, IsLawfulGroup};
 ghost use Rattle.pq_model.specs.Spelling.{bucket_bytes, group_body, group_code};
 
 use crate::action::actions_spelling;
+use crate::message::ROOM;
 use pq_model::{Action, GroupCommand, GroupMod};
 use pq_oxm::write_length;
 use std::alloc::{AllocError, Global};
@@ -56,7 +57,7 @@ pub fn group_body(alloc: Global, group: &GroupMod) -> Result<Vec<u8>, AllocError
     requires { IsLawfulGroup group.now }
     ensures { IfOk result (λ bytes. bytes.items ≡ group_body group.now) }
 {
-    let mut bytes = Vec::new(alloc);
+    let mut bytes = Vec::with_capacity(alloc, ROOM)?;
     bytes.extend_from_slice(&[0, group_code(group.command), 0, 0])?;
     bytes.extend_from_slice(&group.group.to_be_bytes())?;
     write_buckets(alloc, &group.buckets, &mut bytes)?;

@@ -11,6 +11,9 @@ use std::alloc::{AllocError, Global};
 // The version of OpenFlow 1.3 (OpenFlow 1.3.5, section 7.1).
 const VERSION: u8 = 0x04;
 
+/// The room for the body of a message to begin with, in bytes: most messages of the compiler need no more.
+pub const ROOM: usize = 128;
+
 /// The type of a message that changes flow entries.
 pub const FLOW_MOD: u8 = 14;
 
@@ -25,7 +28,7 @@ pub const BARRIER_REQUEST: u8 = 20;
 fn with_header(alloc: Global, kind: u8, xid: u32, body: &[u8]) -> Result<Vec<u8>, AllocError>
     ensures { IfOk result (λ bytes. bytes.items ≡ with_header kind xid body.now) }
 {
-    let mut bytes = Vec::new(alloc);
+    let mut bytes = Vec::with_capacity(alloc, 8 + body.len())?;
     bytes.extend_from_slice(&[VERSION, kind])?;
     write_length(8 + body.len(), &mut bytes)?;
     bytes.extend_from_slice(&xid.to_be_bytes())?;

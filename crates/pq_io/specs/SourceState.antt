@@ -2,9 +2,10 @@
 use Rattle.std.specs.Prelude.{ℕ, List, drop}
 use Rattle.pq_io.specs.Faults.{next_count}
 
--- the bytes that are left, the numbers of the calls that fail, and the counts of calls and faults
+-- the bytes that are left, the most that one call gives, the numbers of the calls that fail, and the counts of calls and faults
 pub record SourceState : Type 0 where
   pub left : List ℕ
+  pub most : ℕ
   pub failing : List ℕ
   pub calls : ℕ
   pub faults : ℕ

@@ -8,12 +8,15 @@ use crate::stated::{write_byte, write_ipv4, write_ipv6, write_mac, write_u16, wr
 use pq_model::Match;
 use std::alloc::{AllocError, Global};
 
+// The room for a spelling to begin with, in bytes: a match of five fields needs no more.
+const ROOM: usize = 64;
+
 // The OXM fields of a match, in their fixed order.
 #[tactic(auto, unfolding(pq_model::specs::Spelling::match_oxms))]
 fn oxms(alloc: Global, value: &Match) -> Result<Vec<u8>, AllocError>
     ensures { IfOk result (λ bytes. bytes.items ≡ match_oxms value.now) }
 {
-    let mut bytes = Vec::new(alloc);
+    let mut bytes = Vec::with_capacity(alloc, ROOM)?;
     write_u32(oxm_field::IN_PORT, value.in_port, &mut bytes)?;
     write_u16(oxm_field::VLAN_VID, value.vlan, &mut bytes)?;
     write_u16(oxm_field::ETH_TYPE, value.eth_type, &mut bytes)?;
@@ -37,7 +40,7 @@ pub fn spelling(alloc: Global, value: &Match) -> Result<Vec<u8>, AllocError>
     ensures { IfOk result (λ bytes. bytes.items ≡ match_bytes value.now) }
 {
     let oxms = oxms(alloc, value)?;
-    let mut bytes = Vec::new(alloc);
+    let mut bytes = Vec::with_capacity(alloc, ROOM)?;
     bytes.extend_from_slice(&[0, 1])?;
     write_length(4 + oxms.len(), &mut bytes)?;
     bytes.extend_from_slice(&oxms)?;
