@@ -1,18 +1,17 @@
 -- The messages of a switch, appended block after block.
-use Rattle.std.proofs.Common.{◌≡◌, ℕ, zero, suc, ◌+◌, ◌-◌, ◌<◌, ◌≤◌, ◌==◌, true, false, if◌then◌else◌, All, List, [], ◌∷◌, ◌++◌, length, map, drop, get_or, refl, sym, ap, ◌∙◌, append_assoc, arith, eq-eqb, eqb-true, drop_of_length-le, subst, ◌^◌}
+use Rattle.std.proofs.Common.{◌≡◌, ℕ, zero, suc, ◌+◌, ◌-◌, ◌<◌, ◌≤◌, ◌==◌, true, false, if◌then◌else◌, List, [], ◌∷◌, ◌++◌, length, map, drop, get_or, refl, sym, ap, ◌∙◌, append_assoc, arith, eq-eqb, eqb-true, drop_of_length-le, subst, ◌^◌}
 use Rattle.std.proofs.lemmas.Bool.Decides.{nat_tests}
 use Rattle.std.proofs.lemmas.List.{get_or-map, length-append}
 use Rattle.pq_model.specs.declared.message.Message.{Message}
 use Rattle.pq_model.specs.declared.message.Message.TheVariants.{Flow, Group, Barrier}
-use Rattle.pq_model.specs.Lawful.{IsLawfulMessage}
 use Rattle.pq_model.specs.SwitchMachine.{Entry}
 use Rattle.pq_model.specs.Topology.{Switch}
 use Rattle.pq_delta.specs.Added.{entries_added, groups_added}
 use Rattle.pq_delta.specs.Changes.{Changes, Put, adds_from, amount, change_messages, changes, deletes_from, group_deletes_from, group_mods_from, puts_from}
 use Rattle.pq_delta.specs.Delta.{AreShort, deltas, switch_delta, with_switch}
-use Rattle.pq_delta.specs.Keys.{keys_of, unknown}
-use Rattle.pq_delta.proofs.KeysLemmas.{unknown_others}
-use Rattle.pq_delta.proofs.LawfulLemmas.{lawful_entries}
+use Rattle.pq_delta.specs.Equal.{others}
+use Rattle.pq_delta.specs.Keys.{keys_of}
+use Rattle.pq_delta.proofs.KeysLemmas.{others_of_keys}
 
 deletes_long : (x : ℕ) (es : List Entry) → length (map Flow (deletes_from x es)) ≡ length es
 deletes_long x [] = refl
@@ -89,27 +88,27 @@ module _ (c : Changes) (m1 m2 m3 m4 m5 m6 m7 : List Message) (h : Appended c m1 
           ∙ append_assoc x (p ∷ []) (m ++ g ∷ (a ++ f ∷ []))
 
 -- The messages of a switch, from what each call appends to none.
-module _ (old new : List Message) (lawful_old : All IsLawfulMessage old) (lawful_new : All IsLawfulMessage new) (old_keys new_keys : List (List ℕ)) (kept groups : ℕ)
+module _ (old new : List Message) (old_keys new_keys : List Entry) (kept groups : ℕ)
     (old_keys_is : old_keys ≡ keys_of (entries_added old)) (new_keys_is : new_keys ≡ keys_of (entries_added new)) (kept_is : kept ≡ length (groups_added new)) (groups_is : groups ≡ length (groups_added old)) where
   pub appended : (m0 m1 m2 m3 m4 m5 m6 m7 : List Message) → m0 ≡ []
-      → m1 ≡ m0 ++ map Flow (deletes_from (length m0 + 1) (unknown new_keys (entries_added old)))
+      → m1 ≡ m0 ++ map Flow (deletes_from (length m0 + 1) (others new_keys (entries_added old)))
       → m2 ≡ m1 ++ map Group (group_deletes_from (length m1 + 1) (suc kept) (groups - kept))
       → m3 ≡ m2 ++ Barrier (length m2 + 1) ∷ []
       → m4 ≡ m3 ++ map Group (group_mods_from (length m3 + 1) (puts_from 1 (groups_added old) (groups_added new)))
       → m5 ≡ m4 ++ Barrier (length m4 + 1) ∷ []
-      → m6 ≡ m5 ++ map Flow (adds_from (length m5 + 1) (unknown old_keys (entries_added new)))
+      → m6 ≡ m5 ++ map Flow (adds_from (length m5 + 1) (others old_keys (entries_added new)))
       → m7 ≡ m6 ++ Barrier (length m6 + 1) ∷ []
       → Appended (changes old new) m1 m2 m3 m4 m5 m6 m7
   appended m0 m1 m2 m3 m4 m5 m6 m7 none removed gone parted put grouped added filled = record {
-    removed = removed ∙ ap (λ l. l ++ map Flow (deletes_from (length l + 1) (unknown new_keys (entries_added old)))) none
-        ∙ (λ i. map Flow (deletes_from 1 (unknown (new_keys_is i) (entries_added old))))
-        ∙ ap (λ es. map Flow (deletes_from 1 es)) (unknown_others (entries_added new) (entries_added old) (lawful_entries new lawful_new) (lawful_entries old lawful_old));
+    removed = removed ∙ ap (λ l. l ++ map Flow (deletes_from (length l + 1) (others new_keys (entries_added old)))) none
+        ∙ (λ i. map Flow (deletes_from 1 (others (new_keys_is i) (entries_added old))))
+        ∙ ap (λ es. map Flow (deletes_from 1 es)) (others_of_keys (entries_added new) (entries_added old));
     gone = gone ∙ (λ i. m1 ++ map Group (group_deletes_from (length m1 + 1) (suc (kept_is i)) (groups_is i - kept_is i)));
     parted = parted;
     put = put;
     grouped = grouped;
-    added = added ∙ (λ i. m5 ++ map Flow (adds_from (length m5 + 1) (unknown (old_keys_is i) (entries_added new))))
-        ∙ ap (λ es. m5 ++ map Flow (adds_from (length m5 + 1) es)) (unknown_others (entries_added old) (entries_added new) (lawful_entries old lawful_old) (lawful_entries new lawful_new));
+    added = added ∙ (λ i. m5 ++ map Flow (adds_from (length m5 + 1) (others (old_keys_is i) (entries_added new))))
+        ∙ ap (λ es. m5 ++ map Flow (adds_from (length m5 + 1) es)) (others_of_keys (entries_added old) (entries_added new));
     filled = filled;
   }
 

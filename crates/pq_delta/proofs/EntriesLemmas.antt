@@ -11,7 +11,7 @@ use Rattle.pq_model.specs.Mods.{FlowValue}
 use Rattle.pq_model.specs.SwitchMachine.{Entry, Groups, Tables, applies_all, entry_of, groups_named, is_placed}
 use Rattle.pq_model.specs.Orders.{HaveOwnPriorities}
 use Rattle.pq_delta.specs.Changes.{adds_from, delete_of, deletes_from}
-use Rattle.pq_delta.proofs.EqualLemmas.{match_itself}
+use Rattle.pq_delta.specs.Exact.{match_itself}
 use Rattle.pq_delta.proofs.OwnLemmas.{all-unplaced, own-around, untouched}
 
 -- an entry stands in its own place

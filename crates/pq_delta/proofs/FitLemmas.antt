@@ -16,7 +16,7 @@ use Rattle.pq_delta.specs.Changes.{add_of, adds_from, delete_of, deletes_from, g
 use Rattle.pq_delta.specs.Equal.{same_buckets}
 use Rattle.pq_delta.specs.Turning.{AllFit}
 use Rattle.pq_delta.proofs.EntriesLemmas.{placed, taken-out}
-use Rattle.pq_delta.proofs.EqualLemmas.{buckets_exact}
+use Rattle.pq_delta.specs.Exact.{buckets_exact}
 use Rattle.pq_delta.proofs.GroupsLemmas.{NameBelow, Pairs, Under, added_step, all-not_hit, changed_step, deleted_step, free, groups_with, no_all, numbered_from, there, under-more, under-weaker}
 use Rattle.pq_delta.proofs.OwnLemmas.{all-unplaced, own-around}
 

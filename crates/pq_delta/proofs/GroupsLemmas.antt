@@ -15,7 +15,7 @@ use Rattle.pq_delta.specs.Added.{Buckets}
 use Rattle.pq_delta.specs.Changes.{group_delete_of, group_deletes_from, group_mod_of, group_mods_from, puts_from}
 use Rattle.pq_delta.specs.Equal.{same_buckets}
 use Rattle.pq_delta.specs.Turning.{numbers_from}
-use Rattle.pq_delta.proofs.EqualLemmas.{buckets_exact}
+use Rattle.pq_delta.specs.Exact.{buckets_exact}
 
 abbrev pub Pairs : Type 0
 Pairs = List (ℕ × Buckets)

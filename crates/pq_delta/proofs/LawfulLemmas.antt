@@ -12,7 +12,10 @@ use Rattle.pq_model.specs.Spelling.{flow_body, message_bytes, with_header}
 use Rattle.pq_model.specs.SwitchMachine.{Entry, entry_of}
 use Rattle.pq_delta.specs.Added.{entries_added, entry_by}
 use Rattle.pq_delta.specs.Changes.{add_of}
-use Rattle.pq_delta.specs.Keys.{IsLawfulEntry}
+
+-- an entry whose Add is lawful
+abbrev pub IsLawfulEntry : Entry → Type 0
+IsLawfulEntry e = IsLawfulMessage (Flow (add_of 0 e))
 
 -- an Add with another transaction id
 pub renumbered : (x y : ℕ) (e : Entry) → y < 2 ^ 32 → IsLawfulMessage (Flow (add_of x e)) → IsLawfulMessage (Flow (add_of y e))

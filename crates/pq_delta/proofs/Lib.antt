@@ -1,5 +1,4 @@
 mod ListLemmas
-mod EqualLemmas
 mod OwnLemmas
 mod EntriesLemmas
 mod GroupsLemmas

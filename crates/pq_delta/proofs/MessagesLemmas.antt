@@ -17,10 +17,9 @@ use Rattle.pq_delta.specs.Added.{Buckets, entries_added, group_by, groups_added}
 use Rattle.pq_delta.specs.Changes.{Changes, Put, adds_from, amount, change_messages, changes, delete_of, deletes_from, group_delete_of, group_deletes_from, group_mod_of, group_mods_from, puts_from}
 use Rattle.pq_delta.specs.Delta.{AreShort, delta, deltas, switch_delta, with_switch}
 use Rattle.pq_delta.specs.Equal.{same_buckets}
-use Rattle.pq_delta.specs.Keys.{IsLawfulEntry}
 use Rattle.pq_delta.specs.Turning.{HasFewGroups}
 use Rattle.pq_delta.proofs.AssemblyLemmas.{Appended, assembled, assembled_long}
-use Rattle.pq_delta.proofs.LawfulLemmas.{lawful_entries, renumbered}
+use Rattle.pq_delta.proofs.LawfulLemmas.{IsLawfulEntry, lawful_entries, renumbered}
 
 -- Single messages of a delta.
 

@@ -7,7 +7,7 @@ use Rattle.pq_model.specs.SwitchMachine.{Entry, entry_of, is_placed}
 use Rattle.pq_model.specs.Orders.{AreApart, HaveOwnPriorities, IsReordering}
 use Rattle.pq_model.proofs.Reorderings.{all-at, all-put, all-rest, all-reordering}
 use Rattle.pq_delta.specs.Equal.{same_entry}
-use Rattle.pq_delta.proofs.EqualLemmas.{entry_exact}
+use Rattle.pq_delta.specs.Exact.{entry_exact}
 
 apart-sym : (d e : Entry) → AreApart d e → AreApart e d
 apart-sym d e apart table priority = apart (sym table) (sym priority)

@@ -24,7 +24,7 @@ use Rattle.pq_delta.specs.Delta.{messages_for, switch_delta}
 use Rattle.pq_delta.specs.Equal.{is_among, others, same_entry}
 use Rattle.pq_delta.specs.Turning.{AllFit, IsNumberedRenewal}
 use Rattle.pq_delta.proofs.EntriesLemmas.{adds-all, adds-entries, adds-named, deletes-leave, deletes-none}
-use Rattle.pq_delta.proofs.EqualLemmas.{entry_exact, entry_itself}
+use Rattle.pq_delta.specs.Exact.{entry_exact, entry_itself}
 use Rattle.pq_delta.proofs.FitLemmas.{adds-fit, deletes-fit, fit-append, group_deletes-fit, puts-fit}
 use Rattle.pq_delta.proofs.GroupsLemmas.{Under, groups_with, group_deletes-all, group_deletes-leave, mods-distinct, mods-none, all-names-below, divided, numbered_from, puts-front, puts-leave, renewal-numbered, under-take}
 use Rattle.pq_delta.proofs.ListLemmas.{common, parted}

@@ -9,7 +9,7 @@ use Rattle.pq_delta.specs.Added.{Buckets, entries_added, entry_added, group_adde
 use Rattle.pq_delta.specs.Changes.{amount, change_messages, changes, puts_from}
 use Rattle.pq_delta.specs.Delta.{switch_delta}
 use Rattle.pq_delta.specs.Equal.{is_among, others, same_entry}
-use Rattle.pq_delta.proofs.EqualLemmas.{buckets_itself, entry_itself}
+use Rattle.pq_delta.specs.Exact.{buckets_itself, entry_itself}
 
 -- an entry of a list is among its entries
 among : (front : List Entry) (e : Entry) (back : List Entry) → is_among e (front ++ e ∷ back) ≡ true

@@ -1,5 +1,6 @@
 pub mod Added
 pub mod Equal
+pub mod Exact
 pub mod Changes
 pub mod Delta
 pub mod Turning

@@ -1,16 +1,13 @@
 //! What messages add.
 ghost use Rattle.std.specs.Prelude.{◌≡◌, ◌<◌, ◌^◌, ◌∷◌, [], None, Some, length, IfSome, MatchOption};
-ghost use Rattle.pq_model.specs.Lawful.{IsLawfulMessage};
 ghost use Rattle.pq_model.specs.SwitchMachine.{entry_of};
 ghost use Rattle.pq_delta.specs.Added.{entry_added, group_added, groups_added};
-ghost use Rattle.pq_delta.specs.Keys.{IsLawfulEntry};
 
 use pq_model::{FlowCommand, FlowMod, GroupCommand, GroupMod, Message};
 
 /// The message as the Add of an entry, if it is one.
 pub(crate) fn added_entry(message: &Message) -> Option<&FlowMod>
-    ensures entry { MatchOption result (entry_added message.now ≡ None) (λ flow. entry_added message.now ≡ Some (entry_of flow.now)) }
-    ensures lawful { IfSome result (λ flow. IsLawfulMessage message.now → IsLawfulEntry (entry_of flow.now)) }
+    ensures { MatchOption result (entry_added message.now ≡ None) (λ flow. entry_added message.now ≡ Some (entry_of flow.now)) }
 {
     match message {
         Message::Flow(flow) => match flow.command {

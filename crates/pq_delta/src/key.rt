@@ -1,123 +1,89 @@
-//! Entries by the spellings of their Adds: a message has one spelling, so equal spellings are of equal entries.
-ghost use Rattle.std.specs.Prelude.{◌≡◌, ◌∷◌, [], All, map, IfOk, OnOk};
+//! Entries as keys of a set.
+ghost use Rattle.std.specs.Prelude.{◌≡◌, ◌∷◌, [], IfOk, OnOk};
 ghost use Rattle.indexmap.specs.IndexSet.{insert_all};
-ghost use Rattle.pq_model.specs.Lawful.{IsLawfulMessage};
 ghost use Rattle.pq_model.specs.SwitchMachine.{entry_of};
 ghost use Rattle.pq_delta.specs.Added.{entries_added};
-ghost use Rattle.pq_delta.specs.Changes.{add_of};
-ghost use Rattle.pq_delta.specs.Keys.{IsLawfulEntry, entry_key, is_known, key_eq, key_equiv, key_hash, key_hashes, key_per, keys_of};
+ghost use Rattle.pq_delta.specs.Equal.{is_among, same_entry};
+ghost use Rattle.pq_delta.specs.Keys.{entry_equiv, entry_hash, entry_hashes, entry_per, keys_of};
 
 use crate::added::added_entry;
+use crate::equal::same_entry;
 use indexmap::IndexSet;
-use pq_flowmod::write_message;
-use pq_model::{FlowCommand, FlowMod, Message};
+use pq_model::{FlowMod, Message};
 use std::alloc::{AllocError, Global};
 use std::hash::{Hash, Hasher};
 use std::marker::Model;
 
-/// The spelling of an entry's Add.
-#[derive(Debug, Drop)]
-pub(crate) struct Key {
-    bytes: Vec<u8>,
+/// The entry of a flow mod. Of a compiler's install no two entries of a table have one priority, so the hash is of these two numbers.
+#[derive(Drop)]
+pub(crate) struct Key<'a> {
+    flow: &'a FlowMod,
 }
 
-impl Model for Key {
-    ghost use Rattle.std.specs.Prelude.{ℕ, List};
+impl<'a> Model for Key<'a> {
+    ghost use Rattle.pq_model.specs.SwitchMachine.{Entry, entry_of};
 
-    ghost Value = { List ℕ };
+    ghost Value = { Entry };
 
-    ghost view = { λ k. k.bytes.items };
+    ghost view = { λ k. entry_of k.flow.now };
 }
 
-impl PartialEq for Key {
-    ghost eq = { key_eq };
+impl<'a> PartialEq for Key<'a> {
+    ghost eq = { same_entry };
 
-    ghost laws = { key_per };
+    ghost laws = { entry_per };
 
-    fn eq(&self, other: &Key) -> bool {
-        self.bytes == other.bytes
+    fn eq(&self, other: &Key<'a>) -> bool {
+        same_entry(self.flow, other.flow)
     }
 }
 
-impl Eq for Key {
-    ghost laws = { key_equiv };
+impl<'a> Eq for Key<'a> {
+    ghost laws = { entry_equiv };
 }
 
-impl Hash for Key {
-    ghost hash_input = { key_hash };
+impl<'a> Hash for Key<'a> {
+    ghost hash_input = { entry_hash };
 
-    ghost respects_eq = { key_hashes };
+    ghost respects_eq = { entry_hashes };
 
     fn hash<H: Hasher>(&self, state: &mut H) {
-        self.bytes.hash(state);
+        let flow = self.flow;
+        flow.table.hash(state);
+        flow.priority.hash(state);
     }
 }
 
-/// The Add of the entry of a flow mod, with this transaction id.
-pub(crate) fn add_of(alloc: Global, xid: u32, flow: &FlowMod) -> Result<FlowMod, AllocError>
-    ensures { IfOk result (λ add. add ≡ add_of xid (entry_of flow.now)) }
-{
-    let actions = Vec::from_slice(alloc, &flow.actions)?;
-    Ok(FlowMod {
-        xid,
-        cookie: flow.cookie,
-        table: flow.table,
-        command: FlowCommand::Add,
-        priority: flow.priority,
-        matching: flow.matching,
-        actions,
-        goto: flow.goto,
-    })
-}
-
-/// The spelling of the Add of a flow mod's entry.
-fn key_of(alloc: Global, flow: &FlowMod) -> Result<Key, AllocError>
-    requires { IsLawfulEntry (entry_of flow.now) }
-    ensures { IfOk result (λ key. key ≡ entry_key (entry_of flow.now)) }
-{
-    let add = add_of(alloc, 0, flow)?;
-    let message = Message::Flow(add);
-    let mut bytes = Vec::new(alloc);
-    write_message(alloc, &message, &mut bytes)?;
-    Ok(Key { bytes })
-}
-
-/// The spellings of the entries that messages add.
-pub(crate) fn keys_of(alloc: Global, messages: &[Message]) -> Result<IndexSet<Key>, AllocError>
-    requires { All IsLawfulMessage messages.now }
+/// The entries that messages add, each once.
+pub(crate) fn keys_of<'a>(
+    alloc: Global,
+    messages: &'a [Message],
+) -> Result<IndexSet<Key<'a>>, AllocError>
     ensures { IfOk result (λ keys. keys.keys ≡ keys_of (entries_added messages.now)) }
 {
     let mut keys = IndexSet::new(alloc);
     for message in messages {
-        add_key(alloc, &mut keys, message)?;
+        add_key(&mut keys, message)?;
     }
     Ok(keys)
 }
 
-/// Adds the spelling of the entry that the message adds, if it adds one.
-fn add_key(alloc: Global, keys: &mut IndexSet<Key>, message: &Message) -> Result<(), AllocError>
-    requires { IsLawfulMessage message.now }
-    ensures { OnOk result (keys.new.keys ≡ insert_all key_eq keys.old.keys (map entry_key (entries_added (message.now ∷ [])))) }
+/// Adds the entry that the message adds, if it adds one.
+fn add_key<'a>(keys: &mut IndexSet<Key<'a>>, message: &'a Message) -> Result<(), AllocError>
+    ensures { OnOk result (keys.new.keys ≡ insert_all same_entry keys.old.keys (entries_added (message.now ∷ []))) }
 {
     let Some(flow) = added_entry(message) else {
         return Ok(());
     };
-    let key = key_of(alloc, flow)?;
-    match keys.insert(key) {
+    match keys.insert(Key { flow }) {
         Ok(_) => Ok(()),
         Err(_) => Err(AllocError),
     }
 }
 
-/// Whether the entry of a flow mod is among those with these spellings.
-pub(crate) fn is_known(
-    alloc: Global,
-    keys: &IndexSet<Key>,
-    flow: &FlowMod,
-) -> Result<bool, AllocError>
-    requires { IsLawfulEntry (entry_of flow.now) }
-    ensures { IfOk result (λ known. known ≡ is_known keys.now.keys (entry_of flow.now)) }
+/// Whether the entry of a flow mod is among these.
+pub(crate) fn is_known<'a>(keys: &IndexSet<Key<'a>>, flow: &'a FlowMod) -> bool
+    ensures { result ≡ is_among (entry_of flow.now) keys.now.keys }
 {
-    let key = key_of(alloc, flow)?;
-    Ok(keys.contains(&key))
+    keys.contains(&Key { flow })
 }

@@ -2,6 +2,7 @@
 #![tactic(auto)]
 
 mod added;
+mod equal;
 mod group_changes;
 mod install;
 mod key;

@@ -4,7 +4,6 @@ ghost use Rattle.pq_model.specs.declared.message.Message.TheVariants.{Barrier, F
 ghost use Rattle.pq_model.specs.SwitchMachine.{entry_of};
 ghost use Rattle.pq_delta.specs.Changes.{add_of, delete_of, group_delete_of, group_mod_of};
 
-use crate::key::add_of;
 use pq_model::{Action, FlowCommand, FlowMod, GroupCommand, GroupMod, Message};
 use std::alloc::{AllocError, Global};
 
@@ -52,6 +51,23 @@ pub(crate) fn push_delete(
         goto: None,
     }))?;
     Ok(())
+}
+
+/// The Add of the entry of a flow mod, with this transaction id.
+fn add_of(alloc: Global, xid: u32, flow: &FlowMod) -> Result<FlowMod, AllocError>
+    ensures { IfOk result (λ add. add ≡ add_of xid (entry_of flow.now)) }
+{
+    let actions = Vec::from_slice(alloc, &flow.actions)?;
+    Ok(FlowMod {
+        xid,
+        cookie: flow.cookie,
+        table: flow.table,
+        command: FlowCommand::Add,
+        priority: flow.priority,
+        matching: flow.matching,
+        actions,
+        goto: flow.goto,
+    })
 }
 
 /// Appends the Add of the entry of a flow mod.

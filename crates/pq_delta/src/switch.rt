@@ -2,11 +2,10 @@
 ghost use Rattle.std.specs.Prelude.{◌≡◌, ◌<◌, ◌+◌, ◌^◌, ◌++◌, ◌∷◌, [], All, length, map, IfOk, OnOk};
 ghost use Rattle.pq_model.specs.declared.message.Message.TheVariants.{Flow};
 ghost use Rattle.pq_model.specs.Install.{IsLawfulList};
-ghost use Rattle.pq_model.specs.Lawful.{IsLawfulMessage};
 ghost use Rattle.pq_delta.specs.Added.{entries_added};
 ghost use Rattle.pq_delta.specs.Changes.{adds_from, amount, change_messages, changes, deletes_from};
 ghost use Rattle.pq_delta.specs.Delta.{switch_delta};
-ghost use Rattle.pq_delta.specs.Keys.{unknown};
+ghost use Rattle.pq_delta.specs.Equal.{others};
 
 use crate::added::{added_entry, group_count};
 use crate::group_changes::{push_group_deletes, push_groups};
@@ -69,14 +68,13 @@ fn change_messages(
 }
 
 /// Appends the DeleteStricts of the old entries that aren't known.
-fn push_removed(
+fn push_removed<'a>(
     alloc: Global,
     messages: &mut Vec<Message>,
-    old: &[Message],
-    known: &IndexSet<Key>,
+    old: &'a [Message],
+    known: &IndexSet<Key<'a>>,
 ) -> Result<(), AllocError>
-    requires { All IsLawfulMessage old.now }
-    ensures { OnOk result (messages.new.items ≡ messages.old.items ++ map Flow (deletes_from (length messages.old.items + 1) (unknown known.now.keys (entries_added old.now)))) }
+    ensures { OnOk result (messages.new.items ≡ messages.old.items ++ map Flow (deletes_from (length messages.old.items + 1) (others known.now.keys (entries_added old.now)))) }
 {
     for message in old {
         remove(alloc, messages, message, known)?;
@@ -85,33 +83,31 @@ fn push_removed(
 }
 
 /// Appends the DeleteStrict of the entry that the message adds, if it adds one that isn't known.
-fn remove(
+fn remove<'a>(
     alloc: Global,
     messages: &mut Vec<Message>,
-    message: &Message,
-    known: &IndexSet<Key>,
+    message: &'a Message,
+    known: &IndexSet<Key<'a>>,
 ) -> Result<(), AllocError>
-    requires { IsLawfulMessage message.now }
-    ensures { OnOk result (messages.new.items ≡ messages.old.items ++ map Flow (deletes_from (length messages.old.items + 1) (unknown known.now.keys (entries_added (message.now ∷ []))))) }
+    ensures { OnOk result (messages.new.items ≡ messages.old.items ++ map Flow (deletes_from (length messages.old.items + 1) (others known.now.keys (entries_added (message.now ∷ []))))) }
 {
     let Some(flow) = added_entry(message) else {
         return Ok(());
     };
-    if is_known(alloc, known, flow)? {
+    if is_known(known, flow) {
         return Ok(());
     }
     push_delete(alloc, messages, flow)
 }
 
 /// Appends the Adds of the new entries that aren't known.
-fn push_added(
+fn push_added<'a>(
     alloc: Global,
     messages: &mut Vec<Message>,
-    new: &[Message],
-    known: &IndexSet<Key>,
+    new: &'a [Message],
+    known: &IndexSet<Key<'a>>,
 ) -> Result<(), AllocError>
-    requires { All IsLawfulMessage new.now }
-    ensures { OnOk result (messages.new.items ≡ messages.old.items ++ map Flow (adds_from (length messages.old.items + 1) (unknown known.now.keys (entries_added new.now)))) }
+    ensures { OnOk result (messages.new.items ≡ messages.old.items ++ map Flow (adds_from (length messages.old.items + 1) (others known.now.keys (entries_added new.now)))) }
 {
     for message in new {
         add(alloc, messages, message, known)?;
@@ -120,19 +116,18 @@ fn push_added(
 }
 
 /// Appends the Add of the entry that the message adds, if it adds one that isn't known.
-fn add(
+fn add<'a>(
     alloc: Global,
     messages: &mut Vec<Message>,
-    message: &Message,
-    known: &IndexSet<Key>,
+    message: &'a Message,
+    known: &IndexSet<Key<'a>>,
 ) -> Result<(), AllocError>
-    requires { IsLawfulMessage message.now }
-    ensures { OnOk result (messages.new.items ≡ messages.old.items ++ map Flow (adds_from (length messages.old.items + 1) (unknown known.now.keys (entries_added (message.now ∷ []))))) }
+    ensures { OnOk result (messages.new.items ≡ messages.old.items ++ map Flow (adds_from (length messages.old.items + 1) (others known.now.keys (entries_added (message.now ∷ []))))) }
 {
     let Some(flow) = added_entry(message) else {
         return Ok(());
     };
-    if is_known(alloc, known, flow)? {
+    if is_known(known, flow) {
         return Ok(());
     }
     push_add(alloc, messages, flow)

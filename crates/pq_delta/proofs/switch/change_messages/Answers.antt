@@ -13,7 +13,7 @@ returns c =
     let m6 = c.push_added.new.messages.items in
     let m7 = c.push_barrier-3.new.messages.items in
     let h =
-    appended c.args.old.now c.args.new.now c.requires.old.1 c.requires.new.1 c.in_ok-old_keys.old_keys.keys c.in_ok-new_keys.new_keys.keys c.group_count.result c.group_count-2.result
+    appended c.args.old.now c.args.new.now c.in_ok-old_keys.old_keys.keys c.in_ok-new_keys.new_keys.keys c.group_count.result c.group_count-2.result
     c.in_ok-old_keys.ensures c.in_ok-new_keys.ensures c.group_count.ensures c.group_count-2.ensures m0 m1 m2 m3 m4 m5 m6 m7 c.new-messages.ensures.items
     c.in_ok-push_removed.ensures c.in_ok-push_group_deletes.ensures c.in_ok-push_barrier.ensures.appended c.in_ok-push_groups.ensures c.in_ok-push_barrier-2.ensures.appended
     c.in_ok-push_added.ensures c.in_ok-push_barrier-3.ensures.appended in

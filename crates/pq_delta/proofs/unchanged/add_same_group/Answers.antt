@@ -1,5 +1,5 @@
 use Rattle.std.proofs.Common.{Some, ap, map, sym, ◌∙◌}
-use Rattle.pq_delta.proofs.EqualLemmas.{buckets_exact}
+use Rattle.pq_delta.specs.Exact.{buckets_exact}
 use Rattle.pq_delta.proofs.unchanged.add_same_group.Goals as goal
 
 pub returns-in-Some-Some : goal.returns-in-Some-Some

@@ -1,6 +1,9 @@
 -- Entries and groups that compare as equal are the same.
-use Rattle.std.proofs.Common.{◌≡◌, ℕ, Bool, true, ◌==◌, ◌&&◌, List, [], ◌∷◌, Option, None, Some, rules, refl, ap, ap₂, eqb-true}
+use Rattle.std.proofs.Common.{◌≡◌, ℕ, Bool, true, ◌==◌, ◌&&◌, List, [], ◌∷◌, Option, None, Some, rules, refl, sym, ap, ap₂, subst, eqb-true}
+use Rattle.std.specs.Bool.{Decides}
+use Rattle.std.specs.Cmp.{IsEquivalence}
 use Rattle.std.specs.Cmp.Lexicographic.{pointwise}
+use Rattle.std.proofs.lemmas.Bool.Decides.{same_from_decides}
 use Rattle.std.proofs.lemmas.Bool.{and_from, and_parts, eq-eqb}
 use denote.Enum.Bare.{same_true, true_same}
 use Rattle.pq_fields.specs.contracts.field.Field.{the_type}
@@ -12,6 +15,17 @@ use Rattle.pq_model.specs.MatchFields.{MatchFields, same_masked, same_match, sam
 use Rattle.pq_model.specs.SwitchMachine.{Entry}
 use Rattle.pq_delta.specs.Added.{Buckets}
 use Rattle.pq_delta.specs.Equal.{same_actions, same_buckets, same_entry}
+
+-- a test that holds of equal things alone, and of each with itself, is an equivalence
+pub exact_equiv : {A : Type 0} (E : A → A → Bool) → ((x y : A) → E x y ≡ true → x ≡ y) → ((x : A) → E x x ≡ true) → IsEquivalence E
+exact_equiv {A} E exact itself = record {
+  refl = itself;
+  symm = λ x y. same_from_decides (E x y) (E y x) (decides x y) ((λ h. sym (exact y x h)), (λ is. (decides y x).1 (sym is)));
+  congr = λ x y z h. ap (λ w. E w z) (exact x y h);
+}
+  where
+    decides : (x y : A) → Decides (E x y) (x ≡ y)
+    decides x y = (exact x y, (λ is. subst (λ z. E x z ≡ true) is (itself x)))
 
 -- Actions.
 
