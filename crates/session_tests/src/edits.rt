@@ -1,11 +1,9 @@
 //! Sessions of edits: which frames are written, and how each of them ends.
 use crate::hexadecimal::{TWO_TABLES, push_hexadecimal};
 use pq_command::*;
-use pq_io::{MemorySink, MemorySource, StreamSource};
+use pq_io::{MemorySink, MemorySource};
 use std::alloc::{AllocError, Global};
-use std::io::Read;
 use std::test::Fail;
-use std::{cmp, io};
 
 const DOCUMENT: &str = "switch s1 = 1 ports 1, 2; part one = filter(port=1) >> fwd(2);\n";
 
@@ -32,19 +30,6 @@ const BACK: &str = "fffffff8";
 const SECOND_PORT: &str = "00000002";
 
 const CHANGE_END: &str = "00000000000000000414000800000005";
-
-// A reader that gives a byte a call.
-#[derive(Drop)]
-struct Dripping<'a> {
-    bytes: &'a [u8],
-}
-
-impl Read for Dripping<'_> {
-    fn read(&mut self, buf: &mut [u8]) -> io::Result<usize> {
-        let count = cmp::min(1, buf.len());
-        self.bytes.read(&mut buf[..count])
-    }
-}
 
 fn words(alloc: Global, word: &str) -> Result<Vec<String>, AllocError> {
     let mut words = Vec::new(alloc);
@@ -130,9 +115,8 @@ fn a_session_has_its_frames(rt: HostRuntime) -> Result<(), Fail> {
 fn a_session_in_single_bytes_has_its_frames(rt: HostRuntime) -> Result<(), Fail> {
     let alloc = rt.alloc();
     let words = words(alloc, "session")?;
-    let mut source = StreamSource::new(Dripping {
-        bytes: PIECES.as_bytes(),
-    });
+    let bytes = Vec::from_slice(alloc, PIECES.as_bytes())?;
+    let mut source = MemorySource::cut(bytes, Vec::new(alloc), 1);
     let mut sink = MemorySink::new(alloc, Vec::new(alloc), 0, 65536)?;
     assert_eq!(rt; run(alloc, &words, &mut source, &mut sink), Outcome::Done);
     assert!(rt; sink.put() == frames(alloc)?.as_slice());

@@ -1,12 +1,10 @@
 //! Sessions with a switch: what is written, and how each of them ends.
 use crate::hexadecimal::{TWO_TABLES, push_hexadecimal};
 use pq_command::*;
-use pq_io::{MemorySink, MemorySource, StreamSource};
+use pq_io::{MemorySink, MemorySource};
 use pq_speaker::{Reason, Talk};
 use std::alloc::{AllocError, Global};
-use std::io::Read;
 use std::test::Fail;
-use std::{cmp, io};
 
 const HELLO: &str = "0400000800000000";
 
@@ -22,19 +20,6 @@ const ERROR: &str = "0401000c0000000000050002";
 
 // A HELLO and the question which switch is there; the messages follow.
 const ASKED: &str = "04000008000000000405000800000000";
-
-// A reader that gives a byte a call.
-#[derive(Drop)]
-struct Dripping<'a> {
-    bytes: &'a [u8],
-}
-
-impl Read for Dripping<'_> {
-    fn read(&mut self, buf: &mut [u8]) -> io::Result<usize> {
-        let count = cmp::min(1, buf.len());
-        self.bytes.read(&mut buf[..count])
-    }
-}
 
 fn words(alloc: Global, texts: &[&str]) -> Result<Vec<String>, AllocError> {
     let mut words = Vec::new(alloc);
@@ -112,7 +97,7 @@ fn a_session_in_single_bytes_installs(rt: HostRuntime) -> Result<(), Fail> {
         &[HELLO, FEATURES, CARRIED_OUT],
     )?;
     let words = words(alloc, &["speak", "1"])?;
-    let mut source = StreamSource::new(Dripping { bytes: &bytes });
+    let mut source = MemorySource::cut(bytes, Vec::new(alloc), 1);
     let mut sink = MemorySink::new(alloc, Vec::new(alloc), 0, 65536)?;
     assert_eq!(rt; run(alloc, &words, &mut source, &mut sink), Outcome::Done);
     assert!(rt; sink.put() == all_sent(alloc)?.as_slice());
