@@ -50,10 +50,10 @@ fn no_command_tells_how_its_input_is_cut(rt: HostRuntime) -> Result<(), Fail> {
         ("compile", b"part one = fwd(2)".as_slice(), false),
         ("summary", DOCUMENT.as_bytes(), true),
         ("session", SESSION.as_bytes(), true),
-        ("replay", &scheduled, true),
-        ("replay", &wrong, false),
-        ("inspect", &install, true),
-        ("inspect", &scheduled, false),
+        ("replay", scheduled.as_slice(), true),
+        ("replay", wrong.as_slice(), false),
+        ("inspect", install.as_slice(), true),
+        ("inspect", scheduled.as_slice(), false),
     ] {
         let whole = answer(alloc, command, input, 65536)?;
         assert!(rt; whole.1.is_empty() != writes, "{command}");
