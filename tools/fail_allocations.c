@@ -5,8 +5,10 @@
  * file and standard output is compared with another, so that no child disturbs the parent. The environment names them:
  * FAIL_INPUT, FAIL_OUTPUT (the right output), FAIL_RESULTS (where the lines go), FAIL_EVERY and FAIL_FIRST (of each EVERY
  * allocations the one at place FIRST is tried). A line has the number of the allocation, the child's wait status, how many
- * bytes it put, and whether they differ from the right ones; the last line has the count of all allocations.
+ * bytes it put, and whether they differ from the right ones; the last line has the count of all allocations, how many bytes
+ * the parent put, and whether they differ.
  */
+#include <errno.h>
 #include <fcntl.h>
 #include <stdio.h>
 #include <stdlib.h>
@@ -84,6 +86,8 @@ static int fails(void) {
     calls++;
     if (calls % every == first)
         try_to_end(calls);
+    if (is_child)
+        errno = ENOMEM;
     return is_child;
 }
 
@@ -131,7 +135,7 @@ __attribute__((constructor)) static void begin(void) {
 }
 
 __attribute__((destructor)) static void end(void) {
-    char text[32];
+    char text[96];
     if (!is_child)
-        line(text, snprintf(text, sizeof text, "%ld\n", calls));
+        line(text, snprintf(text, sizeof text, "%ld %zu %d\n", calls, put.count, put.differs));
 }

@@ -85,8 +85,8 @@ def inputs(program):
     yield "inspect a campus", "inspect", campus, DONE
 
 
-def swept(program, word, folder, every):
-    """The lines of all processes over one input, which lies in the folder."""
+def swept(program, word, folder, every, right):
+    """The lines of all processes over one input, which lies in the folder; each of them has to end as is right."""
     running = []
     for first in range(PROCESSES):
         results = os.path.join(folder, f"results{first}")
@@ -96,7 +96,7 @@ def swept(program, word, folder, every):
         setting["LD_PRELOAD"] = os.path.join(folder, "fail_allocations.so")
         running.append((subprocess.Popen([program, word], env=os.environ | setting, stderr=subprocess.DEVNULL), results))
     for process, results in running:
-        process.wait()
+        assert process.wait() == right, f"{word}: a sweep ended with status {process.returncode}"
         with open(results, encoding="ascii") as it:
             yield from it.read().splitlines()
 
@@ -125,9 +125,10 @@ def row(program, folder, case, every):
         with open(os.path.join(folder, file), "wb") as it:
             it.write(content)
     begin, ends, count = time.time(), {}, 0
-    for line in swept(program, word, folder, every):
-        if " " not in line:
-            count = int(line)
+    for line in swept(program, word, folder, every, right):
+        if line.count(" ") == 2:
+            count, put, differs = map(int, line.split())
+            assert (put, differs) == (len(output), 0), f"{name}: another output without a failing allocation"
             continue
         end = judged(line, right, len(output), right == DONE)
         if end not in ("right", "memory"):
