@@ -61,7 +61,7 @@ pub(crate) fn keys_of<'a>(
 ) -> Result<IndexSet<Key<'a>>, AllocError>
     ensures { IfOk result (λ keys. keys.keys ≡ keys_of (entries_added messages.now)) }
 {
-    let mut keys = IndexSet::new(alloc);
+    let mut keys = IndexSet::with_capacity(alloc, messages.len())?;
     for message in messages {
         add_key(&mut keys, message)?;
     }

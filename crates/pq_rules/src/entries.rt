@@ -32,15 +32,16 @@ pub fn entry_matches<L: Leaf>(
     Ok(found)
 }
 
-/// The matches and the leaves of these trees, each with its VLAN_VID word, tree after tree.
+/// The matches and the leaves of these trees, each with its VLAN_VID word, tree after tree; room is made for this number.
 pub(crate) fn table_entries<L: Leaf>(
     store: &Store<L>,
     roots: &[(u16, NodeId)],
+    room: u64,
 ) -> Result<Vec<(Match, NodeId)>, AllocError>
     requires { All (IsRoot store.now) roots.now }
     ensures { IfOk result (λ found. AreFound store.now (matches_of (trees_with store.now roots.now)) found.items) }
 {
-    let mut found = Vec::new(store.allocator());
+    let mut found = Vec::with_capacity(store.allocator(), room as usize)?;
     for root in roots {
         push_tree(store, root.1, root.0, &mut found)?;
     }

@@ -31,6 +31,9 @@ const ALL_GROUPS: u32 = 0xffff_fffc;
 /// The priority of a table's first entry.
 const HIGHEST: u16 = 65535;
 
+/// The messages of a renewal that aren't Adds: two that delete everything, and three barriers.
+const DELETES_AND_BARRIERS: usize = 5;
+
 /// The messages of these entries and groups, with transaction ids from 1 on: all is deleted, then groups are added, then
 /// entries, with a barrier after each.
 pub(crate) fn renewal(
@@ -50,7 +53,9 @@ pub(crate) fn renewal(
     requires placed { length grouping.now.places.items ≡ length second_entries.now }
     ensures { IfOk result (λ ms. ms.items ≡ messages_by grouping.now.groups.keys grouping.now.places.items (resolved None first.now first_entries.now) (resolved [] second.now second_entries.now)) }
 {
-    let mut messages = Vec::new(first.allocator());
+    let entries = first_entries.len() + second_entries.len();
+    let room = entries + grouping.groups.len() + DELETES_AND_BARRIERS;
+    let mut messages = Vec::with_capacity(first.allocator(), room)?;
     push_deletes(&mut messages)?;
     push_barrier(&mut messages)?;
     push_groups(&mut messages, &grouping.groups)?;

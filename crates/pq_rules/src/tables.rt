@@ -83,7 +83,7 @@ fn limited_entries<L: Leaf>(
             entries,
         });
     }
-    let found = table_entries(store, roots)?;
+    let found = table_entries(store, roots, entries)?;
     Ok(found)
 }
 

@@ -18,7 +18,7 @@ impl<L: Leaf + Clone> Store<L> {
     {
         let alloc = self.allocator();
         let kept = self.kept(roots)?;
-        let mut compact = Store::new(alloc);
+        let mut compact = Store::with_room(alloc, self.count() as usize)?;
         let moved = self.moved(&kept, &mut compact)?;
         let ids = moved_ids(alloc, &moved, roots)?;
         Ok((compact, ids))
@@ -81,7 +81,7 @@ impl<L: Leaf + Clone> Store<L> {
         ensures moves { IfOk result (λ moved. Moves self.now kept.now moved.items compact.new) }
         ensures each { IfOk result (λ moved. length moved.items ≡ length kept.now) }
     {
-        let mut moved = Vec::new(self.allocator());
+        let mut moved = Vec::with_capacity(self.allocator(), kept.len())?;
         while moved.len() < kept.len() {
             let id = self.moved_next(kept, &moved, compact)?;
             moved.push(id)?;

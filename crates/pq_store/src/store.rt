@@ -54,6 +54,14 @@ impl<L: Leaf> Store<L> {
         }
     }
 
+    /// A store without nodes and leaves, with room for this number of them.
+    pub(crate) fn with_room(alloc: Global, count: usize) -> Result<Store<L>, AllocError>
+        ensures { IfOk result (λ store. store ≡ []) }
+    {
+        let cells = IndexSet::with_capacity(alloc, count)?;
+        Ok(Store { cells })
+    }
+
     /// The number of nodes and leaves.
     pub fn count(&self) -> u64
         ensures { result ≡ length self.now }

@@ -6,7 +6,7 @@ use Rattle.pq_rules.proofs.FoundLemmas.{Completes, all_complete, none_completes,
 use Rattle.pq_rules.proofs.entries.table_entries.Goals as goal
 
 pub loop-root-init : goal.loop-root-init
-loop-root-init g c = subst (λ es. Completes c.args.store.now c.args.roots.now c.args.roots.now es) (sym c.new-found.ensures.items) (none_completes c.args.store.now c.args.roots.now)
+loop-root-init g c = subst (λ es. Completes c.args.store.now c.args.roots.now c.args.roots.now es) (sym c.in_ok-found.ensures.items) (none_completes c.args.store.now c.args.roots.now)
 
 pub push_tree-requires-clause-node : goal.push_tree-requires-clause-node
 push_tree-requires-clause-node g c =

@@ -11,8 +11,8 @@ use Rattle.pq_rules.proofs.renewal.renewal.Goals.{In_ok-push_barrier-2, In_ok-pu
 -- three messages and those of the groups
 grouped : (c : In_ok-push_groups) → length c.push_groups.new.messages.items ≡ 3 + length c.args.grouping.now.groups.keys
 grouped c =
-    third (map buckets_of c.args.grouping.now.groups.keys) c.new-messages.result.items c.push_deletes.new.messages.items c.push_barrier.new.messages.items c.push_groups.new.messages.items
-    c.new-messages.ensures.items c.in_ok-push_deletes.ensures c.in_ok-push_barrier.ensures c.in_ok-push_groups.ensures
+    third (map buckets_of c.args.grouping.now.groups.keys) c.in_ok-messages.messages.items c.push_deletes.new.messages.items c.push_barrier.new.messages.items c.push_groups.new.messages.items
+    c.in_ok-messages.ensures.items c.in_ok-push_deletes.ensures c.in_ok-push_barrier.ensures c.in_ok-push_groups.ensures
     ∙ ap (λ k. 3 + k) (length-map c.args.grouping.now.groups.keys buckets_of)
 
 -- and the barrier behind them
@@ -66,10 +66,10 @@ pub returns : goal.returns
 returns c =
     assembled (map buckets_of c.args.grouping.now.groups.keys) (map first_rule (resolved None c.args.first.now c.args.first_entries.now))
     (placed_rules (resolved [] c.args.second.now c.args.second_entries.now) c.args.grouping.now.places.items)
-    c.new-messages.result.items c.push_deletes.new.messages.items c.push_barrier.new.messages.items c.push_groups.new.messages.items c.push_barrier-2.new.messages.items c.push_first.new.messages.items
+    c.in_ok-messages.messages.items c.push_deletes.new.messages.items c.push_barrier.new.messages.items c.push_groups.new.messages.items c.push_barrier-2.new.messages.items c.push_first.new.messages.items
     c.push_second.new.messages.items c.push_barrier-3.new.messages.items
     (record {
-      empty = c.new-messages.ensures.items;
+      empty = c.in_ok-messages.ensures.items;
       deletes = c.in_ok-push_deletes.ensures;
       emptied = c.in_ok-push_barrier.ensures;
       groups = c.in_ok-push_groups.ensures;
