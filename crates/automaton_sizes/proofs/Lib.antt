@@ -1,4 +1,3 @@
 pub mod Atoms
-pub mod Distinct
 pub mod Nowhere
 pub mod Operands

@@ -9,7 +9,7 @@ use Rattle.pq_store.specs.Test.{IsLawful, Precedes, passes}
 use Rattle.pq_store.specs.Tree.{Tree, IsTested, value}
 use Rattle.pq_store.specs.Tree.Tree.{Tip, Fork}
 use Rattle.pq_store.specs.Store.{AreDiagrams, IsJoinable, JoinsAt, Keeps, ShowsBranch}
-use Rattle.pq_store.proofs.Elements.{at_place}
+use Rattle.pq_lists.proofs.Places.{at_place}
 use Rattle.pq_store.proofs.Order.{precedes_trans}
 use Rattle.pq_store.proofs.RoomLemmas.{room_for}
 use Rattle.pq_apply.specs.Choice.{ChoosesAt, FitAsChoice, FitAsChoiceAt}
@@ -28,7 +28,7 @@ leads_on r s (Some t) (inr before) (inl is) = inr (subst (Precedes r) is before)
 leads_on r s (Some t) (inr before) (inr later) = inr (precedes_trans r s t before later)
 
 -- a choice between one and itself is it
-one_of_same : {L : Type 0} (b : Bool) (l : L) → l ≡ (if b then l else l)
+pub one_of_same : {L : Type 0} (b : Bool) (l : L) → l ≡ (if b then l else l)
 one_of_same true l = refl
 one_of_same false l = refl
 

@@ -10,7 +10,7 @@ use Rattle.pq_store.specs.Test.{IsLawful}
 use Rattle.pq_store.specs.Tree.{Tree}
 use Rattle.pq_store.specs.Tree.Tree.{Tip, Fork}
 use Rattle.pq_store.specs.Store.{Keeps, IsJoinable, JoinsAt}
-use Rattle.pq_store.proofs.Elements.{at_place}
+use Rattle.pq_lists.proofs.Places.{at_place}
 use Rattle.pq_apply.specs.Atoms.{type_tree, ip_tree, IsInner, IsInnerAt, MakesAt}
 use Rattle.pq_apply.proofs.Kept.{within_still, tree_before}
 use Rattle.pq_apply.proofs.AtomTrees.{counts_one, forked, equal_inner, equal_joins, from_lower}

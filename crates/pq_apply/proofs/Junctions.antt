@@ -11,7 +11,7 @@ use Rattle.pq_store.specs.declared.test.Test.TheVariants.{Equal}
 use Rattle.pq_store.specs.Tree.{Tree, value, IsTested}
 use Rattle.pq_store.specs.Tree.Tree.{Tip}
 use Rattle.pq_store.specs.Store.{Keeps}
-use Rattle.pq_store.proofs.Elements.{at_place}
+use Rattle.pq_lists.proofs.Places.{at_place}
 use Rattle.pq_store.specs.Room.{Within}
 use Rattle.pq_apply.specs.Choice.{FitAsChoice, FitAsChoiceAt, IsChoice, ChoosesAt}
 use Rattle.pq_apply.specs.Junction.{joined, trees_at, FitTogetherAll, IsJunction, JunctionAt, IsRecoding, RecodesAt}

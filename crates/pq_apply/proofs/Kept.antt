@@ -5,7 +5,7 @@ use Rattle.std.proofs.lemmas.Option.{slice_get_within}
 use Rattle.pq_store.specs.declared.test.Test.{Test}
 use Rattle.pq_store.specs.Tree.{Tree}
 use Rattle.pq_store.specs.Store.{Keeps, IsJoinable}
-use Rattle.pq_store.proofs.Elements.{at_place}
+use Rattle.pq_lists.proofs.Places.{at_place}
 
 module _ {L : Type 0} where
   -- what keeps its trees twice keeps them

@@ -9,7 +9,7 @@ use Rattle.pq_store.specs.Test.{IsLawful, passes}
 use Rattle.pq_store.specs.Tree.{Tree, IsTested, value}
 use Rattle.pq_store.specs.Tree.Tree.{Tip, Fork}
 use Rattle.pq_store.specs.Store.{AreDiagrams, IsJoinable, JoinsAt, Keeps, ShowsBranch}
-use Rattle.pq_store.proofs.Elements.{at_place}
+use Rattle.pq_lists.proofs.Places.{at_place}
 use Rattle.pq_store.proofs.Joins.{leaf_diagram}
 use Rattle.pq_apply.specs.Memo.{Remembers, same_pair}
 use Rattle.pq_store.proofs.RoomLemmas.{room_for}

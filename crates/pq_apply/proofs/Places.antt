@@ -8,7 +8,7 @@ use Rattle.pq_store.specs.Tree.{Tree, past}
 use Rattle.pq_store.specs.Tree.Tree.{Fork}
 use Rattle.pq_store.specs.Diagram.{IsBefore}
 use Rattle.pq_store.specs.Store.{AreDiagrams, IsPastAt, Keeps, ShowsBranch}
-use Rattle.pq_store.proofs.Elements.{at_place}
+use Rattle.pq_lists.proofs.Places.{at_place}
 use Rattle.pq_store.proofs.Sides.{size}
 use Rattle.pq_apply.specs.Split.{HasRootAt, IsAtOrBefore, IsEarlier, IsLawfulRoot, LeadsAt, SplitsAt}
 use Rattle.pq_apply.proofs.Splits.{IsRoot, IsSide, root_lawful, split_no, split_yes}

@@ -50,7 +50,7 @@ hold_within (put top below rest) ts (id ∷ ids) h =
     All-cons (λ k. k < length ts) id ids (slice_get_within ts id first.0 first.1) (hold_within rest ts ids h.1)
 
 -- the tree of a place
-tree_is : (ts : List (Tree Bool)) (id : ℕ) (t : Tree Bool) → slice_get ts id ≡ Some t → get_or ts id (Tip false) ≡ t
+pub tree_is : (ts : List (Tree Bool)) (id : ℕ) (t : Tree Bool) → slice_get ts id ≡ Some t → get_or ts id (Tip false) ≡ t
 tree_is ts id t is = get_or_from_slice_get ts id t (Tip false) is
 
 -- they say whether the operands hold

@@ -1,17 +1,13 @@
 -- Tables of what has been made.
 use Rattle.std.proofs.Common.{◌≡◌, ℕ, Bool, true, false, cond, ◌&&◌, ◌==◌, Some, refl, sym, ◌∙◌, subst, eqb-true}
+use Rattle.std.proofs.lemmas.Bool.{and_parts}
 use Rattle.indexmap.specs.IndexMap.{IndexMap, Updates, get}
 use Rattle.pq_apply.specs.Memo.{Remembers, same_pair, same_triple}
-
--- what passes two tests passes each
-both : (a b : Bool) → (a && b) ≡ true → (a ≡ true) × (b ≡ true)
-both true b h = (refl, h)
-both false b h = absurd cc
 
 -- pairs that compare as equal are one
 pub pair_exact : (p q : ℕ × ℕ) → same_pair p q ≡ true → p ≡ q
 pair_exact p q h =
-    let parts = both (p.0 == q.0) (p.1 == q.1) h in
+    let parts = and_parts (p.0 == q.0) (p.1 == q.1) h in
     let first : p.0 ≡ q.0 = eqb-true p.0 q.0 parts.0 in
     let second : p.1 ≡ q.1 = eqb-true p.1 q.1 parts.1 in
     λ i. (first i, second i)
@@ -19,8 +15,8 @@ pair_exact p q h =
 -- and so are triples
 pub triple_exact : (p q : ℕ × ℕ × ℕ) → same_triple p q ≡ true → p ≡ q
 triple_exact p q h =
-    let parts = both ((p.0 == q.0) && (p.1 == q.1)) (p.2 == q.2) h in
-    let pair = both (p.0 == q.0) (p.1 == q.1) parts.0 in
+    let parts = and_parts ((p.0 == q.0) && (p.1 == q.1)) (p.2 == q.2) h in
+    let pair = and_parts (p.0 == q.0) (p.1 == q.1) parts.0 in
     let first : p.0 ≡ q.0 = eqb-true p.0 q.0 pair.0 in
     let second : p.1 ≡ q.1 = eqb-true p.1 q.1 pair.1 in
     let third : p.2 ≡ q.2 = eqb-true p.2 q.2 parts.1 in

@@ -1,5 +1,5 @@
 -- States of one expression, in a set.
-use Rattle.std.proofs.Common.{◌≡◌, ◌<◌, ℕ, zero, suc, Vec, Global, arith, length-append, Bool, true, false, nat_eq, if◌then◌else◌, List, [], ◌∷◌, ◌++◌, length, map, Some, inl, inr, refl, sym, ap, ap₂, subst, ◌∙◌}
+use Rattle.std.proofs.Common.{◌≡◌, ◌<◌, ℕ, Vec, Global, arith, length-append, Bool, true, false, nat_eq, if◌then◌else◌, List, [], ◌∷◌, ◌++◌, length, map, Some, inl, inr, refl, sym, ap, ap₂, subst, ◌∙◌}
 use Rattle.std.specs.List.{slice_get, list_any, position_or_len}
 use Rattle.std.proofs.lemmas.List.{get_or-map, map-append, length-map}
 use Rattle.std.proofs.Math.ListN.{get_or}
@@ -7,6 +7,7 @@ use Rattle.std.proofs.lemmas.Option.{slice_get-get_or}
 use Rattle.indexmap.specs.IndexSet.{insert_key}
 use Rattle.std.specs.contracts.prelude.BoolPartialEq.TheImpl.{ghosts as bools}
 use Rattle.std.specs.Cmp.Lexicographic.{pointwise, same_text}
+use Rattle.std.proofs.lemmas.Bool.{and_parts}
 use Rattle.pq_expr.specs.declared.expr.Expr.{Expr}
 use Rattle.pq_expr.specs.Expr.{ExprTree, expr_tree}
 use Rattle.pq_deriv.specs.Rests.{IsRest}
@@ -14,8 +15,8 @@ use Rattle.pq_deriv.specs.State.{StateValue}
 use Rattle.pq_auto.specs.Met.{met_eq}
 use Rattle.pq_auto.specs.Rests.{Rest, rest_of, rests, behind, after, AreAlike, AreLike, AreRestsOf, IsRestOf}
 use Rattle.pq_auto.specs.Search.{IsNumber}
-use Rattle.pq_auto.proofs.Keys.{both, none_found}
-use Rattle.pq_auto.proofs.Places.{kept_places, older_or_last}
+use Rattle.pq_auto.proofs.Keys.{none_found}
+use Rattle.pq_lists.proofs.Places.{kept_places, older_or_last, image_place}
 
 -- the test tells states of one expression apart
 abbrev pub IsExact : (StateValue × Bool → StateValue × Bool → Bool) → Type 0
@@ -31,15 +32,9 @@ exact_bool false false same = refl
 -- equal ones of one expression are one
 pub exact_key : IsExact met_eq
 exact_key k m expr same =
-    let p = both (pointwise nat_eq k.0.rest m.0.rest) (bools.eq k.1 m.1) same in
+    let p = and_parts (pointwise nat_eq k.0.rest m.0.rest) (bools.eq k.1 m.1) same in
     let rest : k.0.rest ≡ m.0.rest = same_text k.0.rest m.0.rest (sym p.0) in
     ap₂ (λ s b. rest_of (s, b)) (ap₂ (λ (e : Expr) (r : List ℕ). record { expr = e; rest = r }) (sym expr) rest) (exact_bool k.1 m.1 p.1)
-
--- what stands at a place of changed elements
-pub changed_place : {A B : Type 0} (f : A → B) (xs : List A) (i : ℕ) (x : A) → slice_get xs i ≡ Some x → slice_get (map f xs) i ≡ Some (f x)
-changed_place f [] i x at = absurd cc
-changed_place f (y ∷ xs) zero x at = let same : y ≡ x = cc in ap (λ z. Some (f z)) same
-changed_place f (y ∷ xs) (suc i) x at = changed_place f xs i x at
 
 module _ (eq : StateValue × Bool → StateValue × Bool → Bool) (exact : IsExact eq) (old new : List (StateValue × Bool)) (k : StateValue × Bool) (inserted : new ≡ insert_key eq old k) where
   -- an insertion keeps states of one expression
@@ -72,7 +67,7 @@ module _ (eq : StateValue × Bool → StateValue × Bool → Bool) (exact : IsEx
       by true is =
           let same : new ≡ old = inserted ∙ ap (λ b. if b then old else old ++ k ∷ []) is in
           let at : slice_get old n ≡ Some stored.0 = ap (λ ks. slice_get ks n) (sym same) ∙ stored.1 in
-          inl (ap rests same, changed_place rest_of old n stored.0 at ∙ ap Some (sym (exact k stored.0 (like n stored.0 at) stored.2)))
+          inl (ap rests same, image_place rest_of old n stored.0 at ∙ ap Some (sym (exact k stored.0 (like n stored.0 at) stored.2)))
       by false is =
           let grown : new ≡ old ++ k ∷ [] = inserted ∙ ap (λ b. if b then old else old ++ k ∷ []) is in
           inr (ap rests grown ∙ map-append rest_of old (k ∷ []), index ∙ none_found (eq k) old is ∙ sym (length-map old rest_of))
@@ -120,4 +115,4 @@ read_at keys slice place k h same is = slice_get-get_or keys place k h ∙ ap So
 
 -- the rest of the state at a place
 pub rest_at : (keys : List (StateValue × Bool)) (place : ℕ) (k : StateValue × Bool) (r : Rest) → slice_get keys place ≡ Some k → slice_get (rests keys) place ≡ Some r → rest_of k ≡ r
-rest_at keys place k r at told = same_some r (rest_of k) r (sym (changed_place rest_of keys place k at) ∙ told)
+rest_at keys place k r at told = same_some r (rest_of k) r (sym (image_place rest_of keys place k at) ∙ told)

@@ -2,23 +2,17 @@
 use Rattle.std.proofs.Common.{◌≡◌, ℕ, zero, suc, true, false, ◌≤◌, inl, inr, List, [], ◌∷◌, length, map, Some, Vec, Global, nat_eq, refl, sym, subst, rules}
 use Rattle.std.specs.List.{slice_get, AllByRecursion, IsDistinct, list_any}
 use Rattle.std.specs.Cmp.Lexicographic.{pointwise, nat_list_eq_equiv, same_text}
-use Rattle.std.proofs.lemmas.Bool.{or_left, or_right}
+use Rattle.std.proofs.lemmas.Bool.{or_cases}
 use Rattle.std.proofs.lemmas.Map.Made.{length-le_from_is_member}
-use Rattle.pq_expr.proofs.Cuts.{either}
 use Rattle.pq_deriv.specs.Choices.{IsOneOf}
+use Rattle.pq_deriv.proofs.Rests.{finds}
 use Rattle.pq_auto.specs.Tables.{lists}
 use Rattle.pq_auto.proofs.Keys.{same_list}
-
--- one of the elements is found
-finds : (U : List (List ℕ)) (r : List ℕ) → IsOneOf U r → list_any (pointwise nat_eq r) U ≡ true
-finds [] r one = absurd one
-finds (s ∷ U) r (inl is) = or_left (pointwise nat_eq r s) (list_any (pointwise nat_eq r) U) (subst (λ (z : List ℕ). pointwise nat_eq r z ≡ true) (sym is) (nat_list_eq_equiv.refl r))
-finds (s ∷ U) r (inr one) = or_right (pointwise nat_eq r s) (list_any (pointwise nat_eq r) U) (finds U r one)
 
 -- what is found among lists that are all elements is found among the elements
 found : (U rs : List (List ℕ)) (r : List ℕ) → AllByRecursion (IsOneOf U) rs → list_any (pointwise nat_eq r) rs ≡ true → list_any (pointwise nat_eq r) U ≡ true
 found U [] r all is = absurd (search (is, rules))
-found U (s ∷ rs) r all is = elim (either (pointwise nat_eq r s) (list_any (pointwise nat_eq r) rs) is) [
+found U (s ∷ rs) r all is = elim (or_cases (pointwise nat_eq r s) (list_any (pointwise nat_eq r) rs) is) [
   | inl same ↦ finds U r (subst (IsOneOf U) (sym (same_text r s (sym same))) all.0)
   | inr later ↦ found U rs r all.1 later
 ]

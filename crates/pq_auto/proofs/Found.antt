@@ -10,7 +10,7 @@ use Rattle.pq_auto.specs.Tables.{lists}
 use Rattle.pq_deriv.specs.State.{StateValue}
 use Rattle.pq_auto.specs.Rests.{Rest, rest_of, rests}
 use Rattle.pq_auto.proofs.Keys.{stored_at}
-use Rattle.pq_auto.proofs.Places.{at_place}
+use Rattle.pq_lists.proofs.Places.{at_place}
 use Rattle.pq_auto.proofs.Searching.{begun, expanded}
 
 -- the first key of all

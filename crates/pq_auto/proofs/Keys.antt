@@ -2,23 +2,18 @@
 use Rattle.std.proofs.Common.{◌≡◌, ℕ, zero, suc, Bool, true, false, ◌&&◌, ◌||◌, if◌then◌else◌, not, ◌+◌, arith, nat_eq, cond, List, [], ◌∷◌, ◌++◌, length, Some, inl, inr, Vec, Global, refl, sym, ap, ap₂, ◌∙◌}
 use Rattle.std.specs.List.{slice_get, list_any, position_or_len, IsDistinct, AllByRecursion}
 use Rattle.std.specs.Cmp.Lexicographic.{pointwise}
-use Rattle.std.proofs.lemmas.Bool.{eq-eqb, eqb-true}
+use Rattle.std.proofs.lemmas.Bool.{eq-eqb, eqb-true, and_parts}
 use Rattle.std.proofs.lemmas.List.{map-append, length-map}
 use Rattle.indexmap.specs.IndexSet.{insert_key}
 use Rattle.pq_auto.specs.Search.{IsNumber, IsOnce}
 use Rattle.pq_auto.specs.Tables.{lists}
-
--- what passes two tests passes each
-pub both : (a b : Bool) → (a && b) ≡ true → (a ≡ true) × (b ≡ true)
-both true b h = (refl, h)
-both false b h = absurd cc
 
 -- lists that compare as equal are one
 exact : (xs ys : List ℕ) → pointwise nat_eq xs ys ≡ true → xs ≡ ys
 exact [] [] h = refl
 exact [] (y ∷ ys) h = absurd cc
 exact (x ∷ xs) [] h = absurd cc
-exact (x ∷ xs) (y ∷ ys) h = let p = both (nat_eq x y) (pointwise nat_eq xs ys) h in ap₂ (λ z zs. z ∷ zs) (eqb-true x y p.0) (exact xs ys p.1)
+exact (x ∷ xs) (y ∷ ys) h = let p = and_parts (nat_eq x y) (pointwise nat_eq xs ys) h in ap₂ (λ z zs. z ∷ zs) (eqb-true x y p.0) (exact xs ys p.1)
 
 -- a list compares as equal to itself
 itself : (xs : List ℕ) → pointwise nat_eq xs xs ≡ true

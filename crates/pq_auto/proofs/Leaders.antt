@@ -10,7 +10,7 @@ use Rattle.pq_auto.specs.Parts.{Parts, IsParted, class_of, first_of}
 use Rattle.pq_auto.specs.Refinement.{IsRound, mark, row_of}
 use Rattle.pq_auto.specs.Leading.{AreLed, AreFirsts, GivesFirst, IsNext, key_in, leader_in, row_in}
 use Rattle.pq_auto.proofs.Numbers.{class_within, one_key}
-use Rattle.pq_auto.proofs.Places.{kept_places, last_place, older_or_last}
+use Rattle.pq_lists.proofs.Places.{kept_places, last_place, older_or_last}
 use Rattle.pq_auto.proofs.Rounds.{next_within, rows_same}
 
 module _ (m : Machine) (leaders : List ℕ) where

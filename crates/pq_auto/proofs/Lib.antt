@@ -1,7 +1,6 @@
 pub mod Below
 pub mod Rows
 pub mod Order
-pub mod Places
 pub mod Searching
 pub mod Searched
 pub mod Keys

@@ -8,7 +8,7 @@ use Rattle.pq_auto.specs.Numbering.{IsBefore, IsLeastTo, IsNumbered}
 use Rattle.pq_auto.specs.Search.{run, IsOnce}
 use Rattle.pq_auto.specs.Searched.{IsAtMost, IsEntry, IsRow, IsSearched}
 use Rattle.pq_auto.proofs.Order.{most_trans, most_more}
-use Rattle.pq_auto.proofs.Places.{at_place}
+use Rattle.pq_lists.proofs.Places.{at_place}
 use Rattle.pq_auto.proofs.Searching.{key_of}
 
 -- what is said of each number says that all are below

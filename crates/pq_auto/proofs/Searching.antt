@@ -9,7 +9,7 @@ use Rattle.pq_auto.specs.Numbering.{IsBefore}
 use Rattle.pq_auto.specs.Search.{IsNumber, AreNumbers, targets, run}
 use Rattle.pq_auto.specs.Searched.{AreBefore, HaveWords, IsEntry, IsRow, IsSearched}
 use Rattle.pq_auto.proofs.Order.{before_trans, before_last, before_more}
-use Rattle.pq_auto.proofs.Places.{kept_places, last_place, older_or_last}
+use Rattle.pq_lists.proofs.Places.{kept_places, last_place, older_or_last}
 
 -- all elements keep their places
 abbrev pub Extends : {X : Type 0} → List X → List X → Type 0

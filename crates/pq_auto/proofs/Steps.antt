@@ -5,11 +5,11 @@ use Rattle.std.proofs.lemmas.List.Sums.{sum_by-cons}
 use Rattle.std.proofs.lemmas.List.{length-map}
 use Rattle.std.proofs.lemmas.Nat.{mul-le}
 use Rattle.std.proofs.Math.Nat.{mul-add, mul_comm, suc-mul, zero-mul}
+use Rattle.pq_lists.proofs.Places.{from_place}
 use Rattle.pq_expr.specs.declared.expr.Expr.{Expr}
 use Rattle.pq_expr.specs.Expr.{ExprTree, expr_tree, expr_trees, AreLawful, IsLawful}
 use Rattle.pq_deriv.specs.Most.{most, mosts}
 use Rattle.pq_deriv.specs.State.{StateValue}
-use Rattle.pq_deriv.proofs.Reading.{item_first}
 use Rattle.pq_auto.specs.Machine.{Machine}
 use Rattle.pq_auto.specs.Rests.{Rest, rest_of, rests, AreAlike, AreRestsOf}
 use Rattle.pq_auto.specs.Searched.{IsSearched}
@@ -46,7 +46,7 @@ pub steps_more : (exprs : List Expr) (i : ℕ) (e : Expr) (letters now next most
     → AreLawful (expr_trees (drop i exprs)) × (now + letters * (2 * sum (mosts (expr_trees (drop i exprs)))) ≤ most_of)
     → AreLawful (expr_trees (drop (i + 1) exprs)) × (next + letters * (2 * sum (mosts (expr_trees (drop (i + 1) exprs)))) ≤ most_of)
 steps_more exprs i e letters now next most_of h is counted before =
-    let first = item_first exprs i e h is in
+    let first = from_place exprs i e h is in
     let here = subst (λ es. AreLawful (expr_trees es) × (now + letters * (2 * sum (mosts (expr_trees es))) ≤ most_of)) first before in
     let own : next ≤ now + letters * (2 * most (expr_tree e)) = counted (here.0.0, here.0.1, tt) in
     let rest = mosts (expr_trees (drop (i + 1) exprs)) in

@@ -42,10 +42,10 @@ follows u v e parity (is, fits) (more, more_fits) = (
 )
 
 module _ (Ls : Languages) where
-  same_back : (u v : Word) → AreSame Ls u v → AreSame Ls v u
+  pub same_back : (u v : Word) → AreSame Ls u v → AreSame Ls v u
   same_back u v same = record { parity = sym same.parity; held = λ e a b i. let both = same.held e b a i in (both.1, both.0) }
 
-  same_through : (u v w : Word) → IsPath v → AreSame Ls u v → AreSame Ls v w → AreSame Ls u w
+  pub same_through : (u v w : Word) → IsPath v → AreSame Ls u v → AreSame Ls v w → AreSame Ls u w
   same_through u v w path one two = record {
     parity = one.parity ∙ two.parity;
     held = λ e a b i.

@@ -3,6 +3,7 @@ use Rattle.std.proofs.Common.{◌≡◌, ◌↔◌, ◌<◌, ℕ, suc, zero, Lis
 use Rattle.std.specs.Prelude.{slice_get, Some}
 use Rattle.std.specs.List.{Contains}
 use Rattle.std.proofs.lemmas.Option.{slice_get-get_or, slice_get_within, get_or_from_slice_get}
+use Rattle.pq_topo.proofs.Ascending.{rest_ascends}
 use Rattle.pq_model.specs.Lawful.{Ascends}
 use Rattle.pq_auto.specs.Machine.{Machine, AllBelow, IsMachine, follow}
 
@@ -41,10 +42,6 @@ later : (x : ℕ) (xs : List ℕ) (k i : ℕ) → Ascends (x ∷ xs) → slice_g
 later x [] k i up at = absurd cc
 later x (y ∷ ys) zero i up at = let same : y ≡ i = cc in subst (λ i. x < i) same up.0
 later x (y ∷ ys) (suc k) i up at = let more = later y ys k i up.1 at in omega (arith, up.0, more)
-
-rest_ascends : (x : ℕ) (xs : List ℕ) → Ascends (x ∷ xs) → Ascends xs
-rest_ascends x [] up = tt
-rest_ascends x (y ∷ ys) up = up.1
 
 -- lists that ascend and have the same numbers are one
 pub same_ascending : (xs ys : List ℕ) → Ascends xs → Ascends ys → ((i : ℕ) → Has xs i → Has ys i) → ((i : ℕ) → Has ys i → Has xs i) → xs ≡ ys

@@ -5,6 +5,7 @@ use Rattle.std.specs.List.{AllZip, Contains}
 use Rattle.std.specs.Option.{unwrap_or}
 use Rattle.std.proofs.lemmas.List.Elements.{All-head, All-tail}
 use Rattle.std.proofs.lemmas.Option.{slice_get_within, get_or_from_slice_get}
+use Rattle.pq_lists.proofs.Places.{at_place}
 use Rattle.pq_fields.specs.Packet.{Numbers, Fit}
 use Rattle.pq_fields.specs.Pred.{PredTree, holds as holds_pred}
 use Rattle.pq_model.specs.Buckets.{Instance}
@@ -89,12 +90,6 @@ zip_back R (x ∷ xs) (z ∷ ys) zero y all at = (x, refl, subst (λ o. R x (unw
 zip_back R (x ∷ xs) (z ∷ ys) (suc i) y all at = zip_back R xs ys i y all.1 at
 
 -- The instances that hold a word.
-
--- a place within a list has an element
-pub at_place : {X : Type 0} (xs : List X) (k : ℕ) → k < length xs → (x : X) × (slice_get xs k ≡ Some x)
-at_place [] k within = absurd (omega (arith, within))
-at_place (x ∷ xs) zero within = (x, refl)
-at_place (x ∷ xs) (suc k) within = at_place xs k (omega (arith, within))
 
 pub are_holding : (qs : List QueryTree) (ps : List PredTree) (is : List Instance) (es : List ExprTree) → AreLowered qs ps is es → All (λ i. i.query < length qs) is
     → (w : Word) → is_word w ≡ true → AreHolding (IsHeld qs is) w (holding es (half_steps ps w))

@@ -1,20 +1,21 @@
 -- The states of a least automaton over letters are the classes of words of packets, numbered by least words.
-use Rattle.std.proofs.Common.{◌≡◌, ◌⊎◌, ◌<◌, ◌≤◌, ℕ, suc, zero, Bool, true, false, inl, inr, List, [], ◌∷◌, ◌++◌, length, get_or, refl, sym, ap, subst, ◌∙◌, arith, length-append, true≢false}
+use Rattle.std.proofs.Common.{◌≡◌, ◌<◌, ◌≤◌, ℕ, suc, zero, Bool, true, false, inl, inr, List, [], ◌∷◌, ◌++◌, length, get_or, refl, sym, ap, subst, ◌∙◌, arith, length-append, true≢false}
 use Rattle.std.specs.Prelude.{slice_get, Some, All}
 use Rattle.std.specs.List.{Contains}
 use Rattle.std.proofs.lemmas.Bool.{cases_order}
 use Rattle.std.proofs.lemmas.List.Elements.{All-nil, All-push}
 use Rattle.std.proofs.lemmas.Option.{slice_get-get_or, slice_get_within, get_or_from_slice_get}
+use Rattle.pq_lists.proofs.Places.{older_or_last, last_place}
 use Rattle.pq_model.specs.Word.{Word, word_is_before, word_numbers}
 use Rattle.pq_model.specs.Classes.{AreSame, HasClasses, IsLeast, IsPath, IsTag, Languages, has_even_length}
 use Rattle.pq_auto.specs.Machine.{Machine, AllBelow, IsMachine, IsLeastMachine, follow, reached, is_even_at, accepted_at, has_even_length as has_even_count}
 use Rattle.pq_auto.specs.Numbering.{IsNumbered, IsLeastTo}
 use Rattle.pq_letters.specs.Letters.{LettersValue, IsLettered}
 use Rattle.pq_letters.specs.Words.{least_word, letters_are_before, letters_of}
-use Rattle.pq_letters.proofs.NumberLists.{not_back}
+use Rattle.pq_model.proofs.NumberLists.{not_back, before_trans}
 use Rattle.pq_letters.proofs.Spelled.{lesser_word, not_before_least}
 use Rattle.pq_classes.specs.Told.{AreClasses, AreHolding, class_of}
-use Rattle.pq_classes.proofs.Order.{before_trans, letters_before, one_word}
+use Rattle.pq_classes.proofs.Order.{letters_before, one_word}
 use Rattle.pq_classes.proofs.Spelled.{even_append, even_letters, least_spelled, letters_append, letters_below, letters_spelled, path_more, spelled, spelled_path}
 use Rattle.pq_classes.proofs.Following.{follow_append, follow_within, same_contents}
 
@@ -29,26 +30,16 @@ unfolding each_below
 each_long f zero = refl
 each_long f (suc n) = let more = each_long f n in omega (arith, more, length-append (each_below f n) (f n ∷ []))
 
-push_at : {X : Type 0} (xs : List X) (y : X) (k : ℕ) (x : X) → slice_get (xs ++ y ∷ []) k ≡ Some x → (slice_get xs k ≡ Some x) ⊎ ((k ≡ length xs) × (x ≡ y))
-push_at [] y zero x at = inr (refl, cc)
-push_at [] y (suc k) x at = absurd cc
-push_at (z ∷ xs) y zero x at = inl at
-push_at (z ∷ xs) y (suc k) x at = elim (push_at xs y k x at) [ inl h ↦ inl h | inr h ↦ inr (ap suc h.0, h.1) ]
-
 push_kept : {X : Type 0} (xs : List X) (y : X) (k : ℕ) (x : X) → slice_get xs k ≡ Some x → slice_get (xs ++ y ∷ []) k ≡ Some x
 push_kept [] y k x at = absurd cc
 push_kept (z ∷ xs) y zero x at = at
 push_kept (z ∷ xs) y (suc k) x at = push_kept xs y k x at
 
-push_last : {X : Type 0} (xs : List X) (y : X) → slice_get (xs ++ y ∷ []) (length xs) ≡ Some y
-push_last [] y = refl
-push_last (z ∷ xs) y = push_last xs y
-
 -- what stands at a place
 each_at : {X : Type 0} (f : ℕ → X) (n k : ℕ) (x : X) → slice_get (each_below f n) k ≡ Some x → (k < n) × (x ≡ f k)
 unfolding each_below
 each_at f zero k x at = absurd cc
-each_at f (suc n) k x at = elim (push_at (each_below f n) (f n) k x at) [
+each_at f (suc n) k x at = elim (older_or_last (each_below f n) (f n) k x at) [
   | inl h ↦ let told = each_at f n k x h in (omega (arith, told.0), told.1)
   | inr h ↦ let place : k ≡ n = h.0 ∙ each_long f n in (omega (arith, place), h.1 ∙ ap f (sym place))
 ]
@@ -58,7 +49,7 @@ unfolding each_below
 at_each f zero k below = absurd (omega (arith, below))
 at_each f (suc n) k below = elim (cases_order k n) [
   | inl same ↦ subst (λ k. slice_get (each_below f n ++ f n ∷ []) k ≡ Some (f k)) (sym same)
-      (subst (λ i. slice_get (each_below f n ++ f n ∷ []) i ≡ Some (f n)) (each_long f n) (push_last (each_below f n) (f n)))
+      (subst (λ i. slice_get (each_below f n ++ f n ∷ []) i ≡ Some (f n)) (each_long f n) (last_place (each_below f n) (f n)))
   | inr other ↦ elim other [
     | inl less ↦ push_kept (each_below f n) (f n) k (f k) (at_each f n k less)
     | inr more ↦ absurd (omega (arith, below, more))

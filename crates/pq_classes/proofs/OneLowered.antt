@@ -1,11 +1,13 @@
 -- Lowering the instances one after another.
 use Rattle.std.proofs.Common.{◌≡◌, ◌↔◌, ◌<◌, ◌≤◌, ◌+◌, ◌*◌, ◌^◌, ℕ, true, List, [], ◌∷◌, ◌++◌, length, map, get_or, take, sym, ap, subst, ◌∙◌, arith, length-append}
 use Rattle.std.specs.Prelude.{All, IfOk, OnOk, Some, slice_get, Result, Ok, Err}
-use Rattle.std.specs.List.{AllZip, Contains}
+use Rattle.std.specs.List.{Contains}
 use Rattle.std.specs.Option.{unwrap_or, option_map}
 use Rattle.std.proofs.lemmas.List.{length-map, map-append, take_more}
 use Rattle.std.proofs.lemmas.List.Elements.{All-append, All-get_or, All-weaker, All-contains_itself}
 use Rattle.std.proofs.lemmas.Option.{slice_get-get_or, slice_get-map, get_or_from_slice_get}
+use Rattle.std.proofs.lemmas.Slice.Zip.{all_zipped_more}
+use Rattle.pq_lists.proofs.Places.{at_place}
 use Rattle.pq_fields.specs.declared.pred.Pred.{Pred}
 use Rattle.pq_fields.specs.Pred.{PredTree, pred_tree}
 use Rattle.pq_model.specs.Buckets.{Instance}
@@ -22,7 +24,6 @@ use Rattle.pq_lower.specs.Added.{added_preds}
 use Rattle.pq_lower.specs.HalfSteps.{half_steps}
 use Rattle.pq_lower.proofs.Longer.{longer_tells}
 use Rattle.pq_classes.specs.Lowered.{AreLowered, IsAdded, IsLowered}
-use Rattle.pq_classes.proofs.Held.{at_place}
 
 -- the query that stands at a place
 pub asked : (queries : List (List ℕ × Query)) (i : ℕ) (d : List ℕ × Query) → i < length queries → slice_get (named_trees queries) i ≡ Some (query_tree (get_or queries i d).1)
@@ -70,19 +71,12 @@ all_more qs ps more [] (e ∷ es) all = absurd all
 all_more qs ps more (i ∷ is) [] all = absurd all
 all_more qs ps more (i ∷ is) (e ∷ es) all = (lowered_more qs ps more i e all.0, all_more qs ps more is es all.1)
 
--- lists that grow at their ends
-pub zip_push : {A B : Type 0} (R : A → B → Type 0) (xs : List A) (ys : List B) (x : A) (y : B) → AllZip R xs ys → R x y → AllZip R (xs ++ x ∷ []) (ys ++ y ∷ [])
-zip_push R [] [] x y all one = (one, tt)
-zip_push R [] (z ∷ ys) x y all one = absurd all
-zip_push R (w ∷ xs) [] x y all one = absurd all
-zip_push R (w ∷ xs) (z ∷ ys) x y all one = (all.0, zip_push R xs ys x y all.1 one)
-
 -- one more instance
 pub one_more : (qs : List QueryTree) (is : List Instance) (k : ℕ) (i : Instance) (old new added : List PredTree) (es : List Expr) (more : List Expr) (e : Expr) → k < length is → i ≡ get_or is k i → new ≡ old ++ added → more ≡ es ++ e ∷ []
     → AreLowered qs old (take k is) (map expr_tree es) → IsLowered qs new i (expr_tree e) → AreLowered qs new (take (k + 1) is) (map expr_tree more)
 one_more qs is k i old new added es more e within at grown pushed all one =
     let so_far : AreLowered qs new (take k is) (map expr_tree es) = subst (λ ps. AreLowered qs ps (take k is) (map expr_tree es)) (sym grown) (all_more qs old added (take k is) (map expr_tree es) all) in
-    let whole = zip_push (IsLowered qs new) (take k is) (map expr_tree es) i (expr_tree e) so_far one in
+    let whole = all_zipped_more (IsLowered qs new) (take k is) (map expr_tree es) i (expr_tree e) so_far one in
     let front : take (k + 1) is ≡ take k is ++ i ∷ [] = take_more is k i within ∙ ap (λ j. take k is ++ j ∷ []) (sym at) in
     let back : map expr_tree more ≡ map expr_tree es ++ expr_tree e ∷ [] = ap (map expr_tree) pushed ∙ map-append expr_tree es (e ∷ []) in
     subst (λ js. AreLowered qs new js (map expr_tree more)) (sym front) (subst (λ ds. AreLowered qs new (take k is ++ i ∷ []) ds) (sym back) whole)

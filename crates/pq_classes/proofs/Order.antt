@@ -1,27 +1,12 @@
 -- The orders of words, and lists of numbers that ascend.
 use Rattle.std.proofs.Common.{◌≡◌, ℕ, Bool, true, false, inl, inr, List, [], ◌∷◌, ◌++◌, length, get_or, drop, flat_map, refl, sym, ap, ap₂, subst, ◌∙◌, arith, true≢false}
-use Rattle.std.specs.declared.cmp.Ordering.TheVariants.{Less, Equal, Greater}
-use Rattle.std.specs.Ordering.{nat_cmp, is_lt}
-use Rattle.std.specs.Cmp.Lexicographic.{slice_cmp, nat_list_cmp_total}
-use Rattle.std.proofs.lemmas.Bool.{cases_order}
+use Rattle.std.specs.Ordering.{is_lt}
 use Rattle.pq_fields.specs.Packet.{Numbers, is_before, numbers}
 use Rattle.pq_model.specs.Word.{Word, In, Out, observed_packet, alternates, is_word, word_is_before, word_numbers}
 use Rattle.pq_model.proofs.Sorted.{before-cmp}
 use Rattle.pq_auto.specs.Numbering.{IsBefore}
 use Rattle.pq_letters.specs.Words.{letters_are_before}
-use Rattle.pq_letters.proofs.NumberLists.{by_first, same_first}
-
--- an order that is below is Less
-less_from : (o : _) → is_lt o ≡ true → o ≡ Less
-less_from Less is = refl
-less_from Equal is = absurd (true≢false (sym is))
-less_from Greater is = absurd (true≢false (sym is))
-
-pub before_trans : (xs ys zs : List ℕ) → is_before xs ys ≡ true → is_before ys zs ≡ true → is_before xs zs ≡ true
-before_trans xs ys zs h k =
-    let first = less_from (slice_cmp nat_cmp xs ys) (before-cmp xs ys ∙ h) in
-    let second = less_from (slice_cmp nat_cmp ys zs) (before-cmp ys zs ∙ k) in
-    sym (before-cmp xs zs) ∙ ap is_lt (nat_list_cmp_total.trans xs ys zs first second)
+use Rattle.pq_model.proofs.NumberLists.{by_first, same_first, same_list}
 
 -- a word of letters that is before another is the lesser one
 pub letters_before : (u v : List ℕ) → IsBefore u v → letters_are_before u v ≡ true
@@ -69,18 +54,6 @@ same_spelling true (Out x ∷ u) v h k long e = absurd (true≢false (sym h))
 same_spelling false (In x ∷ u) v h k long e = absurd (true≢false (sym h))
 same_spelling true (In x ∷ u) (Out y ∷ v) h k long e = absurd (true≢false (sym k))
 same_spelling false (Out x ∷ u) (In y ∷ v) h k long e = absurd (true≢false (sym k))
-
--- lists of numbers of which neither is before the other are one
-same_list : (xs ys : List ℕ) → is_before xs ys ≡ false → is_before ys xs ≡ false → xs ≡ ys
-same_list [] [] h k = refl
-same_list [] (y ∷ ys) h k = absurd (true≢false h)
-same_list (x ∷ xs) [] h k = absurd (true≢false k)
-same_list (x ∷ xs) (y ∷ ys) h k = elim (cases_order x y) [
-  | inl same ↦ ap₂ (λ z zs. z ∷ zs) same (same_list xs ys
-      (sym (same_first y xs ys) ∙ subst (λ z. is_before (z ∷ xs) (y ∷ ys) ≡ false) same h)
-      (sym (same_first y ys xs) ∙ subst (λ z. is_before (y ∷ ys) (z ∷ xs) ≡ false) same k))
-  | inr other ↦ elim other [ inl less ↦ absurd (true≢false (sym (by_first x y xs ys less) ∙ h)) | inr more ↦ absurd (true≢false (sym (by_first y x ys xs more) ∙ k)) ]
-]
 
 -- words of which neither is before the other are one
 pub one_word : (u v : Word) → is_word u ≡ true → is_word v ≡ true → word_is_before u v ≡ false → word_is_before v u ≡ false → u ≡ v

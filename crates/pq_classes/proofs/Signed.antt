@@ -1,11 +1,12 @@
 -- The letters of predicates, and the automaton over them.
 use Rattle.std.proofs.Common.{◌≡◌, ◌<◌, ◌+◌, ℕ, Bool, false, List, [], ◌∷◌, ◌++◌, length, map, get_or, take, refl, sym, ap, ap₂, subst, ◌∙◌, arith}
-use Rattle.std.specs.Prelude.{All, Some, slice_get}
+use Rattle.std.specs.Prelude.{All}
 use Rattle.std.specs.List.{AllZip}
 use Rattle.std.proofs.Math.ListN.{get_or-map}
 use Rattle.std.proofs.lemmas.List.{length-map, take_more}
 use Rattle.std.proofs.lemmas.List.Elements.{All-nil, All-cons, All-head, All-tail}
-use Rattle.std.proofs.lemmas.Option.{get_or_from_slice_get, slice_get_within}
+use Rattle.std.proofs.lemmas.Option.{slice_get_within}
+use Rattle.std.proofs.lemmas.Slice.Zip.{all_zipped_more}
 use Rattle.pq_fields.specs.declared.field.Field.{Field}
 use Rattle.pq_fields.specs.declared.pred.Pred.{Pred}
 use Rattle.pq_fields.specs.Packet.{Fit, Numbers, zero_packet}
@@ -19,9 +20,9 @@ use Rattle.pq_store.specs.Store.{Keeps}
 use Rattle.pq_store.specs.Tree.{Tree, Tip, value}
 use Rattle.pq_apply.specs.Junction.{trees_at}
 use Rattle.pq_apply.specs.Predicates.{FitsAsNode, HoldsAt, IsPredWithin}
+use Rattle.pq_apply.proofs.PredTrees.{tree_is}
 use Rattle.pq_letters.specs.Letters.{IsLettered, IsPartition, LettersValue, truths}
 use Rattle.pq_classes.specs.Told.{IsAutomatonOf, TellPreds}
-use Rattle.pq_classes.proofs.OneLowered.{zip_push}
 
 -- a predicate of a list
 pub at_pred : (P : PredTree → Type 0) (ps : List Pred) (k : ℕ) (p : Pred) → k < length ps → p ≡ get_or ps k p → All P (map pred_tree ps) → P (pred_tree p)
@@ -50,23 +51,19 @@ one_node old new ps k p ids more id within at keeps pushed one all =
     let front : take (k + 1) (map pred_tree ps) ≡ take k (map pred_tree ps) ++ pred_tree p ∷ [] =
     take_more (map pred_tree ps) k (pred_tree p) (omega (arith, long, within)) ∙ ap (λ q. take k (map pred_tree ps) ++ q ∷ []) (get_or-map pred_tree ps k p ∙ ap pred_tree (sym at)) in
     subst (λ qs. AreNodes new qs more) (sym front) (subst (AreNodes new (take k (map pred_tree ps) ++ pred_tree p ∷ [])) (sym pushed)
-    (zip_push (λ p id. HoldsAt p new id) (take k (map pred_tree ps)) ids (pred_tree p) id (nodes_kept old new keeps (take k (map pred_tree ps)) ids all) one))
+    (all_zipped_more (λ p id. HoldsAt p new id) (take k (map pred_tree ps)) ids (pred_tree p) id (nodes_kept old new keeps (take k (map pred_tree ps)) ids all) one))
 
 pub nodes_within : (ts : List (Tree Bool)) (ps : List PredTree) (ids : List ℕ) → AreNodes ts ps ids → All (λ id. id < length ts) ids
 nodes_within ts ps [] all = All-nil (λ id. id < length ts)
 nodes_within ts [] (id ∷ ids) all = absurd all
 nodes_within ts (p ∷ ps) (id ∷ ids) all = All-cons (λ id. id < length ts) id ids (slice_get_within ts id all.0.0 all.0.1) (nodes_within ts ps ids all.1)
 
--- the tree at an id
-tree_at : (ts : List (Tree Bool)) (id : ℕ) (t : Tree Bool) → slice_get ts id ≡ Some t → get_or ts id (Tip false) ≡ t
-tree_at ts id t at = get_or_from_slice_get ts id t (Tip false) at
-
 pub trees_within : (ns : Field → List ℕ) (ts : List (Tree Bool)) (ps : List PredTree) (ids : List ℕ) → AreNodes ts ps ids → All (IsPredWithin ns) ps → All (Within ns) (trees_at ts ids)
 trees_within ns ts ps [] all within = All-nil (Within ns)
 trees_within ns ts [] (id ∷ ids) all within = absurd all
 trees_within ns ts (p ∷ ps) (id ∷ ids) all within =
     All-cons (Within ns) (get_or ts id (Tip false)) (trees_at ts ids)
-    (subst (Within ns) (sym (tree_at ts id all.0.0 all.0.1)) (all.0.2.tests ns (All-head (IsPredWithin ns) p ps within)))
+    (subst (Within ns) (sym (tree_is ts id all.0.0 all.0.1)) (all.0.2.tests ns (All-head (IsPredWithin ns) p ps within)))
     (trees_within ns ts ps ids all.1 (All-tail (IsPredWithin ns) p ps within))
 
 pub nodes_room : (ts : List (Tree Bool)) (ps : List PredTree) (ids : List ℕ) → AreNodes ts ps ids → HasRoom (λ ns. All (IsPredWithin ns) ps) → HasRoom (λ ns. All (Within ns) (trees_at ts ids))
@@ -78,7 +75,7 @@ nodes_tell ts [] [] all x fit = refl
 nodes_tell ts [] (id ∷ ids) all x fit = absurd all
 nodes_tell ts (p ∷ ps) [] all x fit = absurd all
 nodes_tell ts (p ∷ ps) (id ∷ ids) all x fit =
-    ap₂ (λ b bs. b ∷ bs) (ap (λ t. value t x) (tree_at ts id all.0.0 all.0.1) ∙ all.0.2.gives x fit) (nodes_tell ts ps ids all.1 x fit)
+    ap₂ (λ b bs. b ∷ bs) (ap (λ t. value t x) (tree_is ts id all.0.0 all.0.1) ∙ all.0.2.gives x fit) (nodes_tell ts ps ids all.1 x fit)
 
 pub partition_tells : (ts : List (Tree Bool)) (ps : List PredTree) (ids : List ℕ) (a : LettersValue) → AreNodes ts ps ids → IsPartition (trees_at ts ids) a → TellPreds ps a
 partition_tells ts ps ids a all is x letter fit at = is.tells x letter fit at ∙ nodes_tell ts ps ids all x fit

@@ -1,10 +1,11 @@
 -- Instances, letters and classes together.
-use Rattle.std.proofs.Common.{◌≡◌, ◌<◌, ◌≤◌, ◌+◌, ◌^◌, ℕ, suc, List, [], ◌∷◌, length, length-append, map, refl, sym, ap, subst, ◌∙◌, arith}
+use Rattle.std.proofs.Common.{◌≡◌, ◌<◌, ◌≤◌, ◌+◌, ◌^◌, ℕ, List, [], ◌∷◌, length, length-append, map, refl, sym, ap, subst, ◌∙◌, arith}
 use Rattle.std.specs.Prelude.{All, Some, slice_get}
-use Rattle.std.specs.List.{AllByRecursion, AllZip}
+use Rattle.std.specs.List.{AllByRecursion}
 use Rattle.std.proofs.lemmas.List.Elements.{All-contains, All-weaker, recursion_from_All}
 use Rattle.std.proofs.lemmas.List.{length-map}
 use Rattle.std.proofs.lemmas.List.Sums.{sum_by-cons}
+use Rattle.std.proofs.lemmas.Slice.Zip.{AllZip-long}
 use Rattle.pq_fields.specs.declared.field.Field.{Field}
 use Rattle.pq_fields.specs.declared.field.Field.TheVariants.{Port}
 use Rattle.pq_fields.specs.Pred.{FitsField, IsLawfulPred, PredTree, Preds, none, preds, put}
@@ -134,16 +135,10 @@ preds_room T qs is ps listed room added =
 
 -- How many there are.
 
-zip_long : {A B : Type 0} (R : A → B → Type 0) (xs : List A) (ys : List B) → AllZip R xs ys → length ys ≡ length xs
-zip_long R [] [] all = refl
-zip_long R [] (y ∷ ys) all = absurd all
-zip_long R (x ∷ xs) [] all = absurd all
-zip_long R (x ∷ xs) (y ∷ ys) all = ap suc (zip_long R xs ys all.1)
-
 -- as many expressions as instances
 pub few_exprs : (qs : List QueryTree) (ps : List PredTree) (is : List Instance) (es : List Expr) → AreLowered qs ps is (map expr_tree es) → length is ≤ 1024 → length es < 2 ^ 32
 few_exprs qs ps is es lowered few =
-    let long = zip_long (IsLowered qs ps) is (map expr_tree es) lowered in
+    let long = AllZip-long (IsLowered qs ps) is (map expr_tree es) lowered in
     let own = length-map es expr_tree in
     omega (arith, long, own, few)
 

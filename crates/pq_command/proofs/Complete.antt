@@ -17,7 +17,7 @@ use Rattle.pq_command.proofs.SessionCompletes.{document_completes, memory, sat_t
 use Rattle.pq_command.proofs.SpeakCompletes.{spoken}
 
 -- known bytes that were read to their end are what was read
-whole_text : (bytes text : List ℕ) (now : Option (List ℕ)) → Consumes (Some bytes) now text → IsAtEnd now → bytes ≡ text
+pub whole_text : (bytes text : List ℕ) (now : Option (List ℕ)) → Consumes (Some bytes) now text → IsAtEnd now → bytes ≡ text
 whole_text bytes text None taken end = absurd taken
 whole_text bytes text (Some rest) taken end = taken ∙ ap (λ r. text ++ r) end ∙ append-nil text
 

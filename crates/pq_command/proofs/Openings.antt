@@ -2,7 +2,6 @@
 use Rattle.std.proofs.Common.{◌≡◌, ℕ, ◌+◌, Bool, true, false, ◌||◌, List, [], ◌∷◌, ◌++◌, length, take, drop, drop-drop, take-append-drop, refl, sym, ap, ◌∙◌, subst, append_assoc, append-nil, Option, Some, inl, inr, if◌then◌else◌}
 use Rattle.std.specs.Prelude.{◌==◌}
 use Rattle.std.specs.List.{list_any}
-use Rattle.std.proofs.Math.Seq.{drop-append_seam, take-append_seam}
 use Rattle.std.proofs.lemmas.Option.{same_Some}
 use Rattle.pq_model.specs.declared.message.Message.{Message}
 use Rattle.pq_model.specs.Install.{Install, messages_in, messages_of}
@@ -10,6 +9,7 @@ use Rattle.pq_model.specs.Topology.{Switch}
 use Rattle.pq_install.specs.Reading.{IsInstallAtFront}
 use Rattle.pq_install.proofs.Exclusion.{one_install}
 use Rattle.pq_install.proofs.Renamed.{all_as_read, install_as_read, spelled_at_front, spelled_old_at_front}
+use Rattle.pq_install.proofs.Front.{same_fronts}
 use Rattle.pq_speaker.specs.Rules.{Session}
 use Rattle.pq_speaker.specs.Speaking.{EndsWithOwnBarrier}
 use Rattle.pq_command.specs.declared.outcome.Outcome.{Outcome}
@@ -66,20 +66,13 @@ one-switch i j bytes d first second =
 
 -- One session.
 
--- two lists of one length, with what follows them
-parted : (xs ys more rest : List ℕ) → length xs ≡ length ys → xs ++ more ≡ ys ++ rest → (xs ≡ ys) × (more ≡ rest)
-parted xs ys more rest same is = (
-  sym (take-append_seam xs more) ∙ ap (take (length xs)) is ∙ ap (λ (n : ℕ). take n (ys ++ rest)) same ∙ take-append_seam ys rest,
-  sym (drop-append_seam xs more) ∙ ap (drop (length xs)) is ∙ ap (λ (n : ℕ). drop n (ys ++ rest)) same ∙ drop-append_seam ys rest,
-)
-
 -- a text opens one session at the most
 pub one-session : (datapath : ℕ) (text : List ℕ) (session other : Session) (came more : List ℕ)
     → IsOpened datapath text session came → IsOpened datapath text other more → (session ≡ other) × (came ≡ more)
 one-session datapath text session other came more first second =
     let same : (record { size = length first.bytes; rest = first.bytes ++ came }) ≡ (record { size = length second.bytes; rest = second.bytes ++ more }) =
     same_Some _ _ (sym first.line ∙ second.line) in
-    let parts = parted first.bytes second.bytes came more (ap (λ (s : Stated). s.size) same) (ap (λ (s : Stated). s.rest) same) in
+    let parts = same_fronts first.bytes second.bytes came more (ap (λ (s : Stated). s.size) same) (ap (λ (s : Stated). s.rest) same) in
     let spelled : IsSpelling second.install first.bytes = subst (IsSpelling second.install) (sym parts.0) second.spelled in (
       first.messages ∙ ap (session_of datapath) (one-list first.install second.install first.bytes datapath first.spelled spelled) ∙ sym second.messages,
       parts.1,

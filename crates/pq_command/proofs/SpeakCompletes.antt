@@ -21,16 +21,12 @@ use Rattle.pq_command.specs.Speaks.{Bars, BeginsInstall, IsDamagedIn, IsLast, Is
 use Rattle.pq_command.proofs.Headings.{followed, none-append, stated-append}
 use Rattle.pq_command.proofs.Openings.{one-list, one-session, one-switch, opened-append}
 use Rattle.pq_command.proofs.Turns.{state-append}
+use Rattle.pq_command.proofs.Complete.{whole_text}
 
 -- known bytes begin with what was read
 rest-of : (bytes text : List ℕ) (now : Option (List ℕ)) → Consumes (Some bytes) now text → (rest : List ℕ) × (now ≡ Some rest) × (bytes ≡ text ++ rest)
 rest-of bytes text None taken = absurd taken
 rest-of bytes text (Some rest) taken = (rest, refl, taken)
-
--- and are it at the end
-whole-text : (bytes text : List ℕ) (now : Option (List ℕ)) → Consumes (Some bytes) now text → IsAtEnd now → bytes ≡ text
-whole-text bytes text None taken end = absurd taken
-whole-text bytes text (Some rest) taken end = taken ∙ ap (λ (r : List ℕ). text ++ r) end ∙ append-nil text
 
 -- A session that has failed.
 
@@ -61,7 +57,7 @@ not-stopped d bytes t s session came known opened installed (text, read, (short,
   where
     by : Consumes (Some bytes) s.rest text → IsLast s.rest other part → ⊥
     by taken (inl (end, going-on)) =
-        let same = shared d bytes text [] session other came part (whole-text bytes text s.rest taken end ∙ sym (append-nil text)) opened begun in
+        let same = shared d bytes text [] session other came part (whole_text bytes text s.rest taken end ∙ sym (append-nil text)) opened begun in
         going (is ∙ ap (λ (k : Session). talk_after k part) same.0 ∙ ap (talk_after session) (sym (append-nil part) ∙ same.1) ∙ installed)
     by taken (inr (failed, piece)) =
         let rest = rest-of bytes text s.rest taken in
@@ -85,7 +81,7 @@ not-none bytes text now s taken enough is none = by enough.enough
         let clash : None ≡ Some s = sym nothing ∙ is in
         cc
     by (inr end) =
-        let clash : None ≡ Some s = sym none ∙ ap stated (sym (whole-text bytes text now taken end)) ∙ is in
+        let clash : None ≡ Some s = sym none ∙ ap stated (sym (whole_text bytes text now taken end)) ∙ is in
         cc
 
 -- the bytes that were judged are those of the install
@@ -112,7 +108,7 @@ same-bytes bytes text now t install came taken enough is stated-now = by enough.
               ∙ ap (take t.size) both.1 ∙ ap (λ (n : ℕ). take n (install ++ came)) both.0 ∙ front,
         )
     by (inr end) =
-        let both = here [] (whole-text bytes text now taken end ∙ sym (append-nil text)) in (
+        let both = here [] (whole_text bytes text now taken end ∙ sym (append-nil text)) in (
           both.0,
           ap (take t.size) (sym (append-nil t.rest) ∙ both.1) ∙ ap (λ (n : ℕ). take n (install ++ came)) both.0 ∙ front,
         )

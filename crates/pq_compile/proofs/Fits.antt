@@ -3,7 +3,7 @@ use Rattle.std.specs.Prelude.{◌≡◌, ℕ, ◌+◌, ◌-◌, ◌*◌, ◌^◌
 use Rattle.std.specs.List.{AllByRecursion, Any}
 use Rattle.std.specs.Str.{byte}
 use Rattle.std.proofs.Common.{arith, suc, refl, sym, ap, subst}
-use Rattle.std.proofs.Math.Nat.{pow-zero, pow-succ', mul-le-mul_right, div-mul-le_self}
+use Rattle.std.proofs.Math.Nat.{pow-zero, div-mul-le_self}
 use Rattle.std.proofs.lemmas.Bool.{and_parts, ltb-true, eqb-true}
 use Rattle.std.proofs.lemmas.Bool.Decides.{nat_tests}
 use Rattle.std.proofs.lemmas.List.Elements.{recursion_from_All}
@@ -11,7 +11,7 @@ use Rattle.pq_term.specs.Numbers.{value_of as digits_of, number_of, decimal_of, 
 use Rattle.pq_term.specs.Groups.{parts}
 use Rattle.pq_term.specs.Forms.{is_mac, is_ipv4, is_ipv6_address}
 use Rattle.pq_term.specs.Addresses.{groups_value, spell_digits, mac_of, ipv4_of, ipv6_of}
-use Rattle.pq_term.proofs.GroupValues.{mac_groups, ipv4_groups, ipv6_groups}
+use Rattle.pq_term.proofs.GroupValues.{mac_groups, ipv4_groups, ipv6_groups, below_next}
 use Rattle.pq_fields.specs.declared.field.Field.{Field}
 use Rattle.pq_fields.specs.declared.field.Field.TheVariants.{Switch as SwitchField, Port, EthType, IpProto, EthSrc, EthDst, Ipv4Src, Ipv4Dst, TcpSrc, TcpDst, UdpSrc, UdpDst, Ipv6Src, Ipv6Dst}
 use Rattle.pq_fields.specs.Packet.{width_of, is_wide}
@@ -25,13 +25,6 @@ use Rattle.pq_pred.specs.Named.{MayStand}
 use Rattle.pq_pred.specs.Values.{Ruled, or_else, within, name_in, switch_value, value_of, cleared, address_test, address_part, length_part, ipv4_test, ipv6_test, exact_test, test_of}
 
 -- Addresses.
-
--- one more digit multiplies the bound
-below_next : (weight k value digit : ℕ) → value < weight ^ k → digit < weight → value * weight + digit < weight ^ suc k
-below_next weight k value digit below small =
-    let scaled : (value + 1) * weight ≤ weight ^ k * weight = mul-le-mul_right weight (omega (arith, below)) in
-    let power : weight ^ suc k ≡ weight * weight ^ k = pow-succ' weight k in
-    omega (arith, scaled, small, power)
 
 -- groups that spell digits, after so many others
 value_below : (weight base k value : ℕ) (groups : List (List ℕ)) → spell_digits weight base groups ≡ true → value < weight ^ k → fold (λ so_far group. so_far * weight + digits_of base group) value groups < weight ^ (k + length groups)

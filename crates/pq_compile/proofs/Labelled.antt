@@ -8,12 +8,11 @@ use Rattle.std.proofs.lemmas.List.Elements.{All-nil, All-cons, All-append, All-f
 use Rattle.std.proofs.lemmas.Map.Steps.{length-le_from_distinct_below}
 use Rattle.std.proofs.lemmas.Option.{slice_get-get_or}
 use Rattle.pq_fields.specs.declared.field.Field.{Field}
-use Rattle.pq_fields.specs.declared.field.Field.TheVariants.{Switch, Port, EthType, IpProto, EthSrc, EthDst, Ipv4Src, Ipv4Dst, TcpSrc, TcpDst, UdpSrc, UdpDst, Ipv6Src, Ipv6Dst}
 use Rattle.pq_fields.specs.Packet.{is_wide, rank, width_of}
 use Rattle.pq_fields.specs.Pred.{FitsField}
 use Rattle.pq_model.specs.Install.{IsLawfulPair}
 use Rattle.pq_model.specs.Topology.{Topology}
-use Rattle.pq_store.proofs.PrefixNumbers.{narrow_width}
+use Rattle.pq_store.proofs.PrefixNumbers.{narrow_width, rank_below}
 use Rattle.pq_topo.specs.Named.{IsNamedTopology}
 use Rattle.pq_query.specs.Atoms.{atoms, query_atoms, top_atoms}
 use Rattle.pq_query.specs.Groups.{Group}
@@ -49,22 +48,6 @@ labels_long T q =
     subst (λ n. All (IsLong n) (labels T q)) (length-map gs (λ (g : Group). ascending (group_values T g))) (each_long (map (λ g. ascending (group_values T g)) gs))
 
 -- Brackets have at most fourteen groups.
-
-rank_below : (f : Field) → rank f < 14
-rank_below Switch = omega arith
-rank_below Port = omega arith
-rank_below EthType = omega arith
-rank_below IpProto = omega arith
-rank_below EthSrc = omega arith
-rank_below EthDst = omega arith
-rank_below Ipv4Src = omega arith
-rank_below Ipv4Dst = omega arith
-rank_below TcpSrc = omega arith
-rank_below TcpDst = omega arith
-rank_below UdpSrc = omega arith
-rank_below UdpDst = omega arith
-rank_below Ipv6Src = omega arith
-rank_below Ipv6Dst = omega arith
 
 -- the places of the fields of groups
 abbrev places : List Group → List ℕ

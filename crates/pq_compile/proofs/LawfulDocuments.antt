@@ -7,6 +7,7 @@ use Rattle.std.proofs.lemmas.Bool.Decides.{nat_tests}
 use Rattle.std.proofs.lemmas.List.{map-append}
 use Rattle.std.proofs.lemmas.List.Elements.{All-from_recursion}
 use Rattle.std.proofs.lemmas.Map.Keys.{IsDistinct-push}
+use Rattle.pq_lists.proofs.Holding.{all_push}
 use Rattle.pq_term.specs.declared.token.Token.{Token}
 use Rattle.pq_term.specs.Names.{is_name}
 use Rattle.pq_grammar.specs.declared.class.Class.{Class}
@@ -21,7 +22,7 @@ use Rattle.pq_topo.specs.Named.{IsNamedTopology}
 use Rattle.pq_topo.specs.Naming.{Reading, next}
 use Rattle.pq_topo.specs.Statements.{begins_with, switches_after, by_datapath, switches_in_order, links_after, in_order, links_in_order, topology_of}
 use Rattle.pq_topo.proofs.Readings.{next_ok, unless_ok}
-use Rattle.pq_topo.proofs.SwitchRules.{all_push, network_of}
+use Rattle.pq_topo.proofs.SwitchRules.{network_of}
 use Rattle.pq_topo.proofs.LinkRules.{network_with}
 use Rattle.pq_pred.specs.Values.{name_in}
 use Rattle.pq_policy.specs.Policy.{PolicyTree, IsLawfulPolicy, IsPolicyOver}

@@ -6,6 +6,7 @@ use Rattle.std.proofs.Common.{arith, refl, ap, sym, subst, ◌∙◌, length-app
 use Rattle.std.proofs.lemmas.List.{map-append}
 use Rattle.std.proofs.lemmas.List.Elements.{All-from_recursion}
 use Rattle.std.proofs.lemmas.Map.Keys.{IsDistinct-push}
+use Rattle.pq_lists.proofs.Holding.{all_push}
 use Rattle.pq_term.specs.declared.token.Token.{Token}
 use Rattle.pq_tree.specs.Trees.{Forest, nothing, grown}
 use Rattle.pq_tree.specs.Texts.{text_in}
@@ -15,7 +16,6 @@ use Rattle.pq_model.specs.Topology.{Topology}
 use Rattle.pq_topo.specs.declared.fault.NameKind.TheVariants.{Doubled, NotListed}
 use Rattle.pq_topo.specs.Naming.{unless, named}
 use Rattle.pq_topo.proofs.Readings.{next_ok, unless_ok}
-use Rattle.pq_topo.proofs.SwitchRules.{all_push}
 use Rattle.pq_pred.specs.Values.{field_at, value_of}
 use Rattle.pq_query.specs.Groups.{Group}
 use Rattle.pq_query.specs.Resolved.{fresh_at, value_at, values_after, is_listed, is_field, is_grouped, grouped_at, unstated, stated, with_values, group_at, groups_after}

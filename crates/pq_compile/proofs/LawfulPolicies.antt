@@ -1,7 +1,8 @@
 -- Policies that are read are lawful.
 use Rattle.std.specs.Prelude.{◌≡◌, ◌≢◌, ℕ, Bool, true, false, not, if◌then◌else◌, List, [], ◌∷◌, Ok}
 use Rattle.std.specs.List.{AllByRecursion}
-use Rattle.std.proofs.Common.{refl, subst}
+use Rattle.std.proofs.Common.{subst}
+use Rattle.std.proofs.lemmas.Bool.{not-false}
 use Rattle.pq_term.specs.declared.token.Token.{Token}
 use Rattle.pq_term.specs.Numbers.{number_of}
 use Rattle.pq_grammar.specs.declared.class.Class.TheVariants.{IdentityWord, DropWord, FloodWord, FilterWord, ModWord, FwdWord, IfWord, Plus, Then}
@@ -37,11 +38,6 @@ joined_over V head top (q ∷ qs) p here all e = let same : record { top = top; 
 chosen : (V : Field → ℕ → Type 0) (q : PredTree) (a b p : PolicyTree) → IsPredOver V q → IsPolicyOver V a → IsPolicyOver V b → record { top = Choose q; below = policies (a ∷ b ∷ []) } ≡ p → IsPolicyOver V p
 chosen V q a b p test one two same = subst (IsPolicyOver V) same (test, all_over V (a ∷ b ∷ []) (one, (two, tt)), tt)
 
--- what is not refused for a rule
-kept : (b : Bool) → not b ≡ false → b ≡ true
-kept true e = refl
-kept false e = absurd cc
-
 module _ (T : Topology) (V : Field → ℕ → Type 0) (over : ReadsOver T V) (bytes : List ℕ) where
   abbrev IsReadOver : Reading PolicyTree → Type 0
   IsReadOver r = (p : PolicyTree) → r ≡ Ok p → IsPolicyOver V p
@@ -60,7 +56,7 @@ module _ (T : Topology) (V : Field → ℕ → Type 0) (over : ReadsOver T V) (b
       let f = writable.0 in
       let found = next_ok (field_at bytes field) (λ f. unless field ((not (is_writable f), NotWritable) ∷ []) f) f writable.1 in
       let rules = unless_ok field ((not (is_writable found.0), NotWritable) ∷ []) found.0 f found.2 in
-      let may : is_writable f ≡ true = subst (λ f. is_writable f ≡ true) rules.1 (kept (is_writable found.0) rules.0.0) in
+      let may : is_writable f ≡ true = subst (λ f. is_writable f ≡ true) rules.1 (not-false (is_writable found.0) rules.0.0) in
       let valued = next_ok (named value (value_of T f (text_in bytes value))) (λ n. Ok (leaf (Write f n))) p writable.2 in
       let same : leaf (Write f valued.0) ≡ p = cc in
       subst (IsPolicyOver V) same ((may, over.values f (text_in bytes value) valued.0 (named_ok value (value_of T f (text_in bytes value)) valued.0 valued.1)), tt, tt)

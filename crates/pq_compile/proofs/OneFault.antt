@@ -2,9 +2,8 @@
 use Rattle.std.proofs.Common.{◌≡◌, ◌≢◌, ◌∙◌, ℕ, List, [], ◌∷◌, refl, sym, ap, arith, inl, inr}
 use Rattle.std.specs.Prelude.{◌⊎◌}
 use Rattle.std.specs.List.{AllByRecursion, AllZip}
-use Rattle.std.specs.declared.option.Option.TheVariants.{None, Some}
 use Rattle.std.proofs.lemmas.List.Elements.{recursion_from_All}
-use Rattle.std.proofs.lemmas.Option.{same_Some}
+use Rattle.std.proofs.lemmas.Option.{same_Some, none-some}
 use Rattle.pq_fields.specs.declared.field.Field.{Field}
 use Rattle.pq_model.specs.Install.{IsLawfulSwitch, IsLawfulTopology}
 use Rattle.pq_model.specs.Topology.{Switch, Topology}
@@ -72,11 +71,8 @@ one_tables_fault d lawful f e (g, writes, laid, full) (h, more, other, fuller) =
 abbrev values_fault : Field × ℕ → PrepareFault
 values_fault full = prepare.ValuesFull full.0 full.1
 
-none_some : {A : Type 0} (x : A) → None ≡ Some x → ⊥
-none_some x e = cc
-
 pub no_prepare_fault : (d : DocumentTree) (f : PrepareFault) → IsWithin d → IsPrepareFault d f → f ≡ prepare.Memory
-no_prepare_fault d (prepare.ValuesFull field count) is fault = let pair : Field × ℕ = (field, count) in absurd (none_some pair (sym is.values ∙ fault))
+no_prepare_fault d (prepare.ValuesFull field count) is fault = let pair : Field × ℕ = (field, count) in absurd (none-some pair (sym is.values ∙ fault))
 no_prepare_fault d (prepare.InstancesFull count) is fault = let most = is.instances in let more = fault.1.0 in absurd (omega (arith, most, more))
 no_prepare_fault d (prepare.TagWidth classes) is fault =
     let most = is.classes in
@@ -89,12 +85,12 @@ no_prepare_fault d prepare.Memory is fault = refl
 pub one_prepare_fault : (d : DocumentTree) (f g : PrepareFault) → IsPrepareFault d f → IsPrepareFault d g → f ≢ prepare.Memory → g ≢ prepare.Memory → f ≡ g
 one_prepare_fault d (prepare.ValuesFull f n) (prepare.ValuesFull g m) left right some more =
     let one : Field × ℕ = (f, n) in let other : Field × ℕ = (g, m) in ap values_fault (same_Some one other (sym left ∙ right))
-one_prepare_fault d (prepare.ValuesFull f n) (prepare.InstancesFull m) left right some more = let one : Field × ℕ = (f, n) in absurd (none_some one (sym right.0 ∙ left))
-one_prepare_fault d (prepare.ValuesFull f n) (prepare.TagWidth m) left right some more = let one : Field × ℕ = (f, n) in absurd (none_some one (sym right.0 ∙ left))
-one_prepare_fault d (prepare.InstancesFull n) (prepare.ValuesFull g m) left right some more = let other : Field × ℕ = (g, m) in absurd (none_some other (sym left.0 ∙ right))
+one_prepare_fault d (prepare.ValuesFull f n) (prepare.InstancesFull m) left right some more = let one : Field × ℕ = (f, n) in absurd (none-some one (sym right.0 ∙ left))
+one_prepare_fault d (prepare.ValuesFull f n) (prepare.TagWidth m) left right some more = let one : Field × ℕ = (f, n) in absurd (none-some one (sym right.0 ∙ left))
+one_prepare_fault d (prepare.InstancesFull n) (prepare.ValuesFull g m) left right some more = let other : Field × ℕ = (g, m) in absurd (none-some other (sym left.0 ∙ right))
 one_prepare_fault d (prepare.InstancesFull n) (prepare.InstancesFull m) left right some more = ap (λ c. prepare.InstancesFull c) (left.1.1 ∙ sym right.1.1)
 one_prepare_fault d (prepare.InstancesFull n) (prepare.TagWidth m) left right some more = let above = left.1.0 in let most = right.1 in absurd (omega (arith, above, most))
-one_prepare_fault d (prepare.TagWidth n) (prepare.ValuesFull g m) left right some more = let other : Field × ℕ = (g, m) in absurd (none_some other (sym left.0 ∙ right))
+one_prepare_fault d (prepare.TagWidth n) (prepare.ValuesFull g m) left right some more = let other : Field × ℕ = (g, m) in absurd (none-some other (sym left.0 ∙ right))
 one_prepare_fault d (prepare.TagWidth n) (prepare.InstancesFull m) left right some more = let above = right.1.0 in let most = left.1 in absurd (omega (arith, above, most))
 one_prepare_fault d (prepare.TagWidth n) (prepare.TagWidth m) left right some more = ap (λ c. prepare.TagWidth c) (one_count (languages_in d) n m left.2 right.2)
 one_prepare_fault d prepare.Memory g left right some more = absurd (some refl)

@@ -1,6 +1,7 @@
 -- One turn of a loop over the statements of a document.
 use Rattle.std.specs.Prelude.{◌≡◌, ℕ, ◌+◌, ◌<◌, ◌≤◌, Bool, true, false, if◌then◌else◌, List, [], ◌∷◌, ◌++◌, map, length, get_or, drop, Ok, Err}
 use Rattle.std.proofs.Common.{arith, refl, ap, sym, subst, ◌∙◌}
+use Rattle.std.proofs.lemmas.List.{map_push}
 use Rattle.pq_term.specs.declared.token.Token.{Token}
 use Rattle.pq_grammar.specs.declared.class.Class.{Class}
 use Rattle.pq_tree.specs.declared.term.Term.{Term}
@@ -15,11 +16,6 @@ use Rattle.pq_topo.proofs.Passed.{passed, handed}
 use Rattle.pq_topo.proofs.Terms.{trees_left}
 use Rattle.pq_compile.specs.Names.{Named, named_from, named_of, named_after}
 
--- one more value goes last
-mapped_last : {A B : Type 0} (f : A → B) (xs : List A) (x : A) → map f (xs ++ x ∷ []) ≡ map f xs ++ f x ∷ []
-mapped_last f [] x = refl
-mapped_last f (y ∷ ys) x = ap (λ l. f y ∷ l) (mapped_last f ys x)
-
 -- the names of statements
 abbrev pub names_of : {A : Type 0} → List (Named A) → List (List ℕ)
 names_of earlier = map (λ s. s.0) earlier
@@ -28,7 +24,7 @@ names_of earlier = map (λ s. s.0) earlier
 pub one_name_more : {A V : Type 0} (view : V → Named A) (vs new : List V) (v : V) (names more : List (List ℕ)) → names ≡ names_of (map view vs) → more ≡ names ++ (view v).0 ∷ [] → new ≡ vs ++ v ∷ []
     → more ≡ names_of (map view new)
 one_name_more view vs new v names more same kept last =
-    kept ∙ ap (λ ns. ns ++ (view v).0 ∷ []) same ∙ sym (mapped_last (λ s. s.0) (map view vs) (view v)) ∙ ap names_of (sym (mapped_last view vs v) ∙ ap (map view) (sym last))
+    kept ∙ ap (λ ns. ns ++ (view v).0 ∷ []) same ∙ sym (map_push (λ s. s.0) (map view vs) (view v)) ∙ ap names_of (sym (map_push view vs v) ∙ ap (map view) (sym last))
 
 module _ {A V : Type 0} (view : V → Named A) (bytes : List ℕ) (class : Class) (most : ℕ) (read : Tree → Reading A) (vs : List V) (names : List (List ℕ)) (same : names ≡ names_of (map view vs)) (ts : List Term) (i : ℕ) (d : Term) (below : i < length ts)
     (whole : Reading (List (Named A))) (left : named_after bytes class most read (map view vs) (trees (drop i ts)) ≡ whole) where
@@ -48,7 +44,7 @@ module _ {A V : Type 0} (view : V → Named A) (bytes : List ℕ) (class : Class
   pub one_is_read : (v : V) (new : List V) → begins_with bytes class (out-Term (get_or ts i d)).head ≡ true → IsAnswer view (Ok v) (this names) → new ≡ vs ++ v ∷ []
       → named_after bytes class most read (map view new) (trees (drop (i + 1) ts)) ≡ whole
   one_is_read v new begins answer more =
-      ap (λ ss. named_after bytes class most read ss (trees (drop (i + 1) ts))) (ap (map view) more ∙ mapped_last view vs v)
+      ap (λ ss. named_after bytes class most read ss (trees (drop (i + 1) ts))) (ap (map view) more ∙ map_push view vs v)
       ∙ sym (handed view v (this names) after_it answer) ∙ turned true begins
 
   -- a statement is refused

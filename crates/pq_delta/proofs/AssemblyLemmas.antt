@@ -2,6 +2,7 @@
 use Rattle.std.proofs.Common.{◌≡◌, ℕ, zero, suc, ◌+◌, ◌-◌, ◌<◌, ◌≤◌, ◌==◌, true, false, if◌then◌else◌, List, [], ◌∷◌, ◌++◌, length, map, drop, get_or, refl, sym, ap, ◌∙◌, append_assoc, arith, eq-eqb, eqb-true, drop_of_length-le, subst, ◌^◌}
 use Rattle.std.proofs.lemmas.Bool.Decides.{nat_tests}
 use Rattle.std.proofs.lemmas.List.{get_or-map, length-append}
+use Rattle.pq_lists.proofs.Places.{from_place}
 use Rattle.pq_model.specs.declared.message.Message.{Message}
 use Rattle.pq_model.specs.declared.message.Message.TheVariants.{Flow, Group, Barrier}
 use Rattle.pq_model.specs.SwitchMachine.{Entry}
@@ -133,14 +134,6 @@ with_switch-append : (datapath : ℕ) (ms : List Message) (rest : List (ℕ × L
 with_switch-append datapath [] rest = refl
 with_switch-append datapath (m ∷ ms) rest = refl
 
--- an item and those after it
-drop_next : {A : Type 0} (xs : List A) (i : ℕ) (x : A) → i < length xs → x ≡ get_or xs i x → drop i xs ≡ x ∷ drop (i + 1) xs
-drop_next [] i x less is = absurd (omega (arith, less))
-drop_next (y ∷ ys) zero x less is = ap (λ z. z ∷ ys) (sym is)
-drop_next (y ∷ ys) (suc i) x less is =
-    let next : suc i + 1 ≡ suc (i + 1) = omega arith in
-    drop_next ys i x (omega (arith, less)) is ∙ ap (λ k. x ∷ drop k (y ∷ ys)) (sym next)
-
 pub delta_step : (switches : List Switch) (olds news : List (List Message)) (i : ℕ) (s : Switch) (o n : List Message) → i < length switches → i < length olds → i < length news
     → s ≡ get_or switches i s → o ≡ get_or olds i o → n ≡ get_or news i n → (done after : List (ℕ × List Message)) → after ≡ done ++ with_switch s.datapath (switch_delta o n) []
     → after ++ deltas (drop (i + 1) switches) (drop (i + 1) olds) (drop (i + 1) news) ≡ done ++ deltas (drop i switches) (drop i olds) (drop i news)
@@ -148,7 +141,7 @@ delta_step switches olds news i s o n a b c s_is o_is n_is done after is =
     ap (λ l. l ++ deltas (drop (i + 1) switches) (drop (i + 1) olds) (drop (i + 1) news)) is
     ∙ append_assoc done (with_switch s.datapath (switch_delta o n) []) (deltas (drop (i + 1) switches) (drop (i + 1) olds) (drop (i + 1) news))
     ∙ ap (λ l. done ++ l) (sym (with_switch-append s.datapath (switch_delta o n) (deltas (drop (i + 1) switches) (drop (i + 1) olds) (drop (i + 1) news))))
-    ∙ (λ j. done ++ deltas (sym (drop_next switches i s a s_is) j) (sym (drop_next olds i o b o_is) j) (sym (drop_next news i n c n_is) j))
+    ∙ (λ j. done ++ deltas (sym (from_place switches i s a s_is) j) (sym (from_place olds i o b o_is) j) (sym (from_place news i n c n_is) j))
 
 pub delta_end : (switches : List Switch) (olds news : List (List Message)) (i : ℕ) → length switches ≤ i → deltas (drop i switches) olds news ≡ []
 delta_end switches olds news i past = ap (λ l. deltas l olds news) (drop_of_length-le switches past)

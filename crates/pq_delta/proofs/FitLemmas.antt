@@ -3,6 +3,7 @@ use Rattle.std.proofs.Common.{◌≡◌, ℕ, suc, ◌+◌, ◌<◌, ◌≤◌, 
 use Rattle.std.specs.List.{AllByRecursion, list_all, list_any}
 use Rattle.std.specs.FinMap.{contains_key}
 use Rattle.std.proofs.lemmas.List.Folds.{list_any-append}
+use Rattle.std.proofs.Math.Bool.{or-true}
 use Rattle.pq_model.specs.declared.group_mod.GroupCommand.TheVariants.{Modify}
 use Rattle.pq_model.specs.declared.message.Message.{Message}
 use Rattle.pq_model.specs.declared.message.Message.TheVariants.{Flow, Group}
@@ -30,15 +31,11 @@ any_unplaced : (f : FlowValue) (es : List Entry) → AllByRecursion (λ e. is_pl
 any_unplaced f [] all = refl
 any_unplaced f (e ∷ es) (here, rest) = ap (λ b. b || list_any (is_placed f) es) here ∙ any_unplaced f es rest
 
-or_true : (b : Bool) → b || true ≡ true
-or_true true = refl
-or_true false = refl
-
 any_placed : (xid : ℕ) (front : List Entry) (e : Entry) (back : List Entry) → list_any (is_placed (delete_of xid e)) (front ++ e ∷ back) ≡ true
 any_placed xid front e back =
     list_any-append (is_placed (delete_of xid e)) front (e ∷ back)
     ∙ ap (λ b. list_any (is_placed (delete_of xid e)) front || (b || list_any (is_placed (delete_of xid e)) back)) (placed (delete_of xid e) e refl refl refl)
-    ∙ or_true (list_any (is_placed (delete_of xid e)) front)
+    ∙ or-true (list_any (is_placed (delete_of xid e)) front)
 
 module _ (groups : Groups) (stays : Entry → Bool) where
   pub deletes-fit : (xid : ℕ) (front es : List Entry) → HaveOwnPriorities (front ++ es) → AllFit (record { entries = front ++ es; groups = groups }) (map Flow (deletes_from xid (filter (λ e. not (stays e)) es)))

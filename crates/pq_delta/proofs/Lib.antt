@@ -3,7 +3,7 @@ mod OwnLemmas
 mod EntriesLemmas
 mod GroupsLemmas
 mod FitLemmas
-mod TurningLemmas
+pub mod TurningLemmas
 mod LawfulLemmas
 mod KeysLemmas
 mod StepLemmas

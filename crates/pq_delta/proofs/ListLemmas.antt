@@ -2,16 +2,12 @@
 use Rattle.std.proofs.Common.{◌≡◌, Bool, true, false, not, cond, List, [], ◌∷◌, ◌++◌, ◌||◌, filter, refl, sym, ap, subst, subst₂, ◌∙◌}
 use Rattle.std.specs.List.{AllByRecursion, IsDistinct, list_any}
 use Rattle.std.proofs.lemmas.List.Elements.{filter-append}
+use Rattle.pq_lists.proofs.Holding.{filter_same}
 use Rattle.pq_model.specs.Orders.{IsReordering}
 use Rattle.pq_model.proofs.Filters.{filter-none}
 use Rattle.pq_model.proofs.Reorderings.{all-at, all-rest}
 
 module _ {A : Type 0} where
-  -- tests that agree on a list filter it alike
-  pub filter-alike : (p q : A → Bool) (xs : List A) → AllByRecursion (λ x. p x ≡ q x) xs → filter p xs ≡ filter q xs
-  filter-alike p q [] all = refl
-  filter-alike p q (x ∷ xs) (here, rest) = λ i. cond (here i) (x ∷ filter-alike p q xs rest i) (filter-alike p q xs rest i)
-
   -- the values that pass and then the others
   pub parted : (p : A → Bool) (xs : List A) → IsReordering xs (filter p xs ++ filter (λ x. not (p x)) xs)
   parted p [] = refl
@@ -96,8 +92,8 @@ module _ {A : Type 0} where
         there front back differ rest =
             let d = distinct-rest f front back differ in
             subst₂ (λ l m. IsReordering l m)
-            (sym (filter-alike (λ g. list_any (E g) (front ++ f ∷ back)) (λ g. list_any (E g) (front ++ back)) fs (rest-alike f front back fs apart)))
-            (sym (sym (filter-append (λ e. E e f || list_any (E e) fs) front back) ∙ filter-alike (λ e. E e f || list_any (E e) fs) (λ e. list_any (E e) fs) (front ++ back) (not-first f fs (front ++ back) d.1)))
+            (sym (filter_same (λ g. list_any (E g) (front ++ f ∷ back)) (λ g. list_any (E g) (front ++ back)) fs (rest-alike f front back fs apart)))
+            (sym (sym (filter-append (λ e. E e f || list_any (E e) fs) front back) ∙ filter_same (λ e. E e f || list_any (E e) fs) (λ e. list_any (E e) fs) (front ++ back) (not-first f fs (front ++ back) d.1)))
             (rest (front ++ back) d.0)
 
         by : (b : Bool) → list_any (E f) es ≡ b → ((ds : List A) → IsDistinct E ds → IsReordering (filter (λ g. list_any (E g) ds) fs) (filter (λ e. list_any (E e) fs) ds)) → IsCommon b es
@@ -113,5 +109,5 @@ module _ {A : Type 0} where
             )
         by false is rest =
             subst (IsReordering (filter (λ g. list_any (E g) es) fs))
-            (sym (filter-alike (λ e. E e f || list_any (E e) fs) (λ e. list_any (E e) fs) es (not-first f fs es (none-among f es is))))
+            (sym (filter_same (λ e. E e f || list_any (E e) fs) (λ e. list_any (E e) fs) es (not-first f fs es (none-among f es is))))
             (rest es other)

@@ -1,8 +1,9 @@
 -- The messages of a delta are lawful.
-use Rattle.std.proofs.Common.{◌≡◌, ◌≢◌, ℕ, zero, suc, ◌+◌, ◌^◌, ◌<◌, ◌≤◌, ◌==◌, Bool, true, false, cond, if◌then◌else◌, List, [], ◌∷◌, ◌++◌, All, length, map, filter, refl, sym, ap, subst, ◌∙◌, arith, inl}
+use Rattle.std.proofs.Common.{◌≡◌, ◌≢◌, ℕ, zero, suc, ◌+◌, ◌^◌, ◌<◌, ◌≤◌, ◌==◌, Bool, true, false, if◌then◌else◌, List, [], ◌∷◌, ◌++◌, All, length, map, refl, sym, ap, subst, ◌∙◌, arith, inl}
 use Rattle.std.specs.List.{AllByRecursion, cons_option}
 use Rattle.std.proofs.lemmas.List.{length-append}
 use Rattle.std.proofs.lemmas.List.Elements.{All-from_recursion, recursion_from_All}
+use Rattle.pq_lists.proofs.Holding.{all_append, all_filter}
 use Rattle.pq_model.specs.declared.group_mod.GroupCommand.{GroupCommand}
 use Rattle.pq_model.specs.declared.group_mod.GroupCommand.TheVariants.{Add as AddGroup, Modify, Delete}
 use Rattle.pq_model.specs.declared.message.Message.{Message}
@@ -89,18 +90,6 @@ lawful_puts x number (o ∷ os) (b ∷ bs) few low high (here, rest) =
     by true more less = more x less
     by false more less = (lawful_put x (record { command = Modify; number = number; buckets = b }) (omega (arith, less)) (λ is. cc) low (omega (arith, high)) here, more (suc x) (omega (arith, less)))
 
-all_filtered : {A : Type 0} (P : A → Type 0) (p : A → Bool) (xs : List A) → AllByRecursion P xs → AllByRecursion P (filter p xs)
-all_filtered P p [] all = tt
-all_filtered P p (x ∷ xs) (here, rest) = by (p x) (all_filtered P p xs rest)
-  where
-    by : (b : Bool) → AllByRecursion P (filter p xs) → AllByRecursion P (cond b (x ∷ filter p xs) (filter p xs))
-    by true more = (here, more)
-    by false more = more
-
-all_joined : {A : Type 0} (P : A → Type 0) (xs ys : List A) → AllByRecursion P xs → AllByRecursion P ys → AllByRecursion P (xs ++ ys)
-all_joined P [] ys all more = more
-all_joined P (x ∷ xs) ys (here, rest) more = (here, all_joined P xs ys rest more)
-
 -- the groups that lawful messages add
 lawful_groups : (ms : List Message) → All IsLawfulMessage ms → AllByRecursion IsLawfulPut (groups_added ms)
 unfolding message_bytes with_header group_body
@@ -156,16 +145,16 @@ module _ (old new : List Message) (lawful_old : All IsLawfulMessage old) (lawful
   lawful_messages : length (change_messages (changes old new)) < 2 ^ 32 → AllByRecursion IsLawfulMessage (change_messages (changes old new))
   lawful_messages short =
       let long = total (changes old new) in
-      all_joined IsLawfulMessage (map Flow (deletes_from 1 c.removed) ++ map Group (group_deletes_from (suc (length c.removed)) (suc c.kept) c.gone)) _
-      (all_joined IsLawfulMessage (map Flow (deletes_from 1 c.removed)) (map Group (group_deletes_from (suc (length c.removed)) (suc c.kept) c.gone))
-      (lawful_deletes 1 c.removed (omega (arith, short, long)) (all_filtered IsLawfulEntry _ (entries_added old) (lawful_entries old lawful_old)))
+      all_append IsLawfulMessage (map Flow (deletes_from 1 c.removed) ++ map Group (group_deletes_from (suc (length c.removed)) (suc c.kept) c.gone)) _
+      (all_append IsLawfulMessage (map Flow (deletes_from 1 c.removed)) (map Group (group_deletes_from (suc (length c.removed)) (suc c.kept) c.gone))
+      (lawful_deletes 1 c.removed (omega (arith, short, long)) (all_filter IsLawfulEntry _ (entries_added old) (lawful_entries old lawful_old)))
       (lawful_group_deletes (suc (length c.removed)) (suc c.kept) c.gone (omega (arith, short, long)) (omega arith) (omega (arith, few_old, few_new)))) (
         lawful_barrier (suc (length c.removed) + c.gone) (omega (arith, short, long)),
-        all_joined IsLawfulMessage (map Group (group_mods_from (suc (suc (length c.removed) + c.gone)) c.puts)) _
+        all_append IsLawfulMessage (map Group (group_mods_from (suc (suc (length c.removed) + c.gone)) c.puts)) _
             (lawful_puts (suc (suc (length c.removed) + c.gone)) 1 (groups_added old) (groups_added new) (omega (arith, short, long)) (omega arith) (omega (arith, few_new)) (lawful_groups new lawful_new)) (
               lawful_barrier (suc (suc (length c.removed) + c.gone) + length c.puts) (omega (arith, short, long)),
-              all_joined IsLawfulMessage (map Flow (adds_from (suc (suc (suc (length c.removed) + c.gone) + length c.puts)) c.added)) _
-                  (lawful_adds (suc (suc (suc (length c.removed) + c.gone) + length c.puts)) c.added (omega (arith, short, long)) (all_filtered IsLawfulEntry _ (entries_added new) (lawful_entries new lawful_new)))
+              all_append IsLawfulMessage (map Flow (adds_from (suc (suc (suc (length c.removed) + c.gone) + length c.puts)) c.added)) _
+                  (lawful_adds (suc (suc (suc (length c.removed) + c.gone) + length c.puts)) c.added (omega (arith, short, long)) (all_filter IsLawfulEntry _ (entries_added new) (lawful_entries new lawful_new)))
                   (lawful_barrier (suc (suc (suc (length c.removed) + c.gone) + length c.puts) + length c.added) (omega (arith, short, long)), tt),
             ),
       )

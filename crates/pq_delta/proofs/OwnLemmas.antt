@@ -1,11 +1,11 @@
 -- Entries with priorities of their own, taken out and put in.
-use Rattle.std.proofs.Common.{◌≡◌, Bool, true, false, not, cond, List, [], ◌∷◌, ◌++◌, ◌==◌, ◌&&◌, filter, refl, sym, ap, subst, ◌∙◌, eqb-true}
+use Rattle.std.proofs.Common.{◌≡◌, Bool, true, false, not, cond, List, [], ◌∷◌, ◌++◌, filter, refl, sym, ap, subst, ◌∙◌}
 use Rattle.std.specs.List.{AllByRecursion, IsDistinct}
-use Rattle.pq_model.specs.MatchFields.{same_match}
 use Rattle.pq_model.specs.Mods.{FlowValue}
 use Rattle.pq_model.specs.SwitchMachine.{Entry, entry_of, is_placed}
 use Rattle.pq_model.specs.Orders.{AreApart, HaveOwnPriorities, IsReordering}
 use Rattle.pq_model.proofs.Reorderings.{all-at, all-put, all-rest, all-reordering}
+use Rattle.pq_model.proofs.FreeOfOrder.{apart-placed}
 use Rattle.pq_delta.specs.Equal.{same_entry}
 use Rattle.pq_delta.specs.Exact.{entry_exact}
 
@@ -52,15 +52,6 @@ own-distinct (e ∷ es) (apart, own) = (each es apart, own-distinct es own)
     each : (ds : List Entry) → AllByRecursion (AreApart e) ds → AllByRecursion (λ d. same_entry e d ≡ false) ds
     each [] all = tt
     each (d ∷ ds) (here, rest) = (apart-differ e d here, each ds rest)
-
--- a flow mod touches no entry from which its own is apart
-apart-placed : (f : FlowValue) (e : Entry) → AreApart (entry_of f) e → is_placed f e ≡ false
-apart-placed f e apart = by (e.table == f.table) (e.priority == f.priority) refl refl
-  where
-    by : (a b : Bool) → (e.table == f.table) ≡ a → (e.priority == f.priority) ≡ b → a && b && same_match e.matching f.matching ≡ false
-    by true true h k = absurd (apart (sym (eqb-true e.table f.table h)) (sym (eqb-true e.priority f.priority k)))
-    by true false h k = refl
-    by false b h k = refl
 
 pub all-unplaced : (f : FlowValue) (es : List Entry) → AllByRecursion (AreApart (entry_of f)) es → AllByRecursion (λ e. is_placed f e ≡ false) es
 all-unplaced f [] all = tt

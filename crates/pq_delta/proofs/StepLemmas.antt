@@ -4,7 +4,7 @@ use Rattle.std.specs.Cmp.Lexicographic.{pointwise}
 use Rattle.std.specs.List.{cons_option}
 use Rattle.std.specs.declared.option.Option.{Option}
 use Rattle.std.specs.declared.option.Option.TheVariants.{None, Some}
-use Rattle.std.proofs.lemmas.List.{length-append}
+use Rattle.std.proofs.lemmas.List.{length_push}
 use Rattle.indexmap.specs.IndexSet.{insert_all}
 use Rattle.pq_model.specs.declared.message.Message.{Message}
 use Rattle.pq_model.specs.declared.message.Message.TheVariants.{Flow, Group}
@@ -13,10 +13,6 @@ use Rattle.pq_model.specs.SwitchMachine.{Entry}
 use Rattle.pq_delta.specs.Added.{entries_added, entry_added}
 use Rattle.pq_delta.specs.Changes.{add_of, adds_from, delete_of, deletes_from, group_delete_of, group_deletes_from}
 use Rattle.pq_delta.specs.Equal.{is_among, others, same_entry}
-
--- a list that is one longer
-one_longer : {A : Type 0} (before : List A) (x : A) → length (before ++ x ∷ []) ≡ length before + 1
-one_longer before x = length-append before (x ∷ [])
 
 module _ (one : ℕ → Entry → FlowValue) (from : ℕ → List Entry → List FlowValue) (none : (x : ℕ) → from x [] ≡ []) (more : (x : ℕ) (e : Entry) (es : List Entry) → from x (e ∷ es) ≡ one x e ∷ from (suc x) es) where
   -- the messages of what is left, after those of one message
@@ -33,7 +29,7 @@ module _ (one : ℕ → Entry → FlowValue) (from : ℕ → List Entry → List
       put : (e : Entry) → after ≡ before ++ map Flow (from (length before + 1) (e ∷ [])) → after ++ map Flow (from (length after + 1) (others keys (entries_added rest))) ≡ before ++ map Flow (from (length before + 1) (e ∷ others keys (entries_added rest)))
       put e is =
           let longer : after ≡ before ++ Flow (one (length before + 1) e) ∷ [] = is ∙ ap (λ l. before ++ map Flow l) (more (length before + 1) e [] ∙ ap (λ l. one (length before + 1) e ∷ l) (none (suc (length before + 1)))) in
-          let next : length after + 1 ≡ suc (length before + 1) = let long = ap length longer ∙ one_longer before (Flow (one (length before + 1) e)) in omega (arith, long) in
+          let next : length after + 1 ≡ suc (length before + 1) = let long = ap length longer ∙ length_push before (Flow (one (length before + 1) e)) in omega (arith, long) in
           ap (λ x. after ++ map Flow (from x (others keys (entries_added rest)))) next
           ∙ ap (λ l. l ++ map Flow (from (suc (length before + 1)) (others keys (entries_added rest)))) longer
           ∙ append_assoc before (Flow (one (length before + 1) e) ∷ []) (map Flow (from (suc (length before + 1)) (others keys (entries_added rest))))
@@ -74,7 +70,7 @@ key_step keys m rest = by (entry_added m)
 pub group_delete_step : (before after : List Message) (k groups : ℕ) → k < groups → after ≡ before ++ Group (group_delete_of (length before + 1) (k + 1)) ∷ []
     → after ++ map Group (group_deletes_from (length after + 1) (suc (k + 1)) (groups - (k + 1))) ≡ before ++ map Group (group_deletes_from (length before + 1) (suc k) (groups - k))
 group_delete_step before after k groups less is =
-    let next : length after + 1 ≡ suc (length before + 1) = let long = ap length is ∙ one_longer before (Group (group_delete_of (length before + 1) (k + 1))) in omega (arith, long) in
+    let next : length after + 1 ≡ suc (length before + 1) = let long = ap length is ∙ length_push before (Group (group_delete_of (length before + 1) (k + 1))) in omega (arith, long) in
     let number : k + 1 ≡ suc k = omega arith in
     let left : groups - k ≡ suc (groups - (k + 1)) = omega (arith, less) in
     ap (λ x. after ++ map Group (group_deletes_from x (suc (k + 1)) (groups - (k + 1)))) next

@@ -2,6 +2,7 @@
 use Rattle.std.proofs.Common.{◌≡◌, ℕ, zero, suc, Bool, true, false, ◌||◌, List, [], ◌∷◌, ◌++◌, ◌<◌, ◌==◌, rules, length, map, get_or, arith, subst, refl, ap, ◌∙◌}
 use Rattle.std.proofs.Math.Seq.{take-length, drop-length, take-append_seam, drop-append_seam}
 use Rattle.std.specs.List.{list_all}
+use Rattle.std.proofs.Math.Bool.{or-false}
 use Rattle.pq_expr.specs.Word.{Word}
 use Rattle.pq_expr.specs.declared.expr.Expr.{Expr}
 use Rattle.pq_expr.specs.Expr.{InTurn, Either, Both, Exprs, expr_tree, expr_trees}
@@ -10,7 +11,7 @@ use Rattle.pq_expr.specs.Language.{Language, joined, in_turn, holds, languages, 
 use Rattle.pq_deriv.specs.Parts.{members, spread}
 use Rattle.pq_deriv.specs.Left.{Left, left, lefts, turn_left, top_left}
 use Rattle.pq_deriv.specs.Stepped.{AreStarts}
-use Rattle.pq_deriv.proofs.Turns.{or_false, one_language}
+use Rattle.pq_deriv.proofs.Turns.{one_language}
 
 -- a test of what languages hold
 pub all_changed : {A B : Type 0} (f : A → B) (t : B → Bool) (xs : List A) → list_all t (map f xs) ≡ list_all (λ x. t (f x)) xs
@@ -30,7 +31,7 @@ pub first_begun : (P : Language) (Ps : List Language) (l : Left) (ls : List Left
 first_begun P Ps l ls set r w alone begun =
     let same : l r ≡ P = one_language begun in
     rw (take-length set, drop-length set, alone, none_begun Ps ls (length Ps) w)
-    (or_false (joined (l r) (in_turn Ps) w || false) ∙ or_false (joined (l r) (in_turn Ps) w) ∙ ap (λ L. joined L (in_turn Ps) w) same)
+    (or-false (joined (l r) (in_turn Ps) w || false) ∙ or-false (joined (l r) (in_turn Ps) w) ∙ ap (λ L. joined L (in_turn Ps) w) same)
 
 alone : (r : List ℕ) → members (1 ∷ length r ∷ r) ≡ (r ∷ [])
 alone r = rw (take-length r) refl

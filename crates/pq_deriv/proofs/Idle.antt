@@ -1,13 +1,13 @@
 -- Operands in turn before the empty word, where those that aren't begun, and don't begin, are passed over.
 use Rattle.std.proofs.Common.{◌≡◌, ℕ, zero, suc, Bool, true, false, ◌&&◌, ◌||◌, ◌==◌, rules, ◌<◌, ◌≤◌, ◌+◌, ◌-◌, ◌⊎◌, inl, inr, List, [], ◌∷◌, length, drop, refl, sym, ap, ◌∙◌, arith}
 use Rattle.std.proofs.lemmas.List.{drop-drop, length-drop, drop_all}
+use Rattle.std.proofs.Math.Bool.{or-false, and-true}
 use Rattle.pq_expr.specs.declared.expr.Expr.{Expr}
 use Rattle.pq_expr.specs.Expr.{InTurn, expr_trees}
 use Rattle.pq_expr.specs.Language.{in_turn, languages}
 use Rattle.pq_deriv.specs.Parts.{spread, first_set, behind_set}
 use Rattle.pq_deriv.specs.Left.{lefts, turn_left, top_left}
 use Rattle.pq_deriv.proofs.Spread.{behind_none, first_idle, spread_gap}
-use Rattle.pq_deriv.proofs.Turns.{or_false, and_true}
 
 -- whether operands accept the empty word, of which the first begins or not, and whose sets are these
 abbrev pub ends_from : Bool → List Expr → List ℕ → Bool
@@ -48,7 +48,7 @@ ends_idle true i k gap left es few none idle =
 
 -- no operand is left
 pub ends_over : (begins : Bool) (i : ℕ) (es : List Expr) (r : List ℕ) → length es ≤ i → ends_from begins (drop i es) r ≡ begins
-ends_over begins i es r past = rw (drop_all i es past) (or_false (begins && true) ∙ and_true begins)
+ends_over begins i es r past = rw (drop_all i es past) (or-false (begins && true) ∙ and-true begins)
 
 -- some operands in turn
 pub turn_is : (es : List Expr) (r : List ℕ) → (length es == 0) ≡ false → (b : Bool) → b ≡ turn_left (languages (expr_trees es)) (lefts (expr_trees es)) (spread (length (languages (expr_trees es))) r) [] → b ≡ top_left InTurn (languages (expr_trees es)) (lefts (expr_trees es)) r []

@@ -1,6 +1,6 @@
 -- Rests and sets of rests after a half step, one more at a time.
 use Rattle.std.proofs.Common.{◌≡◌, ℕ, zero, suc, Bool, true, false, ◌&&◌, ◌||◌, ◌==◌, ◌<◌, ◌≤◌, ◌+◌, ◌⊎◌, inl, inr, List, [], ◌∷◌, ◌++◌, ◌-◌, rules, take, drop, length, refl, sym, subst, ◌∙◌, arith}
-use Rattle.std.proofs.Math.Bool.{or-true, or_comm}
+use Rattle.std.proofs.Math.Bool.{or-true, or_comm, and-false, or-false, and-true}
 use Rattle.std.proofs.Math.Seq.{take-length, take-append_seam, drop-append_seam}
 use Rattle.std.proofs.lemmas.List.{drop-drop, length-drop}
 use Rattle.pq_expr.specs.Word.{HalfStep, Word}
@@ -13,7 +13,7 @@ use Rattle.pq_deriv.specs.Left.{Left, left, lefts, set_left, turn_left, top_left
 use Rattle.pq_deriv.specs.Stepped.{some_ends, stepped_left, IsSetStepped, AreStepped, AreSetsStepped}
 use Rattle.pq_deriv.proofs.Reading.{parts_front, members_read}
 use Rattle.pq_deriv.proofs.Spread.{first_read, behind_read, spread_gap, first_idle, behind_none, wide_none, widened_wide, wide_wide}
-use Rattle.pq_deriv.proofs.Turns.{or_false, and_false, and_true, one_language, set_cons, set_ends, turn_stepped}
+use Rattle.pq_deriv.proofs.Turns.{one_language, set_cons, set_ends, turn_stepped}
 
 -- a member more
 pub member_more : (left : Left) (l : HalfStep) (part rest : List ℕ) (old new later : List (List ℕ)) → ((v : Word) → left rest v ≡ left part (l ∷ v)) →
@@ -30,7 +30,7 @@ member_more left l part rest old new later steps puts P w =
 -- a set to which nothing is added
 pub set_kept : (l : HalfStep) (e : ExprTree) (old stepped : List (List ℕ)) (r : List ℕ) → ((P : Language) (w : Word) → set_left (left e) P stepped w ≡ stepped_left l (left e) P old w) → r ≡ set_of stepped →
     IsSetStepped l e false old (members r)
-set_kept l e old stepped r steps spelled P w = rw (spelled, members_read stepped, steps P w) (sym (or_false (stepped_left l (left e) P old w)))
+set_kept l e old stepped r steps spelled P w = rw (spelled, members_read stepped, steps P w) (sym (or-false (stepped_left l (left e) P old w)))
 
 -- a set to which the begun rest is added
 pub set_begun : (l : HalfStep) (e : ExprTree) (old stepped new : List (List ℕ)) (start begun r : List ℕ) → ((P : Language) (w : Word) → set_left (left e) P stepped w ≡ stepped_left l (left e) P old w) →
@@ -98,7 +98,7 @@ idle_left l begins i k gap empties left out es W few none idle before more steps
 
 -- no operand is left
 pub turn_over : (l : HalfStep) (begins : Bool) (old new : List ℕ) → AreSetsStepped l (expr_trees []) begins old new
-turn_over l begins old new w = rw (and_false begins) refl
+turn_over l begins old new w = rw (and-false begins) refl
 
 pub turn_whole : (l : HalfStep) (es : List Expr) (old new : List ℕ) → (length es == 0) ≡ false → AreSetsStepped l (expr_trees es) false old new → (w : Word) →
     top_left InTurn (languages (expr_trees es)) (lefts (expr_trees es)) new w ≡ top_left InTurn (languages (expr_trees es)) (lefts (expr_trees es)) old (l ∷ w)
@@ -120,9 +120,9 @@ both_step l es old new steps w = rw (steps w) refl
 -- a repetition
 starred : (f a j s : Bool) → (s || (((f && true) || (a && true)) && j)) ≡ ((f && j) || ((a && j) || s))
 starred f a true true = simp or-true refl
-starred f a true false = simp (and_true, or_false) refl
+starred f a true false = simp (and-true, or-false) refl
 starred f a false true = simp or-true refl
-starred f a false false = simp and_false refl
+starred f a false false = simp and-false refl
 
 pub repetition_steps : (l : HalfStep) (e : ExprTree) (old new : List ℕ) → 0 < length old →
     IsSetStepped l e (repeated_left (holds e) (left e) old []) (members (take (length old - 1) (drop 1 old))) (members new) →

@@ -1,11 +1,7 @@
 -- Parts that are read are those that were written.
-use Rattle.std.proofs.Common.{get_or, take, drop, drop-cons, add-one, ◌≡◌, ℕ, zero, suc, List, [], ◌∷◌, ◌<◌, ◌-◌, length, refl, arith, ◌+◌, ◌∙◌}
+use Rattle.std.proofs.Common.{get_or, take, drop, ◌≡◌, ℕ, zero, suc, List, [], ◌∷◌, ◌<◌, ◌-◌, length, refl, arith}
 use Rattle.std.proofs.Math.Seq.{take-length, take-append_seam, drop-append_seam}
 use Rattle.pq_deriv.specs.Parts.{parts, members, spelled, set_of, first_part, behind_part}
-
--- the item at a place, and what is behind it
-pub item_first : {X : Type 0} (xs : List X) (i : ℕ) (x : X) → i < length xs → x ≡ get_or xs i x → drop i xs ≡ (x ∷ drop (i + 1) xs)
-item_first xs i x within is = drop-cons xs i x within ∙ rw (add-one, ← is) refl
 
 pub parts_front : (n : ℕ) (r : List ℕ) → parts (suc n) r ≡ (first_part r ∷ parts n (behind_part r))
 parts_front n [] = refl

@@ -4,14 +4,13 @@ use Rattle.std.specs.List.{AllByRecursion, IsDistinct, list_any, sum}
 use Rattle.std.specs.List.Sorted.{IsStrictlySortedBy}
 use Rattle.std.specs.Ordering.{nat_cmp}
 use Rattle.std.specs.Cmp.Lexicographic.{pointwise, slice_cmp, nat_list_eq_equiv, nat_list_cmp_total, same_text}
-use Rattle.std.proofs.lemmas.Bool.{or_left, or_right}
+use Rattle.std.proofs.lemmas.Bool.{or_left, or_right, or_cases}
 use Rattle.std.proofs.lemmas.List.{length-map, length-append}
 use Rattle.std.proofs.lemmas.List.Sums.{sum_by-cons}
 use Rattle.std.proofs.lemmas.Map.Made.{length-le_from_is_member}
 use Rattle.std.proofs.lemmas.Nat.{mul-le, pow-add}
 use Rattle.std.proofs.Math.Nat.{pow-le-pow_right, pow-succ'}
 use Rattle.pq_expr.specs.Expr.{ExprTop, NoWord, EmptyWord, Enters, Leaves, InTurn, Either, Both, Other, Repeated, Exprs, none, put, ExprTree, HasOperands, AreLawful, IsLawful}
-use Rattle.pq_expr.proofs.Cuts.{either}
 use Rattle.pq_deriv.specs.Parts.{spelled, set_of, packed}
 use Rattle.pq_deriv.specs.Choices.{IsOneOf, choices, sublists}
 use Rattle.pq_deriv.specs.Most.{product, first_number, top_most, mosts, most}
@@ -110,9 +109,9 @@ count_rests e lawful = (count_each (put e.top e.below none) lawful).0
 -- elements that are found
 found : (P : List ℕ → Type 0) (rs : List (List ℕ)) (r : List ℕ) → AllByRecursion P rs → list_any (pointwise nat_eq r) rs ≡ true → P r
 found P [] r all is = absurd (search (is, rules))
-found P (s ∷ rs) r all is = elim (either (pointwise nat_eq r s) (list_any (pointwise nat_eq r) rs) is) [ inl same ↦ subst P (sym (same_text r s (sym same))) all.0 | inr later ↦ found P rs r all.1 later ]
+found P (s ∷ rs) r all is = elim (or_cases (pointwise nat_eq r s) (list_any (pointwise nat_eq r) rs) is) [ inl same ↦ subst P (sym (same_text r s (sym same))) all.0 | inr later ↦ found P rs r all.1 later ]
 
-finds : (rs : List (List ℕ)) (r : List ℕ) → IsOneOf rs r → list_any (pointwise nat_eq r) rs ≡ true
+pub finds : (rs : List (List ℕ)) (r : List ℕ) → IsOneOf rs r → list_any (pointwise nat_eq r) rs ≡ true
 finds [] r one = absurd one
 finds (s ∷ rs) r (inl is) = or_left (pointwise nat_eq r s) (list_any (pointwise nat_eq r) rs) (subst (λ (z : List ℕ). pointwise nat_eq r z ≡ true) (sym is) (nat_list_eq_equiv.refl r))
 finds (s ∷ rs) r (inr one) = or_right (pointwise nat_eq r s) (list_any (pointwise nat_eq r) rs) (finds rs r one)

@@ -1,6 +1,6 @@
 -- Sets of rests, and what stands behind them, at the empty word and behind a half step.
 use Rattle.std.proofs.Common.{◌≡◌, ℕ, suc, Bool, true, false, ◌&&◌, ◌||◌, List, [], ◌∷◌, refl, ap, ◌∙◌}
-use Rattle.std.proofs.Math.Bool.{or-true}
+use Rattle.std.proofs.Math.Bool.{or-true, and-false, or-false, and-true}
 use Rattle.std.specs.List.{list_all}
 use Rattle.pq_expr.specs.Word.{HalfStep, Word}
 use Rattle.pq_expr.specs.Language.{Language, joined, in_turn}
@@ -9,24 +9,12 @@ use Rattle.pq_deriv.specs.Parts.{members, spread, first_set, behind_set}
 use Rattle.pq_deriv.specs.Left.{Left, set_left, turn_left}
 use Rattle.pq_deriv.specs.Stepped.{some_ends, stepped_left}
 
-pub or_false : (b : Bool) → (b || false) ≡ b
-or_false true = refl
-or_false false = refl
-
-pub and_false : (b : Bool) → (b && false) ≡ false
-and_false true = refl
-and_false false = refl
-
-pub and_true : (b : Bool) → (b && true) ≡ b
-and_true true = refl
-and_true false = refl
-
 or_and : (a b c : Bool) → ((a && c) || (b && c)) ≡ ((a || b) && c)
 or_and true true c = by c where
   by : (c : Bool) → (c || c) ≡ c
   by true = refl
   by false = refl
-or_and true false c = or_false c
+or_and true false c = or-false c
 or_and false b c = refl
 
 -- languages that hold the same words are one
@@ -44,9 +32,9 @@ turn_ends [] = refl
 turn_ends (P ∷ Ps) = joined_empty P (in_turn Ps) ∙ ap (λ b. P [] && b) (turn_ends Ps)
 
 mixed : (q a j A J : Bool) → (((a && q) || j) || ((A && q) || J)) ≡ (((a || A) && q) || (j || J))
-mixed false a j A J = rw (and_false a, and_false A, and_false (a || A)) refl
+mixed false a j A J = rw (and-false a, and-false A, and-false (a || A)) refl
 mixed true true j A J = refl
-mixed true false true A J = rw (and_true A, or-true A) refl
+mixed true false true A J = rw (and-true A, or-true A) refl
 mixed true false false A J = refl
 
 -- a set behind a half step
@@ -63,7 +51,7 @@ turn_front P Ps left lefts n r w = refl
 ended : (b p t a u : Bool) → ((((b && p) || a) && t) || u) ≡ ((b && (p && t)) || ((a && t) || u))
 ended false p t a u = refl
 ended true false t a u = refl
-ended true true false a u = rw (and_false a) refl
+ended true true false a u = rw (and-false a) refl
 ended true true true a u = refl
 
 pub turn_passed : (begins : Bool) (P : Language) (Ps : List Language) (left : Left) (set : List (List ℕ)) (u : Bool) →
@@ -73,11 +61,11 @@ turn_passed begins P Ps left set u = rw (joined_empty P (in_turn Ps), set_ends l
 -- a set that operands follow, behind a half step
 juggled : (u s q b j a p : Bool) → ((s || (b && j)) || ((((b && p) || a) && q) || u)) ≡ ((b && ((p && q) || j)) || (((a && q) || s) || u))
 juggled true s q b j a p = simp or-true refl
-juggled false true q b j a p = simp (or-true, or_false) refl
-juggled false false false b j a p = simp (and_false, or_false) refl
-juggled false false true true true a p = simp (or-true, and_true) refl
-juggled false false true true false a p = simp (or_false, and_true) refl
-juggled false false true false j a p = simp (or_false, and_true) refl
+juggled false true q b j a p = simp (or-true, or-false) refl
+juggled false false false b j a p = simp (and-false, or-false) refl
+juggled false false true true true a p = simp (or-true, and-true) refl
+juggled false false true true false a p = simp (or-false, and-true) refl
+juggled false false true false j a p = simp (or-false, and-true) refl
 
 pub turn_stepped : (begins : Bool) (P : Language) (Ps : List Language) (left : Left) (set : List (List ℕ)) (l : HalfStep) (w : Word) (u : Bool) →
     ((stepped_left l left (in_turn Ps) set w || (begins && joined (λ v. P (l ∷ v)) (in_turn Ps) w)) || ((((begins && P []) || some_ends left set) && in_turn Ps (l ∷ w)) || u))

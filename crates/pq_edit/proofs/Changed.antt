@@ -6,6 +6,7 @@ use Rattle.std.proofs.Common.{arith, refl, sym, ap, ◌∙◌}
 use Rattle.std.proofs.lemmas.Slice.Eq.{bytes_eq-Decides}
 use Rattle.std.proofs.lemmas.List.Elements.{All-cons, All-head, All-tail}
 use Rattle.std.proofs.lemmas.Map.Keys.{IsDistinct-head, IsDistinct-tail, IsDistinct-cons}
+use Rattle.std.proofs.lemmas.Bool.{or_parts}
 use Rattle.pq_compile.specs.Names.{Named}
 use Rattle.pq_compile.specs.Lawful.{names_in}
 use Rattle.pq_edit.specs.Edits.{put, without}
@@ -15,11 +16,6 @@ use Rattle.pq_edit.specs.Reading.{is_among}
 second : (a b : Bool) → (a || b) ≡ true → a ≡ false → b ≡ true
 second true b either other = absurd cc
 second false b either other = either
-
--- neither holds
-neither : (a b : Bool) → (a || b) ≡ false → (a ≡ false) × (b ≡ false)
-neither true b none = absurd cc
-neither false b none = (refl, none)
 
 -- the same, seen from the other side
 turned : (xs ys : List ℕ) (b : Bool) → bytes_eq xs ys ≡ b → bytes_eq ys xs ≡ b
@@ -47,8 +43,8 @@ module _ {A : Type 0} where
     where
       by : (b : Bool) → bytes_eq n.0 p.0 ≡ b → (is_among p.0 (names_in ns) ≡ false → names_in (put p ns) ≡ names_in ns ++ p.0 ∷ [])
           → names_in (if b then p ∷ ns else n ∷ put p ns) ≡ n.0 ∷ (names_in ns ++ p.0 ∷ [])
-      by true same more = let left = (neither (bytes_eq p.0 n.0) (is_among p.0 (names_in ns)) among).0 in let here = turned n.0 p.0 true same in absurd cc
-      by false other more = ap (λ names. n.0 ∷ names) (more (neither (bytes_eq p.0 n.0) (is_among p.0 (names_in ns)) among).1)
+      by true same more = let left = (or_parts (bytes_eq p.0 n.0) (is_among p.0 (names_in ns)) among).0 in let here = turned n.0 p.0 true same in absurd cc
+      by false other more = ap (λ names. n.0 ∷ names) (more (or_parts (bytes_eq p.0 n.0) (is_among p.0 (names_in ns)) among).1)
 
   -- all that is named is so, with what is put
   pub all_put : (P : Named A → Type 0) (p : Named A) (ns : List (Named A)) → P p → All P ns → All P (put p ns)

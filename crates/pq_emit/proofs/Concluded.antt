@@ -1,5 +1,5 @@
 -- What the trees of a network say of its install and of its faults.
-use Rattle.std.proofs.Common.{◌≡◌, ℕ, List, [], ◌∷◌, length, refl, sym, ap, subst, inl, inr, ◌∙◌, suc}
+use Rattle.std.proofs.Common.{◌≡◌, ℕ, List, [], ◌∷◌, refl, sym, ap, subst, inl, inr, ◌∙◌}
 use Rattle.std.specs.declared.option.Option.TheVariants.{None}
 use Rattle.std.specs.List.{AllZip}
 use Rattle.std.proofs.lemmas.Option.{none-some}
@@ -43,13 +43,6 @@ only_messages T g writes (s ∷ ss) (m ∷ ms) all = (all.0.0, only_messages T g
 pub all_messages_of : (T : Topology) (g : Tagging) (writes : Departures) (ts : List TablesTrees) (ms : List (List Message)) → AreAllTrees T g writes ts → AllZip IsFilledBy ts ms
     → AllZip (λ s m. AreMessages T g writes s.datapath m) T.switches ms
 all_messages_of T g writes ts ms trees filled = only_messages T g writes T.switches ms (all_filled T g writes ts ms trees filled)
-
--- there are as many lists of messages as trees
-pub as_many : {A B : Type 0} (R : A → B → Type 0) (xs : List A) (ys : List B) → AllZip R xs ys → length ys ≡ length xs
-as_many R [] [] all = refl
-as_many R [] (y ∷ ys) all = absurd all
-as_many R (x ∷ xs) [] all = absurd all
-as_many R (x ∷ xs) (y ∷ ys) all = ap suc (as_many R xs ys all.1)
 
 -- the fault of a network's trees is that of the network
 table_apart : (d k n : ℕ) → ◌≡◌ {A = RulesFault} (TableFull d k n) Memory → ⊥

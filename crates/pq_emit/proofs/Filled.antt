@@ -9,8 +9,8 @@ use Rattle.pq_rewrite.specs.declared.outgoing.Outgoing.{Outgoing}
 use Rattle.pq_rewrite.specs.declared.trees.Arrive.{Arrive}
 use Rattle.pq_rewrite.specs.declared.trees.SwitchTrees.{SwitchTrees}
 use Rattle.std.specs.declared.option.Option.{Option}
+use Rattle.std.proofs.lemmas.Slice.Zip.{all_zipped_more}
 use Rattle.pq_store.specs.Tree.{Tree}
-use Rattle.pq_emit.proofs.Located.{zip_push}
 use Rattle.pq_emit.specs.Switches.{IsFilledBy, TablesTrees, trees_at, trees_of}
 
 -- the trees of the switch at a place
@@ -27,7 +27,7 @@ one_filled items ts k t vs pushed v within at push one all =
     let front : take (k + 1) ts ≡ take k ts ++ t ∷ [] = take_more ts k t within ∙ ap (λ j. take k ts ++ j ∷ []) (sym at) in
     let back : map items pushed ≡ map items vs ++ items v ∷ [] = ap (map items) push ∙ map-append items vs (v ∷ []) in
     subst (λ us. AllZip IsFilledBy us (map items pushed)) (sym front) (subst (λ ms. AllZip IsFilledBy (take k ts ++ t ∷ []) ms) (sym back)
-    (zip_push IsFilledBy (take k ts) (map items vs) t (items v) all one))
+    (all_zipped_more IsFilledBy (take k ts) (map items vs) t (items v) all one))
 
 -- the same of the lawful ones
 pub one_lawful : {V : Type 0} (P : List Message → Type 0) (items : V → List Message) (vs pushed : List V) (v : V) → pushed ≡ vs ++ v ∷ [] → P (items v) → All P (map items vs)

@@ -1,8 +1,9 @@
 -- The trees at ids of stores are the trees of switches.
-use Rattle.std.proofs.Common.{◌≡◌, ◌<◌, ◌+◌, ℕ, List, [], ◌∷◌, ◌++◌, map, take, length, get_or, sym, ap, subst, ◌∙◌, zero, suc, arith, slice_get, Some, refl}
+use Rattle.std.proofs.Common.{◌≡◌, ◌<◌, ◌+◌, ℕ, List, [], ◌∷◌, ◌++◌, map, take, length, get_or, sym, ap, subst, ◌∙◌}
 use Rattle.std.specs.Prelude.{Option}
 use Rattle.std.specs.List.{AllZip}
 use Rattle.std.proofs.lemmas.List.{take_more}
+use Rattle.std.proofs.lemmas.Slice.Zip.{all_zipped_more}
 use Rattle.pq_fields.specs.Packet.{Numbers}
 use Rattle.pq_layout.specs.Actions.{key_word, tag_word}
 use Rattle.pq_layout.specs.Emission.{AreTrees}
@@ -18,12 +19,6 @@ use Rattle.pq_rules.specs.Found.{trees_with, with_word}
 use Rattle.pq_store.specs.Store.{HasAt, Keeps}
 use Rattle.pq_store.specs.Tree.{Tree}
 use Rattle.pq_emit.specs.Switches.{AreAllTrees, AreSwitchesAt, IsSwitchAt, trees_of}
-
--- there is one at each place of a list
-pub here_at : {X : Type 0} (xs : List X) (k : ℕ) → k < length xs → (x : X) × (slice_get xs k ≡ Some x)
-here_at [] k below = absurd (omega (arith, below))
-here_at (x ∷ xs) zero below = (x, refl)
-here_at (x ∷ xs) (suc k) below = here_at xs k (omega (arith, below))
 
 -- at ids of trees of functions stand these trees
 located : {A L : Type 0} (word : A → ℕ) (F : A → Numbers → L) (ts : List (Tree L)) (ks : List A) (ids : List (A × ℕ))
@@ -60,13 +55,6 @@ pub all_located : (T : Topology) (g : Tagging) (writes : Departures) (firsts : L
     → AreSwitchesAt T g writes firsts seconds trees → AreAllTrees T g writes (trees_of firsts seconds trees)
 all_located T g writes firsts seconds trees all = each_located T g writes firsts seconds T.switches trees all
 
--- lists that grow at their ends
-pub zip_push : {A B : Type 0} (R : A → B → Type 0) (xs : List A) (ys : List B) (x : A) (y : B) → AllZip R xs ys → R x y → AllZip R (xs ++ x ∷ []) (ys ++ y ∷ [])
-zip_push R [] [] x y all one = (one, tt)
-zip_push R [] (z ∷ ys) x y all one = absurd all
-zip_push R (w ∷ xs) [] x y all one = absurd all
-zip_push R (w ∷ xs) (z ∷ ys) x y all one = (all.0, zip_push R xs ys x y all.1 one)
-
 -- Stores that keep their ids keep what stands there.
 
 kept_ids : {A L : Type 0} (F : A → Tree L → Type 0) (old new : List (Tree L)) → Keeps old new → (ks : List A) (ids : List (A × ℕ))
@@ -99,4 +87,4 @@ one_more T g writes firsts more seconds others left right ss k s ts pushed t wit
     let front : take (k + 1) ss ≡ take k ss ++ s ∷ [] = take_more ss k s within ∙ ap (λ j. take k ss ++ j ∷ []) (sym at) in
     let P = IsSwitchAt T g writes more others in
     subst (λ qs. AllZip P qs pushed) (sym front) (subst (λ us. AllZip P (take k ss ++ s ∷ []) us) (sym push)
-    (zip_push P (take k ss) ts s t (kept_switches T g writes firsts more seconds others left right (take k ss) ts all) (arriving, leaving)))
+    (all_zipped_more P (take k ss) ts s t (kept_switches T g writes firsts more seconds others left right (take k ss) ts all) (arriving, leaving)))

@@ -4,7 +4,7 @@ use Rattle.std.specs.declared.option.Option.{Option}
 use Rattle.std.specs.declared.option.Option.TheVariants.{None, Some}
 use Rattle.std.specs.Option.{is_some, option_map, option_or}
 use Rattle.std.proofs.lemmas.Bool.Decides.{nat_tests}
-use Rattle.std.proofs.lemmas.List.{drop_more}
+use Rattle.pq_lists.proofs.Places.{from_place}
 use Rattle.pq_model.specs.Topology.{Switch}
 use Rattle.pq_rules.specs.declared.fault.RulesFault.{RulesFault}
 use Rattle.pq_rules.specs.declared.fault.RulesFault.TheVariants.{TableFull, GroupFull}
@@ -40,23 +40,19 @@ full_one : (met : Option RulesFault) (s : Switch) (ss : List Switch) (t : Tables
 full_one met s ss t ts fault some =
     ap (λ o. option_or (option_or o (first_fault table_fault ss ts)) (option_or met (option_or (group_fault s t) (first_fault group_fault ss ts)))) some
 
--- what is left begins with the one at this place
-begins : {X : Type 0} (xs : List X) (k : ℕ) (x : X) → k < length xs → x ≡ get_or xs k x → drop k xs ≡ x ∷ drop (k + 1) xs
-begins xs k x within at = drop_more xs k x within ∙ ap (λ y. y ∷ drop (k + 1) xs) (sym at)
-
 pub met_next : (met : Option RulesFault) (ss : List Switch) (ts : List TablesTrees) (k : ℕ) (s : Switch) (t : TablesTrees) (whole : Option RulesFault)
     → k < length ss → s ≡ get_or ss k s → k < length ts → t ≡ get_or ts k t → table_fault s t ≡ None
     → with_met met (drop k ss) (drop k ts) ≡ whole → with_met (option_or met (group_fault s t)) (drop (k + 1) ss) (drop (k + 1) ts) ≡ whole
 met_next met ss ts k s t whole below at among here none so_far =
     sym (met_one met s (drop (k + 1) ss) t (drop (k + 1) ts) none)
-    ∙ sym (ap₂ (with_met met) (begins ss k s below at) (begins ts k t among here))
+    ∙ sym (ap₂ (with_met met) (from_place ss k s below at) (from_place ts k t among here))
     ∙ so_far
 
 pub full_here : (met : Option RulesFault) (ss : List Switch) (ts : List TablesTrees) (k : ℕ) (s : Switch) (t : TablesTrees) (whole : Option RulesFault) (fault : RulesFault)
     → k < length ss → s ≡ get_or ss k s → k < length ts → t ≡ get_or ts k t → table_fault s t ≡ Some fault
     → with_met met (drop k ss) (drop k ts) ≡ whole → whole ≡ Some fault
 full_here met ss ts k s t whole fault below at among here some so_far =
-    sym so_far ∙ ap₂ (with_met met) (begins ss k s below at) (begins ts k t among here) ∙ full_one met s (drop (k + 1) ss) t (drop (k + 1) ts) fault some
+    sym so_far ∙ ap₂ (with_met met) (from_place ss k s below at) (from_place ts k t among here) ∙ full_one met s (drop (k + 1) ss) t (drop (k + 1) ts) fault some
 
 -- What is said of one switch.
 

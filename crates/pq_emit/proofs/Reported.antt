@@ -1,6 +1,6 @@
 -- The rows of a report.
-use Rattle.std.proofs.Common.{◌≡◌, ◌≢◌, ◌<◌, ◌≤◌, ◌+◌, ◌-◌, ◌∙◌, ℕ, zero, suc, Bool, true, false, cond, not, if◌then◌else◌}
-use Rattle.std.proofs.Common.{List, [], ◌∷◌, ◌++◌, length, map, filter, take, get_or, refl, sym, ap, ap₂, subst, arith, true≢false}
+use Rattle.std.proofs.Common.{◌≡◌, ◌≢◌, ◌<◌, ◌≤◌, ◌+◌, ◌-◌, ◌∙◌, ℕ, zero, suc, Bool, true, false, cond, not, if◌then◌else◌, []}
+use Rattle.std.proofs.Common.{List, ◌∷◌, ◌++◌, length, map, filter, take, get_or, refl, sym, ap, ap₂, subst, arith}
 use Rattle.std.specs.Prelude.{All, Some, slice_get}
 use Rattle.std.specs.List.{cons_option, filter_map}
 use Rattle.std.proofs.lemmas.List.{append-nil, map-append, take_more}
@@ -8,9 +8,7 @@ use Rattle.std.proofs.lemmas.List.Elements.{All-nil, All-cons, All-head, All-tai
 use Rattle.std.proofs.lemmas.Option.{get_or_from_slice_get, none-some, same_Some, slice_get-get_or}
 use Rattle.pq_auto.specs.Machine.{Machine, accepted_at}
 use Rattle.pq_fields.specs.Packet.{is_before}
-use Rattle.std.specs.declared.cmp.Ordering.TheVariants.{Less, Equal, Greater}
-use Rattle.std.specs.Ordering.{nat_cmp, is_lt}
-use Rattle.std.specs.Cmp.Lexicographic.{slice_cmp, nat_list_cmp_total}
+use Rattle.pq_lists.proofs.Places.{at_place}
 use Rattle.pq_join.specs.Tags.{captures_at, tagging_of}
 use Rattle.pq_layout.specs.Emission.{instances_at, report_of}
 use Rattle.pq_layout.specs.Tagging.{is_empty, up_to}
@@ -19,8 +17,7 @@ use Rattle.pq_model.specs.Buckets.{Instance, instance_numbers}
 use Rattle.pq_model.specs.Install.{AscendsBy, IsLawfulPair, IsLawfulRow}
 use Rattle.pq_model.specs.Lawful.{Ascends}
 use Rattle.pq_model.specs.TablesMachine.{Row}
-use Rattle.pq_model.proofs.Sorted.{before-cmp}
-use Rattle.pq_emit.proofs.Located.{here_at}
+use Rattle.pq_model.proofs.NumberLists.{before_trans}
 use Rattle.pq_emit.specs.Held.{AreHeldBelow, AreInstances, report_to, row_at}
 
 -- The report.
@@ -62,18 +59,6 @@ one_instance xs ns k x within below is =
 
 -- Instances that ascend.
 
--- an order that is below is Less
-less_from : (o : _) → is_lt o ≡ true → o ≡ Less
-less_from Less is = refl
-less_from Equal is = absurd (true≢false (sym is))
-less_from Greater is = absurd (true≢false (sym is))
-
-before_trans : (xs ys zs : List ℕ) → is_before xs ys ≡ true → is_before ys zs ≡ true → is_before xs zs ≡ true
-before_trans xs ys zs h k =
-    let first = less_from (slice_cmp nat_cmp xs ys) (before-cmp xs ys ∙ h) in
-    let second = less_from (slice_cmp nat_cmp ys zs) (before-cmp ys zs ∙ k) in
-    sym (before-cmp xs zs) ∙ ap is_lt (nat_list_cmp_total.trans xs ys zs first second)
-
 module _ {A : Type 0} (key : A → List ℕ) where
   -- the first is before each later one
   first_before : (x : A) (xs : List A) (j : ℕ) (y : A) → AscendsBy key (x ∷ xs) → slice_get xs j ≡ Some y → is_before (key x) (key y) ≡ true
@@ -97,12 +82,12 @@ module _ {A : Type 0} (key : A → List ℕ) where
   ascend_at : (xs : List A) → AscendsBy key xs → (is : List ℕ) → Ascends is → All (λ i. i < length xs) is → AscendsBy key (filter_map (slice_get xs) is)
   ascend_at xs ascend [] places below = tt
   ascend_at xs ascend (i ∷ []) places below =
-      let one = here_at xs i (All-head (λ i. i < length xs) i [] below) in
+      let one = at_place xs i (All-head (λ i. i < length xs) i [] below) in
       subst (λ o. AscendsBy key (cons_option o [])) (sym one.1) tt
   ascend_at xs ascend (i ∷ j ∷ js) places below =
-      let one = here_at xs i (All-head (λ i. i < length xs) i (j ∷ js) below) in
+      let one = at_place xs i (All-head (λ i. i < length xs) i (j ∷ js) below) in
       let later = All-tail (λ i. i < length xs) i (j ∷ js) below in
-      let two = here_at xs j (All-head (λ i. i < length xs) j js later) in
+      let two = at_place xs j (All-head (λ i. i < length xs) j js later) in
       let rest = filter_map (slice_get xs) js in
       let tail : AscendsBy key (two.0 ∷ rest) = subst (λ o. AscendsBy key (cons_option o rest)) two.1 (ascend_at xs ascend (j ∷ js) places.1 later) in
       let before = before_at xs i j one.0 two.0 ascend places.0 one.1 two.1 in
@@ -114,7 +99,7 @@ module _ {A : Type 0} (key : A → List ℕ) where
   all_at P xs all [] below = All-nil P
   all_at P xs all (i ∷ is) below =
       let within = All-head (λ i. i < length xs) i is below in
-      let one = here_at xs i within in
+      let one = at_place xs i within in
       let is_one : P one.0 = subst P (get_or_from_slice_get xs i one.0 one.0 one.1) (all i one.0 within) in
       subst (λ o. All P (cons_option o (filter_map (slice_get xs) is))) (sym one.1)
       (All-cons P one.0 (filter_map (slice_get xs) is) is_one (all_at P xs all is (All-tail (λ i. i < length xs) i is below)))
@@ -123,7 +108,7 @@ module _ {A : Type 0} (key : A → List ℕ) where
   long_at : (xs : List A) (is : List ℕ) → All (λ i. i < length xs) is → length (filter_map (slice_get xs) is) ≡ length is
   long_at xs [] below = refl
   long_at xs (i ∷ is) below =
-      let one = here_at xs i (All-head (λ i. i < length xs) i is below) in
+      let one = at_place xs i (All-head (λ i. i < length xs) i is below) in
       ap (λ o. length (cons_option o (filter_map (slice_get xs) is))) one.1 ∙ ap suc (long_at xs is (All-tail (λ i. i < length xs) i is below))
 
 -- ascending numbers below a number are no more than it

@@ -26,7 +26,7 @@ use Rattle.pq_emit.specs.Switches.{AreSwitchesAt, IsSoundAt, IsSwitchAt}
 use Rattle.pq_emit.proofs.Located.{switch_located}
 
 -- ids of trees are ids of the store
-within_store : {A L : Type 0} (F : A → Tree L → Type 0) (ts : List (Tree L)) (ks : List A) (ids : List (A × ℕ))
+pub within_store : {A L : Type 0} (F : A → Tree L → Type 0) (ts : List (Tree L)) (ks : List A) (ids : List (A × ℕ))
     → AllZip (λ k p. (p.0 ≡ k) × HasAt (F k) ts p.1) ks ids → All (λ p. p.1 < length ts) ids
 within_store F ts [] [] all = All-nil (λ p. p.1 < length ts)
 within_store F ts [] (p ∷ ids) all = absurd all

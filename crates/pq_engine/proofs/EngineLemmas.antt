@@ -18,7 +18,7 @@ use Rattle.pq_compile.specs.Documents.{DocumentTree}
 use Rattle.pq_compile.specs.Lawful.{names_in}
 use Rattle.pq_compile.specs.Names.{Named}
 use Rattle.pq_compile.specs.Prepared.{HasFewValues, IsClassified, IsCompilable, IsPrepareFault, parts_in}
-use Rattle.pq_compile.proofs.Values.{room}
+use Rattle.pq_compile.proofs.Values.{room, bare_long}
 use Rattle.pq_edit.specs.Edits.{EditTree, PartPut, PartRemoved, QueryPut, QueryRemoved, IsNamedIn, edited, put, without}
 use Rattle.pq_engine.specs.declared.kept.Kept.{Kept}
 use Rattle.pq_engine.specs.declared.parts.PartsChange.{PartsChange}
@@ -31,15 +31,12 @@ use Rattle.pq_engine.specs.Sums.{AwaitsPart, AwaitsRemoval}
 use Rattle.pq_engine.proofs.EditedLemmas.{named_within, put_is, without_is}
 use Rattle.pq_engine.proofs.PlacesLemmas.{map_replaced, place_within, put_at_place, removed_long}
 
-pub bodies_long : {A : Type 0} (ns : List (Named A)) → length (map (λ n. n.1) ns) ≡ length ns
-bodies_long {A} ns = length-map ns (λ (n : Named A). n.1)
-
 -- the parts of a document that states few numbers may come together
 pub parts_fit : (d : DocumentTree) → IsCompilable d → HasFewValues d → FitAsParts d.topology (parts_in d)
 parts_fit d can few = room_for (λ ns within. (within.topology, within.policies)) (room d can few)
 
 pub parts_few : (d : DocumentTree) → IsCompilable d → length (parts_in d) ≤ 1024
-parts_few d can = let few = can.lawful.few_parts in let long = bodies_long d.parts in omega (arith, few, long)
+parts_few d can = let few = can.lawful.few_parts in let long = bare_long d.parts in omega (arith, few, long)
 
 topology_stays : (d : DocumentTree) (e : EditTree) → (edited d e).topology ≡ d.topology
 topology_stays d (PartPut p) = refl
@@ -48,7 +45,7 @@ topology_stays d (QueryPut q) = refl
 topology_stays d (QueryRemoved name) = refl
 
 pub part_within : (d : DocumentTree) (i : ℕ) → i < length d.parts → i < length (parts_in d)
-part_within d i within = let long = bodies_long d.parts in omega (arith, within, long)
+part_within d i within = let long = bare_long d.parts in omega (arith, within, long)
 
 name_place : {A : Type 0} (name : List ℕ) (ns : List (Named A)) → place_in name (names_in ns) ≤ length ns
 name_place {A} name ns =
@@ -83,7 +80,7 @@ module _ (d : DocumentTree) (k : Kept) (is : IsEngine (engine_of d k)) where
     before = parts_in d;
     part = p.1;
     summed = is.summed;
-    within = let within = name_place p.0 d.parts in let long = bodies_long d.parts in omega (arith, at, within, long);
+    within = let within = name_place p.0 d.parts in let long = bare_long d.parts in omega (arith, at, within, long);
     put =
         ap (map (λ n. n.1)) (put_is p d.parts ∙ ap (λ i. replaced i (p ∷ []) d.parts) (sym at))
         ∙ map_replaced (λ (n : Named PolicyTree). n.1) place (p ∷ []) d.parts;
@@ -93,7 +90,7 @@ module _ (d : DocumentTree) (k : Kept) (is : IsEngine (engine_of d k)) where
   removal_awaits name place at there = record {
     before = parts_in d;
     summed = is.summed;
-    within = let within = named_within name d.parts there in let long = bodies_long d.parts in omega (arith, at, within, long);
+    within = let within = named_within name d.parts there in let long = bare_long d.parts in omega (arith, at, within, long);
     fits = parts_fit d is.compilable is.within.within.values;
     removed =
         ap (map (λ n. n.1)) (without_is name d.parts ∙ ap (λ i. replaced i [] d.parts) (sym at))
@@ -135,7 +132,7 @@ module _ (d : DocumentTree) (p : Named PolicyTree) (place before after : ℕ) (a
   part_there : at_place place (parts_in (edited d (PartPut p))) ≡ p.1 ∷ []
   part_there =
       let within = name_place p.0 d.parts in
-      let long = bodies_long d.parts in
+      let long = bare_long d.parts in
       ap (at_place place) (ap (map (λ n. n.1)) (put_is p d.parts ∙ ap (λ i. replaced i (p ∷ []) d.parts) (sym at))
       ∙ map_replaced (λ (n : Named PolicyTree). n.1) place (p ∷ []) d.parts)
       ∙ put_at_place place p.1 (parts_in d) (omega (arith, at, within, long))

@@ -11,8 +11,7 @@ use Rattle.pq_forward.specs.Forward.{IsPolicyWithin, work}
 use Rattle.pq_store.specs.Store.{Keeps}
 use Rattle.pq_store.specs.Tree.{Tree}
 use Rattle.pq_store.proofs.RoomLemmas.{room_for}
-use Rattle.pq_meaning.specs.Parts.{FitAsParts, IsUnionOfParts, part_trees, work_of_parts}
-use Rattle.pq_rewrite.proofs.Standing.{has_still}
+use Rattle.pq_meaning.specs.Parts.{FitAsParts, part_trees, work_of_parts}
 use Rattle.pq_sum.specs.Calls.{IsPuttableAt, IsRemovableAt, IsSameSum}
 use Rattle.pq_sum.specs.Cells.{at_place}
 use Rattle.pq_sum.specs.Places.{IsSummed, Sum}
@@ -21,9 +20,9 @@ use Rattle.pq_sum.proofs.Trees.{tree_still}
 use Rattle.pq_compile.specs.declared.document.Document.{Document}
 use Rattle.pq_compile.specs.Documents.{DocumentTree, document_tree, part_tree}
 use Rattle.pq_compile.specs.Prepared.{HasFewValues, IsCompilable, parts_in}
-use Rattle.pq_compile.proofs.Values.{parts_are}
+use Rattle.pq_compile.proofs.Values.{parts_are, bare_long}
 use Rattle.pq_engine.specs.Sums.{AwaitsPart, AwaitsRemoval}
-use Rattle.pq_engine.proofs.EngineLemmas.{bodies_long, parts_fit}
+use Rattle.pq_engine.proofs.EngineLemmas.{parts_fit}
 use Rattle.pq_engine.proofs.PlacesLemmas.{put_at_place, put_long, put_within, removed_long}
 
 abbrev Trees : Type 0
@@ -61,7 +60,7 @@ part_sliced d ps i same =
     ap (λ n. part_trees (take n (drop i ps))) one ∙ map_at_place (λ (part : List ℕ × Policy). policy_tree part.1) i ps ∙ ap (at_place i) (parts_are d ps same)
 
 pub parts_long : (d : Document) → length (parts_in (document_tree d)) ≡ length d.parts.items
-parts_long d = bodies_long (document_tree d).parts ∙ length-map d.parts.items part_tree
+parts_long d = bare_long (document_tree d).parts ∙ length-map d.parts.items part_tree
 
 pub one_work : (ps : List PolicyTree) (i : ℕ) → i < length ps → work_of_parts (at_place i ps) ≡ sum_by work (at_place i ps)
 one_work ps i within = let one = one_at_place i ps within in omega (arith, one)
@@ -76,13 +75,6 @@ sliced_work d ps i same within =
 
 pub sum_still : (T : Topology) (old new : Trees) → Keeps old new → (ps : List PolicyTree) (s : Sum) → IsSummed T old ps s → IsSummed T new ps s
 sum_still T old new keeps ps s is = record { slotted = is.slotted; sum = tree_still T old new keeps 10 s.cells is.slotted is.sum; placed = is.placed }
-
--- the diagrams of the first parts stay where the store grows
-pub parts_still : (T : Topology) (old new : Trees) → Keeps old new → (ps : List PolicyTree) (ids : List ℕ) → AreParts T old ps ids → AreParts T new ps ids
-parts_still T old new keeps [] [] all = tt
-parts_still T old new keeps [] (id ∷ ids) all = absurd all
-parts_still T old new keeps (p ∷ ps) [] all = absurd all
-parts_still T old new keeps (p ∷ ps) (id ∷ ids) all = (has_still (IsUnionOfParts T (p ∷ [])) old new id keeps all.0, parts_still T old new keeps ps ids all.1)
 
 -- one more diagram
 parts_next : (T : Topology) (ts : Trees) (i : ℕ) (ps : List PolicyTree) (ids : List ℕ) (id : ℕ) → i < length ps
@@ -112,7 +104,7 @@ module _ (d : DocumentTree) (can : IsCompilable d) (few : HasFewValues d) (old n
         let within = put_within place awaits.part awaits.before awaits.within in
         let long = ap length awaits.put in
         let few = can.lawful.few_parts in
-        let bodies = bodies_long d.parts in
+        let bodies = bare_long d.parts in
         omega (arith, within, long, few, bodies);
     fits = subst (FitAsParts d.topology) awaits.put (parts_fit d can few);
   }

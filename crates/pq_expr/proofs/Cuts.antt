@@ -1,20 +1,10 @@
 -- Concatenation and repetition, by the first half step of a word.
-use Rattle.std.proofs.Common.{◌≡◌, ℕ, zero, suc, ◌≤◌, Bool, true, false, ◌&&◌, ◌||◌, ◌⊎◌, inl, inr, List, [], ◌∷◌, length, map, refl, sym, arith, rules, ◌∙◌}
+use Rattle.std.proofs.Common.{◌≡◌, ℕ, zero, suc, ◌≤◌, Bool, true, false, ◌&&◌, ◌||◌, inl, inr, List, [], ◌∷◌, length, map, refl, sym, arith, rules, ◌∙◌}
 use Rattle.std.specs.List.{list_any}
 use Rattle.std.specs.Cmp.{both_ways}
-use Rattle.std.proofs.lemmas.Bool.{or_left, or_right}
+use Rattle.std.proofs.lemmas.Bool.{or_left, or_right, and_parts, or_cases}
 use Rattle.pq_expr.specs.Word.{HalfStep, Word}
 use Rattle.pq_expr.specs.Language.{Language, Cut, cuts, joined, in_pieces, repeated}
-
--- one of two tests passes
-pub either : (a b : Bool) → (a || b) ≡ true → (a ≡ true) ⊎ (b ≡ true)
-either true b h = inl refl
-either false b h = inr h
-
--- both tests pass
-pub both : (a b : Bool) → (a && b) ≡ true → (a ≡ true) × (b ≡ true)
-both true b h = (refl, h)
-both false b h = absurd (search (h, rules))
 
 -- what a language holds behind a half step
 abbrev pub after : HalfStep → Language → Language
@@ -38,10 +28,10 @@ joined_empty P Q = by (P [] && Q []) where
 
 -- a cut stays one where the second language holds more of what can stand behind it
 pub joined_wider : (w : Word) (P Q R : Language) → ((v : Word) → length v ≤ length w → Q v ≡ true → R v ≡ true) → joined P Q w ≡ true → joined P R w ≡ true
-joined_wider [] P Q R wider h = let cut = both (P []) (Q []) (sym (joined_empty P Q) ∙ h) in joined_empty P R ∙ rw (cut.0, wider [] (omega arith) cut.1) refl
+joined_wider [] P Q R wider h = let cut = and_parts (P []) (Q []) (sym (joined_empty P Q) ∙ h) in joined_empty P R ∙ rw (cut.0, wider [] (omega arith) cut.1) refl
 joined_wider (l ∷ w) P Q R wider h =
-    joined_cons P R l w ∙ elim (either _ _ (sym (joined_cons P Q l w) ∙ h)) [
-      | inl front ↦ (let cut = both (P []) (Q (l ∷ w)) front in or_left (P [] && R (l ∷ w)) (joined (after l P) R w) (rw (cut.0, wider (l ∷ w) (omega arith) cut.1) refl))
+    joined_cons P R l w ∙ elim (or_cases _ _ (sym (joined_cons P Q l w) ∙ h)) [
+      | inl front ↦ (let cut = and_parts (P []) (Q (l ∷ w)) front in or_left (P [] && R (l ∷ w)) (joined (after l P) R w) (rw (cut.0, wider (l ∷ w) (omega arith) cut.1) refl))
       | inr later ↦ or_right _ _ (joined_wider w (after l P) Q R (λ v short. wider v (omega (arith, short))) later)
     ]
 
@@ -52,8 +42,8 @@ enough_pieces n (suc k) P [] few h = refl
 enough_pieces n zero P (l ∷ w) few h = absurd (omega (arith, few))
 enough_pieces zero (suc k) P (l ∷ w) few h = absurd (search (h, rules))
 enough_pieces (suc n) (suc k) P (l ∷ w) few h =
-    elim (either _ _ (sym (joined_cons P (in_pieces P n) l w) ∙ h)) [
-      | inl front ↦ enough_pieces n (suc k) P (l ∷ w) few (both (P []) (in_pieces P n (l ∷ w)) front).1
+    elim (or_cases _ _ (sym (joined_cons P (in_pieces P n) l w) ∙ h)) [
+      | inl front ↦ enough_pieces n (suc k) P (l ∷ w) few (and_parts (P []) (in_pieces P n (l ∷ w)) front).1
       | inr later ↦ joined_cons P (in_pieces P k) l w ∙ or_right _ _ (joined_wider w (after l P) (in_pieces P n) (in_pieces P k) (λ v short. enough_pieces n k P v (omega (arith, short, few))) later)
     ]
 
@@ -64,8 +54,8 @@ any_number P n w h = enough_pieces n (length w) P w (omega arith) h
 pieces_later : (n : ℕ) (P : Language) (l : HalfStep) (w : Word) → in_pieces P n (l ∷ w) ≡ true → joined (after l P) (repeated P) w ≡ true
 pieces_later zero P l w h = absurd (search (h, rules))
 pieces_later (suc n) P l w h =
-    elim (either _ _ (sym (joined_cons P (in_pieces P n) l w) ∙ h)) [
-      | inl front ↦ pieces_later n P l w (both (P []) (in_pieces P n (l ∷ w)) front).1
+    elim (or_cases _ _ (sym (joined_cons P (in_pieces P n) l w) ∙ h)) [
+      | inl front ↦ pieces_later n P l w (and_parts (P []) (in_pieces P n (l ∷ w)) front).1
       | inr later ↦ joined_wider w (after l P) (in_pieces P n) (repeated P) (λ v short. any_number P n v) later
     ]
 

@@ -1,26 +1,17 @@
 -- Cuts of words whose half steps come from other things, as from observations.
-use Rattle.std.proofs.Common.{◌≡◌, Bool, true, false, ◌&&◌, inl, inr, List, [], ◌∷◌, ◌++◌, map, refl, sym, ap, ◌∙◌}
-use Rattle.std.proofs.lemmas.Bool.{or_left, or_right}
+use Rattle.std.proofs.Common.{◌≡◌, true, ◌&&◌, inl, inr, List, [], ◌∷◌, ◌++◌, map, refl, sym, ap, ◌∙◌}
+use Rattle.std.proofs.lemmas.Bool.{or_left, or_right, and_parts, or_cases}
+use Rattle.std.proofs.Math.Bool.{and-false, and-true}
 use Rattle.pq_expr.specs.Word.{HalfStep, Word}
 use Rattle.pq_expr.specs.Language.{Language, is_empty, joined}
-use Rattle.pq_expr.proofs.Cuts.{either, both, after, joined_empty, joined_cons}
-
--- a test that fails
-failing : (b : Bool) → (b && false) ≡ false
-failing true = refl
-failing false = refl
-
--- a test that passes
-passing : (b : Bool) → (b && true) ≡ b
-passing true = refl
-passing false = refl
+use Rattle.pq_expr.proofs.Cuts.{after, joined_empty, joined_cons}
 
 -- a joined word is cut where its things are
 pub joined_cut : {A : Type 0} (f : A → HalfStep) (w : List A) (P Q : Language) → joined P Q (map f w) ≡ true → (u : List A) × (v : List A) × (w ≡ u ++ v) × (P (map f u) ≡ true) × (Q (map f v) ≡ true)
-joined_cut f [] P Q h = let cut = both (P []) (Q []) (sym (joined_empty P Q) ∙ h) in ([], [], refl, cut.0, cut.1)
+joined_cut f [] P Q h = let cut = and_parts (P []) (Q []) (sym (joined_empty P Q) ∙ h) in ([], [], refl, cut.0, cut.1)
 joined_cut f (x ∷ w) P Q h =
-    elim (either _ _ (sym (joined_cons P Q (f x) (map f w)) ∙ h)) [
-      | inl front ↦ (let cut = both (P []) (Q (f x ∷ map f w)) front in ([], x ∷ w, refl, cut.0, cut.1))
+    elim (or_cases _ _ (sym (joined_cons P Q (f x) (map f w)) ∙ h)) [
+      | inl front ↦ (let cut = and_parts (P []) (Q (f x ∷ map f w)) front in ([], x ∷ w, refl, cut.0, cut.1))
       | inr later ↦ (let cut = joined_cut f w (after (f x) P) Q later in (x ∷ cut.0, cut.1, ap (λ z. x ∷ z) cut.2, cut.3, cut.4))
     ]
 
@@ -32,5 +23,5 @@ cut_joined f (x ∷ u) v P Q p q = joined_cons P Q (f x) (map f (u ++ v)) ∙ or
 
 -- nothing is joined
 pub joined_last : (P : Language) (w : Word) → joined P is_empty w ≡ P w
-joined_last P [] = joined_empty P is_empty ∙ passing (P [])
-joined_last P (l ∷ w) = joined_cons P is_empty l w ∙ rw (failing (P [])) (joined_last (after l P) w)
+joined_last P [] = joined_empty P is_empty ∙ and-true (P [])
+joined_last P (l ∷ w) = joined_cons P is_empty l w ∙ rw (and-false (P [])) (joined_last (after l P) w)

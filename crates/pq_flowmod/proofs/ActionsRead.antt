@@ -1,6 +1,7 @@
 -- Lawful actions that are spelled are read back.
 use Rattle.std.proofs.Common.{◌≡◌, ℕ, ◌-◌, ◌^◌, ◌<◌, ◌≤◌, List, [], ◌++◌, length, get_or, take, drop, None, Some, refl, sym, ap, ◌∙◌, arith, inl, inr}
 use Rattle.std.proofs.lemmas.List.{take_at, drop_at, take_rest}
+use Rattle.std.proofs.lemmas.Option.{same_Some}
 use Rattle.pq_fields.specs.declared.field.Field.TheVariants.{Switch, Port, EthType, IpProto, EthSrc, EthDst, Ipv4Src, Ipv4Dst, TcpSrc, TcpDst, UdpSrc, UdpDst, Ipv6Src, Ipv6Dst}
 use Rattle.pq_model.specs.declared.action.Action.{Action}
 use Rattle.pq_model.specs.declared.action.Action.TheVariants.{Output, PushVlan, PopVlan, Group, SetVlan, SetField}
@@ -72,9 +73,6 @@ action_told bytes a more law is = rw is (action_sized a more law)
 pub action_long : (a : Action) → IsLawfulAction a → 0 < length (action_bytes a)
 action_long a law = omega (arith, (action_sized a [] law).long)
 
-same_size : (m n : ℕ) → Some m ≡ Some n → m ≡ n
-same_size m n same = cc
-
 same_action : (a b : Action) → Some a ≡ Some b → a ≡ b
 same_action a b same = cc
 
@@ -83,7 +81,7 @@ pub action_is : (rest : List ℕ) (size : ℕ) (action a : Action) (more : List 
     Some size ≡ Some (length (action_bytes a)) → action_in (take size rest) ≡ Some action →
     (action ≡ a) × (take (length rest - size) (drop size rest) ≡ more)
 action_is rest size action a more law is told read =
-    let long : length (action_bytes a) ≡ size = sym (same_size _ _ told) in
+    let long : length (action_bytes a) ≡ size = sym (same_Some _ _ told) in
     let front : take size rest ≡ action_bytes a = ap (take size) is ∙ take_at (action_bytes a) more size long in
     let behind : drop size rest ≡ more = ap (drop size) is ∙ drop_at (action_bytes a) more size long in
     (same_action _ _ (sym read ∙ ap action_in front ∙ action_read a law), take_rest rest size ∙ behind)
@@ -92,7 +90,7 @@ action_is rest size action a more law is told read =
 pub no_action : (rest : List ℕ) (size : ℕ) (a : Action) (more : List ℕ) → IsLawfulAction a → rest ≡ action_bytes a ++ more →
     Some size ≡ Some (length (action_bytes a)) → action_in (take size rest) ≡ None → ⊥
 no_action rest size a more law is told read =
-    let long : length (action_bytes a) ≡ size = sym (same_size _ _ told) in
+    let long : length (action_bytes a) ≡ size = sym (same_Some _ _ told) in
     let front : take size rest ≡ action_bytes a = ap (take size) is ∙ take_at (action_bytes a) more size long in
     let same : None ≡ Some a = sym read ∙ ap action_in front ∙ action_read a law in
     absurd cc

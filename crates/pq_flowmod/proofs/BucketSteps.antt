@@ -1,15 +1,8 @@
 -- The step of a loop over values that are seen by a function of each, as vectors are by their items.
-use Rattle.std.specs.Prelude.{◌≡◌, ℕ, ◌+◌, ◌<◌, List, [], ◌∷◌, ◌++◌, All, map, length, take, get_or}
+use Rattle.std.specs.Prelude.{◌≡◌, ℕ, ◌+◌, ◌<◌, List, [], ◌∷◌, ◌++◌, map, length, take, get_or}
 use Rattle.std.specs.List.{flat_map}
 use Rattle.std.proofs.Common.{ap, sym, ◌∙◌}
-use Rattle.std.proofs.lemmas.List.{map_more, flat_map_more, get_or-map, length-map}
-
--- what holds of all images holds of the image of the element that was read
-pub All-map_read : {V A : Type 0} (vs : List V) (f : V → A) (P : A → Type 0) (i : ℕ) (v : V) → All P (map f vs) → i < length vs → v ≡ get_or vs i v → P (f v)
-All-map_read vs f P i v all below read =
-    let here : P (get_or (map f vs) i (f v)) = all i (f v) (rw length-map below) in
-    let same : get_or (map f vs) i (f v) ≡ f v = get_or-map f vs i v (f v) below ∙ sym (ap f read) in
-    rw same at here
+use Rattle.std.proofs.lemmas.List.{map_more, flat_map_more}
 
 -- what is written grows by the piece of the element that was read
 pub flat_map-map_more : {V A B : Type 0} (vs : List V) (f : V → A) (g : A → List B) (i : ℕ) (v : V) (start : List B) → i < length vs → v ≡ get_or vs i v → (start ++ flat_map g (map f (take i vs))) ++ g (f v) ≡ start ++ flat_map g (map f (take (i + 1) vs))

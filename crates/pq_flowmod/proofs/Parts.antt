@@ -7,6 +7,7 @@ use Rattle.std.proofs.lemmas.Nat.{from_be_bytes-to_be_bytes_8}
 use Rattle.std.proofs.lemmas.List.{take_at, take_rest, drop_at, length-append, length-drop}
 use Rattle.std.proofs.lemmas.List.Elements.{All-cons, All-nil, All-tail}
 use Rattle.std.proofs.lemmas.List.Concat.{flat_map-cons}
+use Rattle.std.proofs.lemmas.Option.{same_Some}
 use Rattle.pq_model.specs.declared.action.Action.{Action}
 use Rattle.pq_model.specs.declared.message.Message.{Message}
 use Rattle.pq_model.specs.declared.message.Message.TheVariants.{Flow, Group as Grouping, Barrier}
@@ -141,14 +142,11 @@ message_parted bytes m more law is =
 pub bucket_told : (bytes : List ℕ) (actions : List Action) (more : List ℕ) → length (bucket_bytes actions) < 2 ^ 16 → bytes ≡ bucket_bytes actions ++ more → IsBucket bytes (actions_bytes actions) (length (bucket_bytes actions))
 bucket_told bytes actions more short is = rw is (bucket_sized actions more short)
 
-bucket_size : (m n : ℕ) → Some m ≡ Some n → m ≡ n
-bucket_size m n same = cc
-
 -- the actions of the bucket at the front, and what follows it
 pub bucket_next : (rest : List ℕ) (size : ℕ) (actions : List Action) (more : List ℕ) → IsReadable actions → rest ≡ bucket_bytes actions ++ more →
     Some size ≡ Some (length (bucket_bytes actions)) → (take (size - 16) (drop 16 rest) ≡ actions_bytes actions) × (take (length rest - size) (drop size rest) ≡ more)
 bucket_next rest size actions more law is told =
-    let long : length (bucket_bytes actions) ≡ size = sym (bucket_size _ _ told) in
+    let long : length (bucket_bytes actions) ≡ size = sym (same_Some _ _ told) in
     let sized = bucket_told rest actions more law.1 is in
     (ap (λ (k : ℕ). take (k - 16) (drop 16 rest)) (sym long) ∙ sized.inside, take_rest rest size ∙ ap (drop size) is ∙ drop_at (bucket_bytes actions) more size long)
 

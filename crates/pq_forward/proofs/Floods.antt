@@ -6,6 +6,7 @@ use Rattle.std.proofs.lemmas.Bool.{eq-eqb, ne_eqb}
 use Rattle.std.proofs.lemmas.Bool.Decides.{eqb_tells}
 use Rattle.std.proofs.lemmas.List.{length-map}
 use Rattle.std.proofs.lemmas.Option.{slice_get_within}
+use Rattle.pq_policy.proofs.Members.{none_in}
 use Rattle.pq_fields.specs.declared.field.Field.{Field}
 use Rattle.pq_fields.specs.declared.field.Field.TheVariants.{Switch, Port}
 use Rattle.pq_fields.specs.Packet.{Numbers, Fit, rank}
@@ -28,10 +29,11 @@ use Rattle.pq_rewrite.specs.Rewriting.{Covers, IsGiven, IsToWrite}
 use Rattle.pq_rewrite.proofs.Given.{any_of}
 use Rattle.pq_rewrite.proofs.Sets.{any_none, given_none}
 use Rattle.pq_forward.specs.Flood.{IsFlood, IsSpread}
-use Rattle.pq_forward.proofs.Joined.{join_ascends, join_first, join_lawful, join_tests, join_value, numbers_few, numbers_of}
+use Rattle.pq_store.proofs.JoinedTrees.{join_ascends, join_first, join_lawful, join_tests, join_value}
+use Rattle.pq_forward.proofs.FewNumbers.{numbers_few, numbers_of}
 use Rattle.pq_forward.proofs.Ports.{without_second}
 use Rattle.pq_forward.proofs.Spreads.{AtOthers}
-use Rattle.pq_forward.proofs.Switches.{AreLawful, contains_first, contains_later, contains_none, datapath_among, datapaths, lawful_there, port_among, ports, ports_count}
+use Rattle.pq_forward.proofs.Switches.{AreLawful, contains_first, contains_later, datapath_among, datapaths, lawful_there, port_among, ports, ports_count}
 
 -- Trees over ports test no switch.
 
@@ -71,7 +73,7 @@ pub record IsFloodOver (met : List SwitchValue) (t : Tree (List Written)) : Type
 flood_none : IsFloodOver [] (Tip [])
 flood_none = record {
   flood = record {
-    giving = λ x fit. given_none x (AtOthers [] x) (λ y given. contains_none given.0 given.1);
+    giving = λ x fit. given_none x (AtOthers [] x) (λ y given. none_in given.0 given.1);
     covers = λ ns into. record {
       tests = λ f v tested. absurd tested;
       writes = λ f n written. absurd (any_none (λ w. written_in f w ≡ Some n) written.2);

@@ -2,7 +2,7 @@ pub mod Conditions
 pub mod Examples
 pub mod Floods
 pub mod Halves
-pub mod Joined
+pub mod FewNumbers
 pub mod Joining
 pub mod Ports
 pub mod Spreads

@@ -7,6 +7,8 @@ use Rattle.std.proofs.lemmas.Bool.Decides.{eqb_tells}
 use Rattle.std.proofs.lemmas.List.{length-append}
 use Rattle.std.proofs.lemmas.List.Elements.{All-head, All-weaker}
 use Rattle.std.proofs.lemmas.Option.{slice_get_within}
+use Rattle.std.proofs.lemmas.List.Kept.{Any-cons}
+use Rattle.pq_lists.proofs.Holding.{all_back}
 use Rattle.pq_fields.specs.declared.field.Field.{Field}
 use Rattle.pq_fields.specs.declared.field.Field.TheVariants.{Port}
 use Rattle.pq_fields.specs.Packet.{Numbers, has_field, is_ipv4, is_tcp, is_udp, number_in}
@@ -23,13 +25,14 @@ use Rattle.pq_store.specs.Room.{IsAmong, IsCounted, IsTestWithin, Within}
 use Rattle.pq_apply.specs.Predicates.{NeedsAmong}
 use Rattle.pq_apply.proofs.Few.{few_fit}
 use Rattle.pq_apply.proofs.Kept.{sides_join}
+use Rattle.pq_apply.proofs.Choices.{one_of_same}
 use Rattle.pq_rewrite.specs.Rewriting.{ChangesAll, IsGiven, IsToWrite, IsWrittenBy}
-use Rattle.pq_rewrite.proofs.Numbers.{stays}
 use Rattle.pq_rewrite.proofs.Single.{alone}
-use Rattle.pq_rewrite.proofs.Sets.{any_first, any_later, any_none}
+use Rattle.pq_rewrite.proofs.Sets.{any_first, any_none}
 use Rattle.pq_forward.specs.Flood.{AreFewPorts, IsSpread, at_others, at_port}
-use Rattle.pq_forward.proofs.Joined.{join_ascends, join_first, join_lawful, join_tests, join_value, numbers_few, numbers_of}
-use Rattle.pq_forward.proofs.Ports.{all_last, all_others, any_of_others, has, last_ascend, others_ascend, others_of, others_of_any, without_second}
+use Rattle.pq_store.proofs.JoinedTrees.{join_ascends, join_first, join_lawful, join_tests, join_value}
+use Rattle.pq_forward.proofs.FewNumbers.{numbers_few, numbers_of}
+use Rattle.pq_forward.proofs.Ports.{all_others, any_of_others, has, last_ascend, others_ascend, others_of, others_of_any, without_second}
 
 -- the port of the packet where it is one of those met so far
 abbrev pub own_port : List ℕ → ℕ → ℕ
@@ -67,7 +70,7 @@ module _ (p : ℕ) (met ps : List ℕ) (n : Tree (List Written)) (up : Rises (p 
   fork_tests : (s : Test) → IsTested s (Fork (Equal Port p) (Tip (at_others p ps)) n) → Any (λ q. s ≡ Equal Port q) (p ∷ met)
   fork_tests s (inl is) = any_first (λ q. s ≡ Equal Port q) p met is
   fork_tests s (inr (inl none)) = absurd none
-  fork_tests s (inr (inr tested)) = any_later (λ q. s ≡ Equal Port q) p met (spread.tests s tested)
+  fork_tests s (inr (inr tested)) = Any-cons (λ q. s ≡ Equal Port q) p met (spread.tests s tested)
 
   -- it may stand before them
   spread_joins : IsPortNumber p → length (p ∷ met) ≤ 4096 → IsJoinable (Equal Port p) (Tip (at_others p ps)) n
@@ -110,7 +113,7 @@ pub record IsSpreadBehind (front ps : List ℕ) (ts : List (Tree (List Written))
 pub behind_all : (front ps : List ℕ) (ts : List (Tree (List Written))) (k : ℕ) → front ≡ ps → slice_get ts k ≡ Some (Tip (at_others 0 ps)) → IsSpreadBehind front ps ts k
 behind_all front ps ts k whole is = record { met = []; all = sym (append-nil front ∙ whole); has = (Tip (at_others 0 ps), is, spread_none ps) }
 
--- the tree stays while the store grows
+-- the tree one_of_same while the store grows
 pub behind_still : (front ps : List ℕ) (old new : List (Tree (List Written))) (k : ℕ) → Keeps old new → IsSpreadBehind front ps old k → IsSpreadBehind front ps new k
 behind_still front ps old new k keeps behind = record {
   met = behind.met;
@@ -134,7 +137,7 @@ module _ (front : List ℕ) (p : ℕ) (ps : List ℕ) (ts : List (Tree (List Wri
 
   -- it is the number of a port
   number_there : All IsPortNumber ps → IsPortNumber p
-  number_there numbers = All-head IsPortNumber p behind.met (all_last IsPortNumber front (p ∷ behind.met) (subst (All IsPortNumber) parts numbers))
+  number_there numbers = All-head IsPortNumber p behind.met (all_back IsPortNumber front (p ∷ behind.met) (subst (All IsPortNumber) parts numbers))
 
   -- its test may stand before the tree
   pub behind_joins : All IsPortNumber ps → AreFewPorts ps
@@ -162,12 +165,12 @@ module _ (front : List ℕ) (p : ℕ) (ps : List ℕ) (ts : List (Tree (List Wri
 on_port : (p : ℕ) (x : Numbers) → on (at_port p) x ≡ record x { port = p }
 on_port p x = λ i. record x {
   port = p;
-  ipv4_src = sym (stays (is_ipv4 x) x.ipv4_src) i;
-  ipv4_dst = sym (stays (is_ipv4 x) x.ipv4_dst) i;
-  tcp_src = sym (stays (is_tcp x) x.tcp_src) i;
-  tcp_dst = sym (stays (is_tcp x) x.tcp_dst) i;
-  udp_src = sym (stays (is_udp x) x.udp_src) i;
-  udp_dst = sym (stays (is_udp x) x.udp_dst) i;
+  ipv4_src = sym (one_of_same (is_ipv4 x) x.ipv4_src) i;
+  ipv4_dst = sym (one_of_same (is_ipv4 x) x.ipv4_dst) i;
+  tcp_src = sym (one_of_same (is_tcp x) x.tcp_src) i;
+  tcp_dst = sym (one_of_same (is_tcp x) x.tcp_dst) i;
+  udp_src = sym (one_of_same (is_udp x) x.udp_src) i;
+  udp_dst = sym (one_of_same (is_udp x) x.udp_dst) i;
 }
 
 -- a port's write fits

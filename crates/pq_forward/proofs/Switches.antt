@@ -5,11 +5,13 @@ use Rattle.std.specs.List.{All, Contains}
 use Rattle.std.proofs.lemmas.List.{length-append, map-append}
 use Rattle.std.proofs.lemmas.List.Elements.{All-head, Contains-append_left, Contains-append_right}
 use Rattle.std.proofs.lemmas.List.Sums.{sum_by-append, sum_by-cons}
+use Rattle.pq_policy.proofs.Members.{none_in}
+use Rattle.pq_lists.proofs.Holding.{all_back}
 use Rattle.pq_model.specs.Install.{IsLawfulSwitch, port_count}
 use Rattle.pq_model.specs.Lawful.{Ascends}
 use Rattle.pq_model.specs.Topology.{Switch, Topology}
 use Rattle.pq_topo.specs.Named.{IsNamedTopology}
-use Rattle.pq_forward.proofs.Ports.{all_last, last_ascend}
+use Rattle.pq_forward.proofs.Ports.{last_ascend}
 
 -- the datapath numbers of switches
 abbrev pub datapaths : List Switch → List ℕ
@@ -39,13 +41,9 @@ module _ {X : Type 0} where
   pub contains_later : (x y : X) (ys : List X) → Contains ys x → Contains (y ∷ ys) x
   contains_later x y ys (k, within, at) = (suc k, omega (arith, within), at)
 
-  -- of none there is none
-  pub contains_none : (x : X) → Contains [] x → ⊥
-  contains_none x (k, within, at) = omega (arith, within)
-
 -- the number of one of the switches is among theirs
 pub datapath_among : (ss : List Switch) (s : Switch) → Contains ss s → Contains (datapaths ss) s.datapath
-datapath_among [] s there = absurd (contains_none s there)
+datapath_among [] s there = absurd (none_in s there)
 datapath_among (r ∷ ss) s there = elim (contains_cases s r ss there) [
   | inl is ↦ subst (λ q. Contains (datapaths (r ∷ ss)) q.datapath) is (contains_first r.datapath (datapaths ss))
   | inr later ↦ contains_later s.datapath r.datapath (datapaths ss) (datapath_among ss s later)
@@ -53,7 +51,7 @@ datapath_among (r ∷ ss) s there = elim (contains_cases s r ss there) [
 
 -- and so is each of its ports
 pub port_among : (ss : List Switch) (s : Switch) (p : ℕ) → Contains ss s → Contains s.ports p → Contains (ports ss) p
-port_among [] s p there port = absurd (contains_none s there)
+port_among [] s p there port = absurd (none_in s there)
 port_among (r ∷ ss) s p there port = elim (contains_cases s r ss there) [
   | inl is ↦ Contains-append_left r.ports (ports ss) p (subst (λ q. Contains q.ports p) (sym is) port)
   | inr later ↦ Contains-append_right r.ports (ports ss) p (port_among ss s p later port)
@@ -71,7 +69,7 @@ pub lawful_there : (T : Topology) (front : List Switch) (s : Switch) (met : List
 lawful_there T front s met named parts =
     let lawful = named.lawful in
     record {
-      switch = All-head IsLawfulSwitch s met (all_last IsLawfulSwitch front (s ∷ met) (subst (All IsLawfulSwitch) parts lawful.switches));
+      switch = All-head IsLawfulSwitch s met (all_back IsLawfulSwitch front (s ∷ met) (subst (All IsLawfulSwitch) parts lawful.switches));
       rise = last_ascend (datapaths front) (datapaths (s ∷ met)) (subst Ascends (ap datapaths parts ∙ map-append (λ r. r.datapath) front (s ∷ met)) lawful.ascending);
       few = omega (arith, lawful.few_switches, ap length parts, length-append front (s ∷ met));
       few_ports = omega (arith, lawful.few_ports, ap port_count parts, sum_by-append (λ r. length r.ports) front (s ∷ met));

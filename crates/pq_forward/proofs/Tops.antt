@@ -18,6 +18,7 @@ use Rattle.pq_store.specs.Tree.Tree.{Tip}
 use Rattle.pq_store.specs.Store.{HasAt}
 use Rattle.pq_store.specs.Room.{IsAmong, IsCounted}
 use Rattle.pq_store.proofs.RoomLemmas.{room_for}
+use Rattle.pq_store.proofs.PrefixNumbers.{with_own}
 use Rattle.pq_apply.specs.Predicates.{NeedsAmong}
 use Rattle.pq_rewrite.specs.Calls.{IsWriting}
 use Rattle.pq_rewrite.specs.Rewriting.{Covers, IsGiven, IsToWrite}
@@ -92,30 +93,13 @@ module _ (T : Topology) where
 
 -- Writes.
 
--- a packet's own number may be put in place of itself
-own_number : (f : Field) (x : Numbers) → with_number f (number_in f x) x ≡ x
-own_number Switch x = refl
-own_number Port x = refl
-own_number EthType x = refl
-own_number IpProto x = refl
-own_number EthSrc x = refl
-own_number EthDst x = refl
-own_number Ipv4Src x = refl
-own_number Ipv4Dst x = refl
-own_number TcpSrc x = refl
-own_number TcpDst x = refl
-own_number UdpSrc x = refl
-own_number UdpDst x = refl
-own_number Ipv6Src x = refl
-own_number Ipv6Dst x = refl
-
 -- a number put where the packet has the field is written
 where_had : (f : Field) (n : ℕ) (x : Numbers) → with_number f (if has_field f x then n else number_in f x) x ≡ written f n x
 where_had f n x = by (has_field f x)
   where
     by : (has : Bool) → with_number f (if has then n else number_in f x) x ≡ (if has then with_number f n x else x)
     by true = refl
-    by false = own_number f x
+    by false = with_own f x
 
 -- one write puts its number where the packet has the field
 one_number : (f : Field) (n : ℕ) (x : Numbers) → is_writable f ≡ true

@@ -1,14 +1,8 @@
 -- Lines for one number more.
-use Rattle.std.proofs.Common.{◌≡◌, ℕ, ◌+◌, List, [], ◌∷◌, ◌++◌, refl, sym, ap, ◌∙◌, suc, zero, append_assoc, arith}
+use Rattle.std.proofs.Common.{◌≡◌, ℕ, ◌+◌, List, ◌++◌, sym, ap, ◌∙◌, suc, append_assoc, arith}
 use Rattle.std.specs.List.{flat_map, join_by, range_with_len}
 use Rattle.std.proofs.lemmas.List.{flat_map_more}
-
--- the next number stands last
-next_number : (a n : ℕ) → range_with_len a (suc n) ≡ range_with_len a n ++ (a + n) ∷ []
-next_number a zero = let same : a + 0 ≡ a = omega arith in rw same refl
-next_number a (suc n) =
-    let same : a + 1 + n ≡ a + suc n = omega arith in
-    ap (λ (xs : List ℕ). a ∷ xs) (next_number (a + 1) n ∙ ap (λ (k : ℕ). range_with_len (a + 1) n ++ k ∷ []) same)
+use Rattle.pq_lists.proofs.Ranges.{range_push}
 
 -- after the lines of numbers from a on comes the next one
 pub line_more : (f : ℕ → List ℕ) (text : List ℕ) (a n j : ℕ) → a + n ≡ j
@@ -16,7 +10,7 @@ pub line_more : (f : ℕ → List ℕ) (text : List ℕ) (a n j : ℕ) → a + n
 line_more f text a n j is =
     let more : suc n ≡ n + 1 = omega arith in
     rw (sym is) (flat_map_more f text (range_with_len a n) (a + n)
-    ∙ ap (λ (xs : List ℕ). text ++ flat_map f xs) (sym (next_number a n) ∙ ap (range_with_len a) more))
+    ∙ ap (λ (xs : List ℕ). text ++ flat_map f xs) (sym (range_push a n) ∙ ap (range_with_len a) more))
 
 -- the first, and then those from two on, are all from one on
 pub joined_from_one : (f : ℕ → List ℕ) (separator text : List ℕ) (n rest : ℕ) → n ≡ rest + 1

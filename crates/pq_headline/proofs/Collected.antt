@@ -16,6 +16,7 @@ use Rattle.pq_model.specs.Tagged.{TaggedPacket, tagged_numbers}
 use Rattle.pq_model.specs.Word.{Out, Word}
 use Rattle.pq_model.proofs.Reorderings.{all-reordering, reordering-refl, reordering-sym, reordering-trans}
 use Rattle.pq_model.proofs.Sorted.{Rises, order, sort-rises}
+use Rattle.pq_model.proofs.NumberLists.{same_piece}
 use Rattle.pq_layout.specs.Emission.{instances_at, report_of}
 use Rattle.pq_layout.specs.Tagging.{Tagging, IsTagging, captures, tag_of}
 use Rattle.pq_headline.specs.LaidOut.{IsAccepted}
@@ -24,7 +25,7 @@ use Rattle.pq_headline.proofs.Keys.{entries_tell, first_ahead, instances_decide,
 use Rattle.pq_headline.proofs.Paths.{left_path}
 use Rattle.pq_headline.proofs.Reordered.{reordering-both, reordering-cons, reordering-turned, reordering-flat_map, reordering-map, sort-reorders}
 use Rattle.pq_headline.proofs.Rows.{instances_of_numbers, none_of_tag, row_of_tag}
-use Rattle.pq_headline.proofs.SortedTo.{below, same_first, sorts_to}
+use Rattle.pq_headline.proofs.SortedTo.{below, sorts_to}
 
 -- what a copy to the collector adds
 abbrev pub collected_of : Report → TaggedPacket → List BucketEntry
@@ -132,7 +133,7 @@ module _ {A : Type 0} (key : A → List ℕ) where
 
 module _ (i : Instance) where
   same_instance : (x y : Numbers) → below entry_numbers (entry y i) (entry x i) ≡ is_before (numbers y) (numbers x)
-  same_instance x y = same_first (instance_numbers i) (numbers y) (numbers x)
+  same_instance x y = same_piece (instance_numbers i) (numbers y) (numbers x)
 
   none_of_instance : (x : Numbers) (ys : List Numbers) → NoneBelow numbers x ys → NoneBelow entry_numbers (entry x i) (map (λ y. entry y i) ys)
   none_of_instance x [] none = tt

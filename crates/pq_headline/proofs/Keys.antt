@@ -1,5 +1,5 @@
 -- The keys by which packets, copies and bucket entries are sorted tell them apart.
-use Rattle.std.proofs.Common.{◌≡◌, ◌∙◌, ◌+◌, Bool, true, false, ◌&&◌, ◌||◌, ◌==◌, nat_lt, ℕ, List, [], ◌∷◌, ◌++◌, map, refl, sym, ap, arith}
+use Rattle.std.proofs.Common.{◌≡◌, ◌+◌, Bool, true, false, ◌&&◌, ◌||◌, ◌==◌, nat_lt, ℕ, List, [], ◌∷◌, ◌++◌, map, refl, sym, ap, arith}
 use Rattle.std.specs.declared.option.Option.{Option}
 use Rattle.std.specs.declared.option.Option.TheVariants.{None, Some}
 use Rattle.std.specs.List.{AllByRecursion}
@@ -9,8 +9,7 @@ use Rattle.pq_fields.specs.Packet.{Numbers, is_before, numbers}
 use Rattle.pq_model.specs.Buckets.{Instance, BucketEntry, instance_numbers, entry_numbers}
 use Rattle.pq_model.specs.Install.{AscendsBy}
 use Rattle.pq_model.specs.Tagged.{TaggedPacket, tagged_numbers, vlan_key}
-use Rattle.pq_model.proofs.Sorted.{before_is_order}
-use Rattle.pq_headline.proofs.SortedTo.{longer_before}
+use Rattle.pq_model.proofs.NumberLists.{by_piece, before_trans}
 
 -- no list of numbers is before itself
 pub before_itself : (ks : List ℕ) → is_before ks ks ≡ false
@@ -19,15 +18,6 @@ before_itself (k ∷ ks) =
     let below : nat_lt k k ≡ false = grind (arith, nat_tests) in
     let same : (k == k) ≡ true = grind (arith, nat_tests) in
     (λ i. below i || (same i && before_itself ks i))
-
-pub before_trans : (ks ls ms : List ℕ) → is_before ks ls ≡ true → is_before ls ms ≡ true → is_before ks ms ≡ true
-before_trans ks ls ms d e = by (is_before ks ms) refl
-  where
-    by : (b : Bool) → is_before ks ms ≡ b → b ≡ true
-    by true is = refl
-    by false is =
-        let o = before_is_order (λ (l : List ℕ). l) in
-        sym (o.chain ks ms ls is (o.one_way ls ms e)) ∙ d
 
 module _ {A : Type 0} (key : A → List ℕ) where
   -- the first of an ascending list is before all others
@@ -105,7 +95,7 @@ tagged_tell x y same =
 
 -- packets decide before their headers
 pub packets_decide : (x y : TaggedPacket) → is_before (numbers x.packet) (numbers y.packet) ≡ true → is_before (tagged_numbers x) (tagged_numbers y) ≡ true
-packets_decide x y = longer_before (numbers x.packet) (numbers y.packet) (vlan_key x.vlan ∷ []) (vlan_key y.vlan ∷ []) refl
+packets_decide x y = by_piece (numbers x.packet) (numbers y.packet) (vlan_key x.vlan ∷ []) (vlan_key y.vlan ∷ []) refl
 
 -- the numbers of a label
 abbrev label_numbers : List ℕ → List ℕ

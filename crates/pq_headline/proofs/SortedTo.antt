@@ -1,47 +1,16 @@
 -- Keys that tell values apart: a list in another order sorts to the one that rises.
-use Rattle.std.proofs.Common.{◌≡◌, ◌∙◌, Bool, true, false, cond, not, ◌&&◌, ◌||◌, ◌==◌, nat_lt, ℕ, List, [], ◌∷◌, ◌++◌, length, filter, refl, sym, ap, arith}
+use Rattle.std.proofs.Common.{◌≡◌, ◌∙◌, Bool, true, false, cond, not, ◌&&◌, ℕ, List, [], ◌∷◌, ◌++◌, filter, refl, sym, ap}
 use Rattle.std.specs.List.{AllByRecursion}
 use Rattle.std.specs.List.Sorted.{ties}
 use Rattle.std.proofs.lemmas.Bool.{true≢false}
-use Rattle.std.proofs.lemmas.Bool.Decides.{nat_tests}
 use Rattle.pq_fields.specs.Packet.{is_before}
 use Rattle.pq_model.specs.Install.{AscendsBy}
 use Rattle.pq_model.specs.Orders.{IsReordering}
 use Rattle.pq_model.specs.Sorting.{sort_by}
 use Rattle.pq_model.proofs.Reorderings.{all-front, all-reordering, reordering-filter, reordering-sym, reordering-trans}
 use Rattle.pq_model.proofs.Sorted.{Rises, all_above, order, same_risen, sort-rises}
+use Rattle.pq_model.proofs.NumberLists.{same_list}
 use Rattle.pq_headline.proofs.Reordered.{sort-reorders}
-
--- lists of numbers of which neither is before the other are the same
-pub neither_before : (ks ls : List ℕ) → is_before ks ls ≡ false → is_before ls ks ≡ false → ks ≡ ls
-neither_before [] [] d e = refl
-neither_before [] (l ∷ ls) d e = absurd (true≢false d)
-neither_before (k ∷ ks) [] d e = absurd (true≢false e)
-neither_before (k ∷ ks) (l ∷ ls) d e =
-    let first : k ≡ l = grind (arith, nat_tests) in
-    let left : is_before ks ls ≡ false = grind (arith, nat_tests) in
-    let right : is_before ls ks ≡ false = grind (arith, nat_tests) in
-    λ i. first i ∷ neither_before ks ls left right i
-
--- of lists of one length the first that differs decides, whatever follows
-pub longer_before : (ks ls us vs : List ℕ) → length ks ≡ length ls → is_before ks ls ≡ true → is_before (ks ++ us) (ls ++ vs) ≡ true
-longer_before [] [] us vs same e = absurd (true≢false (sym e))
-longer_before [] (l ∷ ls) us vs same e = absurd (omega arith)
-longer_before (k ∷ ks) [] us vs same e = absurd (omega arith)
-longer_before (k ∷ ks) (l ∷ ls) us vs same e = by (nat_lt k l) (k == l) (is_before ks ls) e (longer_before ks ls us vs (omega arith))
-  where
-    by : (b c d : Bool) → b || (c && d) ≡ true → (d ≡ true → is_before (ks ++ us) (ls ++ vs) ≡ true) → b || (c && is_before (ks ++ us) (ls ++ vs)) ≡ true
-    by true c d e more = refl
-    by false true d e more = more e
-    by false false d e more = e
-
--- the same numbers first leave the decision to what follows
-pub same_first : (ks us vs : List ℕ) → is_before (ks ++ us) (ks ++ vs) ≡ is_before us vs
-same_first [] us vs = refl
-same_first (k ∷ ks) us vs =
-    let below : nat_lt k k ≡ false = grind (arith, nat_tests) in
-    let same : (k == k) ≡ true = grind (arith, nat_tests) in
-    (λ i. below i || (same i && same_first ks us vs i))
 
 module _ {A : Type 0} where
   -- a value moves to the front of a list of it alone
@@ -78,7 +47,7 @@ module _ {A : Type 0} (key : A → List ℕ) where
         by : (b c : Bool) → below z x ≡ b → below x z ≡ c → not b && not c ≡ true → x ≡ z
         by true c p q e = absurd (true≢false (sym e))
         by false true p q e = absurd (true≢false (sym e))
-        by false false p q e = sym (tells z x (neither_before (key z) (key x) p q))
+        by false false p q e = sym (tells z x (same_list (key z) (key x) p q))
 
     all_tied : (z : A) (xs : List A) → AllByRecursion (λ w. w ≡ z) (filter (ties below z) xs)
     all_tied z [] = tt

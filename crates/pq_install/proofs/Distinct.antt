@@ -1,12 +1,8 @@
 -- What may follow values that differ.
-use Rattle.std.specs.Prelude.{◌≡◌, Bool, true, false, ◌||◌, ◌↔◌, List, [], ◌∷◌, ◌++◌}
+use Rattle.std.specs.Prelude.{◌≡◌, Bool, false, ◌↔◌, List, [], ◌∷◌, ◌++◌}
 use Rattle.std.proofs.Common.{refl}
 use Rattle.std.specs.List.{IsDistinct, list_any, AllByRecursion}
-
--- a test that neither of two tests tells
-neither : (a b : Bool) → (a || b) ≡ false → (a ≡ false) × (b ≡ false)
-neither false b e = (refl, e)
-neither true b e = absurd cc
+use Rattle.std.proofs.lemmas.Bool.{or_parts}
 
 module _ {X : Type 0} (same : X → X → Bool) where
   none_more : (y : X) (xs : List X) (x : X) → AllByRecursion (λ z. same y z ≡ false) (xs ++ x ∷ []) ↔ AllByRecursion (λ z. same y z ≡ false) xs × (same y x ≡ false)
@@ -22,4 +18,4 @@ module _ {X : Type 0} (same : X → X → Bool) where
   distinct_more (y ∷ ys) x =
       let first = none_more y ys x in
       let later = distinct_more ys x in
-      (λ d. let f = first.0 d.0 in let l = later.0 d.1 in ((f.0, l.0), rw (f.1, l.1) refl), λ d. let n = neither (same y x) (list_any (λ z. same z x) ys) d.1 in (first.1 (d.0.0, n.0), later.1 (d.0.1, n.1)))
+      (λ d. let f = first.0 d.0 in let l = later.0 d.1 in ((f.0, l.0), rw (f.1, l.1) refl), λ d. let n = or_parts (same y x) (list_any (λ z. same z x) ys) d.1 in (first.1 (d.0.0, n.0), later.1 (d.0.1, n.1)))

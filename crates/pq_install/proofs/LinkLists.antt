@@ -1,10 +1,11 @@
 -- Which link may follow others.
-use Rattle.std.specs.Prelude.{◌≡◌, ℕ, ◌↔◌, Bool, true, false, IsTrue, ◌||◌, ◌==◌, ◌⊎◌, List, [], ◌∷◌, ◌++◌, All}
+use Rattle.std.specs.Prelude.{◌≡◌, ℕ, ◌↔◌, Bool, true, false, IsTrue, ◌||◌, ◌==◌, List, [], ◌∷◌, ◌++◌, All}
 use Rattle.std.proofs.Common.{arith, inl, inr, refl, sym, ap, ◌∙◌, append_assoc}
 use Rattle.std.specs.List.{IsDistinct, list_any}
 use Rattle.std.proofs.lemmas.Bool.Decides.{nat_tests}
 use Rattle.std.proofs.lemmas.Grind.{flat_map-append}
 use Rattle.std.proofs.lemmas.List.Elements.{All-tail}
+use Rattle.std.proofs.lemmas.Bool.{or_cases}
 use Rattle.pq_fields.specs.Packet.{is_before}
 use Rattle.pq_model.specs.MatchFields.{IsPortNumber}
 use Rattle.pq_model.specs.Topology.{Switch, Link, ports_in}
@@ -57,14 +58,10 @@ link_follows ss before l are =
           (lawful, (chain.0 ((up (before ++ l ∷ [])).0 all.ascending)).1, once.1, once.2),
     )
 
-either : (a b : Bool) → (a || b) ≡ true → (a ≡ true) ⊎ (b ≡ true)
-either true b e = inl refl
-either false b e = inr e
-
 port_among : (ps : List ℕ) (p : ℕ) → All IsPortNumber ps → list_any (λ q. q == p) ps ≡ true → IsU32 p
 port_among [] p fit there = absurd cc
 port_among (q ∷ qs) p fit there =
-    elim (either (q == p) (list_any (λ r. r == p) qs) there) [
+    elim (or_cases (q == p) (list_any (λ r. r == p) qs) there) [
       | inl here ↦ let same : q ≡ p = grind (arith, nat_tests, here) in omega (arith, same, (fit 0 q (omega arith)).1)
       | inr later ↦ port_among qs p (All-tail IsPortNumber q qs fit) later
     ]

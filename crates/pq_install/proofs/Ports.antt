@@ -1,24 +1,20 @@
 -- Ports that ascend.
-use Rattle.std.specs.Prelude.{◌≡◌, ◌≢◌, ℕ, ◌<◌, ◌≤◌, ◌&&◌, ◌↔◌, Bool, true, false, IsTrue, List, [], ◌∷◌, All, length, nat_lt, refl}
+use Rattle.std.specs.Prelude.{◌≡◌, ◌≢◌, ℕ, ◌<◌, ◌≤◌, ◌&&◌, ◌↔◌, true, IsTrue, List, [], ◌∷◌, All, length, nat_lt, refl}
 use Rattle.std.proofs.Common.{arith}
 use Rattle.std.proofs.lemmas.Bool.Decides.{nat_tests}
 use Rattle.std.proofs.lemmas.List.Elements.{All-cons, All-tail}
+use Rattle.std.proofs.lemmas.Bool.{and_parts}
 use Rattle.pq_model.specs.Lawful.{Ascends}
 use Rattle.pq_model.specs.MatchFields.{IsPortNumber}
 use Rattle.pq_topo.proofs.Ascending.{rest_ascends}
 use Rattle.pq_install.specs.Switches.{are_ports_above, ArePorts}
 
--- a test that two tests both tell
-pub both_tests : (a b : Bool) → (a && b) ≡ true → (a ≡ true) × (b ≡ true)
-both_tests true b e = (refl, e)
-both_tests false b e = absurd cc
-
 -- ports that the test lets through ascend from above the number
 let_through : (last : ℕ) (ps : List ℕ) → are_ports_above last ps ≡ true → Ascends (last ∷ ps) × All IsPortNumber ps
 let_through last [] e = (tt, λ k d below. absurd (omega (arith, below)))
 let_through last (p ∷ ps) e =
-    let parts = both_tests (nat_lt last p && nat_lt p 0xffffff01) (are_ports_above p ps) e in
-    let bounds = both_tests (nat_lt last p) (nat_lt p 0xffffff01) parts.0 in
+    let parts = and_parts (nat_lt last p && nat_lt p 0xffffff01) (are_ports_above p ps) e in
+    let bounds = and_parts (nat_lt last p) (nat_lt p 0xffffff01) parts.0 in
     let above : last < p = grind (arith, nat_tests, bounds.0) in
     let small : p < 0xffffff01 = grind (arith, nat_tests, bounds.1) in
     let later = let_through p ps parts.1 in

@@ -6,8 +6,8 @@ use Rattle.std.specs.List.{list_all}
 use Rattle.std.proofs.lemmas.Bool.Decides.{nat_tests}
 use Rattle.std.proofs.lemmas.Fmt.{decimal_by_steps, decimal_nonempty, length-decimal-le}
 use Rattle.std.proofs.lemmas.List.Folds.{list_all-append}
+use Rattle.std.proofs.lemmas.Bool.{and_parts}
 use Rattle.pq_term.specs.Bytes.{is_word_byte}
-use Rattle.pq_install.proofs.Ports.{both_tests}
 use Rattle.pq_term.specs.Names.{is_name}
 
 -- each is a digit
@@ -23,14 +23,14 @@ digit_is_word_byte d e = rw e refl
 digits_are_word_bytes : (ds : List ℕ) → are_digits ds ≡ true → list_all is_word_byte ds ≡ true
 digits_are_word_bytes [] e = refl
 digits_are_word_bytes (d ∷ ds) e =
-    let parts = both_tests (is_ascii_digit d) (are_digits ds) e in
+    let parts = and_parts (is_ascii_digit d) (are_digits ds) e in
     rw (digit_is_word_byte d parts.0, digits_are_word_bytes ds parts.1) refl
 
 -- `n` and digits are a word that is not reserved
 name_of_digits : (ds : List ℕ) → are_digits ds ≡ true → 0 < length ds → length ds < 32 → is_name (codes "n" ++ ds) ≡ true
 name_of_digits [] digits some few = absurd (omega (arith, some))
 name_of_digits (d ∷ ds) digits some few =
-    let parts = both_tests (is_ascii_digit d) (are_digits ds) digits in
+    let parts = and_parts (is_ascii_digit d) (are_digits ds) digits in
     let short : nat_lt (length (d ∷ ds)) 32 ≡ true = grind (arith, nat_tests, few) in
     let no_o : (111 == d) ≡ false = grind (arith, nat_tests, parts.0) in
     rw (short, digits_are_word_bytes (d ∷ ds) digits, no_o) refl

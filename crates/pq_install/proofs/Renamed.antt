@@ -84,7 +84,7 @@ topology_as_read t lawful = record {
   };
 }
 
-few_rows : (queries : ℕ) (rows : List Row) → All (IsLawfulRow queries) rows → Ascends (map (λ row. row.tag) rows) → length rows ≤ 4094
+pub few_rows : (queries : ℕ) (rows : List Row) → All (IsLawfulRow queries) rows → Ascends (map (λ row. row.tag) rows) → length rows ≤ 4094
 few_rows queries [] each up = omega arith
 few_rows queries (row ∷ rows) each up =
     let tags : List ℕ = map (λ r. r.tag) (row ∷ rows) in

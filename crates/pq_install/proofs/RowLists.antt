@@ -4,13 +4,13 @@ use Rattle.std.proofs.Common.{arith, refl}
 use Rattle.std.specs.List.{list_all}
 use Rattle.std.proofs.lemmas.Bool.Decides.{nat_tests}
 use Rattle.std.proofs.lemmas.List.Elements.{All-cons, All-tail}
+use Rattle.std.proofs.lemmas.Bool.{and_parts}
 use Rattle.pq_model.specs.Buckets.{Instance}
 use Rattle.pq_model.specs.TablesMachine.{Row}
 use Rattle.pq_model.specs.Install.{IsLawfulPair, IsLawfulRow}
 use Rattle.pq_install.specs.Following.{AtLast}
 use Rattle.pq_install.specs.Rows.{AreReadRows, HasNumbers, HasPairs}
 use Rattle.pq_install.proofs.Chains.{chain_more, ascending_chain}
-use Rattle.pq_install.proofs.Ports.{both_tests}
 use Rattle.pq_install.proofs.UnitLists.{all_more}
 
 -- the test on the queries of instances tells whether they are lawful
@@ -19,7 +19,7 @@ lawful_pairs queries [] fit = (λ e. λ k d below. absurd (omega (arith, below))
 lawful_pairs queries (i ∷ is) fit =
     let later = lawful_pairs queries is (All-tail HasNumbers i is fit) in
     let here = fit 0 i (omega arith) in (
-      λ e. let parts = both_tests (nat_lt i.query queries) (list_all (λ j. nat_lt j.query queries) is) e in All-cons (IsLawfulPair queries) i is (grind (arith, nat_tests, parts.0), here.1.0, here.1.1) (later.0 parts.1),
+      λ e. let parts = and_parts (nat_lt i.query queries) (list_all (λ j. nat_lt j.query queries) is) e in All-cons (IsLawfulPair queries) i is (grind (arith, nat_tests, parts.0), here.1.0, here.1.1) (later.0 parts.1),
       λ all. let first : nat_lt i.query queries ≡ true = grind (arith, nat_tests, (all 0 i (omega arith)).0) in rw (first, later.1 (All-tail (IsLawfulPair queries) i is all)) refl,
     )
 

@@ -1,6 +1,7 @@
 -- What the trees of the first table say.
 use Rattle.std.proofs.Common.{ℕ, suc, ◌<◌, ◌^◌, ◌-◌, ◌≡◌, ◌∙◌, not, List, [], length, Option, None, Some, get_or, if◌then◌else◌, sym, ap, arith, lt-ltb}
 use Rattle.std.specs.Option.{unwrap_or}
+use Rattle.pq_lists.proofs.Paired.{zip_weaker}
 use Rattle.pq_fields.specs.Packet.{Fit, Numbers}
 use Rattle.pq_model.specs.Install.{IsLawfulTopology}
 use Rattle.pq_model.specs.Topology.{Topology, is_edge, is_linked}
@@ -20,7 +21,7 @@ use Rattle.pq_join.specs.Arriving.{ArrivesAt, MakesAt, arrival_of}
 use Rattle.pq_join.specs.Sight.{IsSight, seen_of}
 use Rattle.pq_join.specs.Tags.{arrive_at, captures_at, next_class, tagging_of}
 use Rattle.pq_join.proofs.Linking.{edge_comes_in, link_comes_in}
-use Rattle.pq_join.proofs.Tagged.{class_again, zip_weaker}
+use Rattle.pq_join.proofs.Tagged.{class_again}
 
 -- a packet at a switch is a packet
 pub at_switch_fits : (d : ℕ) (x : Numbers) → d < 2 ^ 64 → Fit x → Fit (at_switch d x)

@@ -16,7 +16,7 @@ use Rattle.pq_store.specs.Tree.{Tree, IsTested, value}
 use Rattle.pq_store.specs.Tree.Tree.{Tip, Fork}
 use Rattle.pq_store.specs.Room.{HasRoom, Within}
 use Rattle.pq_store.specs.Store.{Keeps, ShowsBranch}
-use Rattle.pq_store.proofs.Elements.{at_place}
+use Rattle.pq_lists.proofs.Places.{at_place}
 use Rattle.pq_store.proofs.RoomLemmas.{room_for}
 use Rattle.pq_apply.specs.Memo.{Remembers}
 use Rattle.pq_apply.specs.Product.{FitTogetherAt, IsProduct}

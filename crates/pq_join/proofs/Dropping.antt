@@ -7,7 +7,7 @@ use Rattle.pq_store.specs.declared.test.Test.TheVariants.{Equal}
 use Rattle.pq_store.specs.Tree.{Tree, value}
 use Rattle.pq_store.specs.Room.{Within}
 use Rattle.pq_store.specs.Store.{Keeps}
-use Rattle.pq_store.proofs.Elements.{at_place}
+use Rattle.pq_lists.proofs.Places.{at_place}
 use Rattle.pq_store.proofs.RoomLemmas.{room_for}
 use Rattle.pq_apply.specs.Product.{FitTogetherAt, IsProduct}
 use Rattle.pq_apply.specs.Restriction.{RestrictsAt}

@@ -3,6 +3,7 @@ use Rattle.std.proofs.Common.{ℕ, suc, ◌<◌, ◌^◌, ◌-◌, ◌≡◌, �
 use Rattle.std.specs.Prelude.{slice_get}
 use Rattle.std.specs.List.{All, filter, flat_map}
 use Rattle.std.proofs.lemmas.List.Elements.{All-head, All-tail}
+use Rattle.pq_lists.proofs.Paired.{zip_weaker}
 use Rattle.pq_fields.specs.declared.field.Field.TheVariants.{Switch}
 use Rattle.pq_fields.specs.Packet.{Fit, Numbers}
 use Rattle.pq_fields.specs.Writes.{AllFit, Written, no_writes, on}
@@ -33,7 +34,6 @@ use Rattle.pq_join.specs.Sight.{IsSight, seen_of}
 use Rattle.pq_join.specs.Tags.{next_class, tagging_of}
 use Rattle.pq_join.proofs.Arrivals.{at_switch_fits, captures_told, letter_below, next_told}
 use Rattle.pq_join.proofs.Puts.{put_is_on}
-use Rattle.pq_join.proofs.Tagged.{zip_weaker}
 
 -- Departures by writes.
 

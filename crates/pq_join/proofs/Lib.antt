@@ -3,7 +3,6 @@ pub mod Departed
 pub mod Dropping
 pub mod Fronts
 pub mod Guards
-pub mod Joins
 pub mod Lacking
 pub mod Leavings
 pub mod Linking

@@ -4,8 +4,10 @@ use Rattle.std.specs.Prelude.{slice_get}
 use Rattle.std.specs.List.{All, Any, list_any, push}
 use Rattle.std.proofs.lemmas.Bool.{eq-eqb, ne_eqb}
 use Rattle.std.proofs.lemmas.Bool.Decides.{eqb_tells}
-use Rattle.std.proofs.lemmas.List.Elements.{All-get_or, All-head, All-tail}
+use Rattle.std.proofs.lemmas.List.Elements.{All-get_or, All-head}
 use Rattle.std.proofs.lemmas.Option.{slice_get_within}
+use Rattle.std.proofs.lemmas.List.Kept.{Any-cons}
+use Rattle.pq_lists.proofs.Holding.{all_back}
 use Rattle.pq_fields.specs.declared.field.Field.{Field}
 use Rattle.pq_fields.specs.declared.field.Field.TheVariants.{Port}
 use Rattle.pq_fields.specs.Packet.{Numbers}
@@ -22,11 +24,11 @@ use Rattle.pq_store.specs.Room.{HasRoom, IsAmong, IsTestWithin, Within}
 use Rattle.pq_topo.proofs.Ascending.{rest_ascends}
 use Rattle.pq_apply.proofs.Few.{few_fit}
 use Rattle.pq_apply.proofs.Kept.{sides_join}
-use Rattle.pq_rewrite.proofs.Sets.{any_first, any_later}
+use Rattle.pq_rewrite.proofs.Sets.{any_first}
 use Rattle.pq_join.specs.declared.ports.PortKind.{PortKind}
 use Rattle.pq_join.specs.declared.ports.PortKind.TheVariants.{Missing}
 use Rattle.pq_join.specs.Ports.{IsPortTree, own_kind}
-use Rattle.pq_join.proofs.Joins.{join_ascends, join_first, join_lawful, join_tests, join_value}
+use Rattle.pq_store.proofs.JoinedTrees.{join_ascends, join_first, join_lawful, join_tests, join_value}
 
 -- a list ascends without its second number
 without_second : (p q : ℕ) (qs : List ℕ) → Rises (p ∷ q ∷ qs) → Rises (p ∷ qs)
@@ -37,11 +39,6 @@ without_second p q (r ∷ rs) up = (omega (arith, up.0, up.1.0), up.1.1)
 last_rise : (ps qs : List ℕ) → Rises (ps ++ qs) → Rises qs
 last_rise [] qs up = up
 last_rise (p ∷ ps) qs up = last_rise ps qs (rest_ascends p (ps ++ qs) up)
-
--- what holds of all holds of those behind some
-all_last : {X : Type 0} (P : X → Type 0) (xs ys : List X) → All P (xs ++ ys) → All P ys
-all_last P [] ys all = all
-all_last P (x ∷ xs) ys all = all_last P xs ys (All-tail P x (xs ++ ys) all)
 
 -- what each of these ports is, and missing where the number is none of them
 abbrev pub kind_among : (ℕ → PortKind) → List ℕ → ℕ → PortKind
@@ -80,7 +77,7 @@ module _ (kind : ℕ → PortKind) (p : ℕ) (met : List ℕ) (n : Tree PortKind
   fork_tests : (s : Test) → IsTested s (Fork (Equal Port p) (Tip (kind p)) n) → Any (λ q. s ≡ Equal Port q) (p ∷ met)
   fork_tests s (inl is) = any_first (λ q. s ≡ Equal Port q) p met is
   fork_tests s (inr (inl none)) = absurd none
-  fork_tests s (inr (inr tested)) = any_later (λ q. s ≡ Equal Port q) p met (over.tests s tested)
+  fork_tests s (inr (inr tested)) = Any-cons (λ q. s ≡ Equal Port q) p met (over.tests s tested)
 
   -- it may stand before them
   over_joins : IsPortNumber p → HasRoom (λ ns. All (λ q. IsAmong q (ns Port)) (p ∷ met)) → IsJoinable (Equal Port p) (Tip (kind p)) n
@@ -145,7 +142,7 @@ module _ (kind : ℕ → PortKind) (front : List ℕ) (p : ℕ) (ps : List ℕ) 
 
   -- it is the number of a port
   number_there : All IsPortNumber ps → IsPortNumber p
-  number_there numbers = All-head IsPortNumber p behind.met (all_last IsPortNumber front (p ∷ behind.met) (subst (All IsPortNumber) parts numbers))
+  number_there numbers = All-head IsPortNumber p behind.met (all_back IsPortNumber front (p ∷ behind.met) (subst (All IsPortNumber) parts numbers))
 
   -- its test may stand before the tree
   pub behind_joins : All IsPortNumber ps → HasRoom (λ ns. All (λ q. IsAmong q (ns Port)) ps)
@@ -158,7 +155,7 @@ module _ (kind : ℕ → PortKind) (front : List ℕ) (p : ℕ) (ps : List ℕ) 
       room_there room = record {
         numbers = room.numbers;
         few = room.few;
-        within = let among : ℕ → Type 0 = λ q. IsAmong q (room.numbers Port) in all_last among front (p ∷ behind.met) (subst (All among) parts room.within);
+        within = let among : ℕ → Type 0 = λ q. IsAmong q (room.numbers Port) in all_back among front (p ∷ behind.met) (subst (All among) parts room.within);
       }
 
   -- and joined it tells this port too

@@ -3,36 +3,20 @@ use Rattle.std.proofs.Common.{ℕ, ◌<◌, ◌≡◌, ◌∙◌, List, [], ◌�
 use Rattle.std.proofs.lemmas.Option.{slice_get_within}
 use Rattle.std.specs.Option.{unwrap_or}
 use Rattle.pq_fields.specs.declared.field.Field.{Field}
-use Rattle.pq_fields.specs.declared.field.Field.TheVariants.{Switch, Port, EthType, IpProto, EthSrc, EthDst, Ipv4Src, Ipv4Dst, TcpSrc, TcpDst, UdpSrc, UdpDst, Ipv6Src, Ipv6Dst}
+use Rattle.pq_fields.specs.declared.field.Field.TheVariants.{Port, EthSrc, EthDst, Ipv4Src, Ipv4Dst, TcpSrc, TcpDst, UdpSrc, UdpDst}
 use Rattle.pq_fields.specs.Packet.{Numbers, has_field, number_in, with_number}
 use Rattle.pq_fields.specs.Writes.{Written, number_after, on, written_in}
 use Rattle.pq_store.specs.Tree.{Tree, value}
-use Rattle.pq_store.proofs.Elements.{at_place}
+use Rattle.pq_store.proofs.PrefixNumbers.{with_own}
+use Rattle.pq_lists.proofs.Places.{at_place}
 use Rattle.pq_apply.specs.Restriction.{RestrictsAt}
+use Rattle.pq_apply.proofs.Choices.{one_of_same}
 use Rattle.pq_rewrite.specs.Rewriting.{ChangesAll}
-use Rattle.pq_rewrite.proofs.Numbers.{stays}
 use Rattle.pq_join.specs.Overwriting.{OverwritesAt, SetsAllAt, put, put_all, put_one}
 
--- a packet with its own number set is the same
-own_number : (f : Field) (x : Numbers) → with_number f (number_in f x) x ≡ x
-own_number Switch x = refl
-own_number Port x = refl
-own_number EthType x = refl
-own_number IpProto x = refl
-own_number EthSrc x = refl
-own_number EthDst x = refl
-own_number Ipv4Src x = refl
-own_number Ipv4Dst x = refl
-own_number TcpSrc x = refl
-own_number TcpDst x = refl
-own_number UdpSrc x = refl
-own_number UdpDst x = refl
-own_number Ipv6Src x = refl
-own_number Ipv6Dst x = refl
-
--- where nothing is written the packet stays, and else it has the number
+-- where nothing is written the packet one_of_same, and else it has the number
 put_none : (f : Field) (w : Written) (x : Numbers) → written_in f w ≡ None → put_one f w x ≡ x
-put_none f w x none = ap (λ o. with_number f (unwrap_or o (number_in f x)) x) none ∙ own_number f x
+put_none f w x none = ap (λ o. with_number f (unwrap_or o (number_in f x)) x) none ∙ with_own f x
 
 put_some : (f : Field) (w : Written) (n : ℕ) (x : Numbers) → written_in f w ≡ Some n → put_one f w x ≡ with_number f n x
 put_some f w n x some = ap (λ o. with_number f (unwrap_or o (number_in f x)) x) some
@@ -99,7 +83,7 @@ set_after : (f : Field) (w : Written) (x : Numbers) → ChangesAll x w → unwra
 set_after f w x changes = by (written_in f w) refl
   where
     by : (o : Option ℕ) → written_in f w ≡ o → unwrap_or (written_in f w) (number_in f x) ≡ (if has_field f x then unwrap_or (written_in f w) (number_in f x) else number_in f x)
-    by None none = ap (λ o. unwrap_or o (number_in f x)) none ∙ (stays (has_field f x) (number_in f x)
+    by None none = ap (λ o. unwrap_or o (number_in f x)) none ∙ (one_of_same (has_field f x) (number_in f x)
         ∙ ap (λ o. if has_field f x then unwrap_or o (number_in f x) else number_in f x) (sym none))
     by (Some n) some = ap (λ b. if b then unwrap_or (written_in f w) (number_in f x) else number_in f x) (sym (changes f n some).0)
 

@@ -11,7 +11,7 @@ use Rattle.pq_store.specs.declared.test.Test.TheVariants.{Equal}
 use Rattle.pq_store.specs.Tree.{Tree}
 use Rattle.pq_store.specs.Room.{HasRoom, IsAmong, Within}
 use Rattle.pq_store.specs.Store.{HasAt}
-use Rattle.pq_store.proofs.Elements.{at_place}
+use Rattle.pq_lists.proofs.Places.{at_place}
 use Rattle.pq_store.proofs.RoomLemmas.{room_for}
 use Rattle.pq_apply.specs.Product.{FitTogetherAt}
 use Rattle.pq_apply.specs.Restriction.{RestrictsAt}

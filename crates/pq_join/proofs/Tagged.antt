@@ -3,6 +3,8 @@ use Rattle.std.proofs.Common.{ℕ, suc, ◌+◌, ◌-◌, ◌≡◌, ◌∙◌, 
 use Rattle.std.proofs.lemmas.List.{map-append}
 use Rattle.std.specs.List.{AllZip, filter}
 use Rattle.std.proofs.lemmas.List.Elements.{filter-append}
+use Rattle.std.proofs.lemmas.Slice.Zip.{all_zipped_more}
+use Rattle.pq_lists.proofs.Paired.{zip_weaker}
 use Rattle.pq_auto.specs.Machine.{Machine, is_even_at}
 use Rattle.pq_layout.specs.Tagging.{up_to}
 use Rattle.pq_rewrite.specs.declared.outgoing.Outgoing.{Outgoing}
@@ -18,20 +20,6 @@ use Rattle.pq_join.specs.Leaving.{CopiesAt, LeavesTo, copies_at, odd_to}
 use Rattle.pq_join.proofs.Mapping.{made_still}
 
 -- Lists item by item.
-
--- one more on each side
-pub zip_push : {A B : Type 0} (R : A → B → Type 0) (xs : List A) (ys : List B) (x : A) (y : B) → AllZip R xs ys → R x y → AllZip R (xs ++ x ∷ []) (ys ++ y ∷ [])
-zip_push R [] [] x y zip r = (r, tt)
-zip_push R [] (b ∷ bs) x y zip r = absurd zip
-zip_push R (a ∷ xs) [] x y zip r = absurd zip
-zip_push R (a ∷ xs) (b ∷ bs) x y zip r = (zip.0, zip_push R xs bs x y zip.1 r)
-
--- and what follows
-pub zip_weaker : {A B : Type 0} (R S : A → B → Type 0) → ((x : A) (y : B) → R x y → S x y) → (xs : List A) (ys : List B) → AllZip R xs ys → AllZip S xs ys
-zip_weaker R S follows [] [] zip = tt
-zip_weaker R S follows [] (b ∷ bs) zip = absurd zip
-zip_weaker R S follows (a ∷ xs) [] zip = absurd zip
-zip_weaker R S follows (a ∷ xs) (b ∷ bs) zip = (follows a b zip.0, zip_weaker R S follows xs bs zip.1)
 
 -- Tags.
 
@@ -89,7 +77,7 @@ pub arrives_taken : (m : Machine) (c : ℕ) (seen : List (Tree Seen)) (root : �
 arrives_taken m c seen root old new trees more t id even keeps tag all zip arrives =
     let R : Key → Key × ℕ → Type 0 = λ k p. (p.0 ≡ k) × MakesAt (arrival_of m k) seen root new p.1 in
     let own = subst (λ n. MakesAt (arrival_by m n true) seen root new id) (sym (class_again c)) arrives in
-    let pushed = zip_push R (Plain ∷ map Tag (even_to m c)) trees (Tag (suc c)) (Tag t, id) (arrives_still m (Plain ∷ map Tag (even_to m c)) seen root old new trees keeps zip) (ap Tag tag, own) in
+    let pushed = all_zipped_more R (Plain ∷ map Tag (even_to m c)) trees (Tag (suc c)) (Tag t, id) (arrives_still m (Plain ∷ map Tag (even_to m c)) seen root old new trees keeps zip) (ap Tag tag, own) in
     let keys : (Plain ∷ map Tag (even_to m c)) ++ Tag (suc c) ∷ [] ≡ Plain ∷ map Tag (even_to m (c + 1)) =
     ap (λ ks. Plain ∷ ks) (sym (map-append Tag (even_to m c) (suc c ∷ [])) ∙ ap (map Tag) (sym (even_taken m c even))) in
     subst (AllZip R (Plain ∷ map Tag (even_to m (c + 1)))) (sym all) (subst (λ ks. AllZip R ks (trees ++ (Tag t, id) ∷ [])) keys pushed)
@@ -110,5 +98,5 @@ leaves_taken m c from node old new trees more t id odd keeps tag all zip copies 
     let own = subst (λ n. MakesAt (copies_at m n) from node new id) (sym (class_again c)) copies in
     let still = zip_weaker (λ a p. (p.0 ≡ a) × MakesAt (copies_at m (a - 1)) from node old p.1) R (λ a p both. (both.0, made_still (copies_at m (a - 1)) from node old new p.1 keeps both.1))
     (odd_to m c) trees zip in
-    let pushed = zip_push R (odd_to m c) trees (suc c) (t, id) still (tag, own) in
+    let pushed = all_zipped_more R (odd_to m c) trees (suc c) (t, id) still (tag, own) in
     subst (AllZip R (odd_to m (c + 1))) (sym all) (subst (λ ts. AllZip R ts (trees ++ (t, id) ∷ [])) (sym (odd_taken m c odd)) pushed)

@@ -1,8 +1,8 @@
 -- The ports that the trees of a switch test.
-use Rattle.std.proofs.Common.{ℕ, ◌<◌, ◌-◌, ◌≡◌, List, [], ◌∷◌, map, Option, inl, inr, sym, subst, ap}
+use Rattle.std.proofs.Common.{ℕ, ◌<◌, ◌-◌, ◌≡◌, List, ◌∷◌, map, Option, inl, inr, sym, subst, ap}
 use Rattle.std.specs.Prelude.{length}
-use Rattle.std.specs.List.{All, AllZip}
-use Rattle.std.proofs.lemmas.List.Elements.{All-cons, All-get_or, All-nil}
+use Rattle.std.specs.List.{All}
+use Rattle.std.proofs.lemmas.List.Elements.{All-get_or}
 use Rattle.pq_fields.specs.declared.field.Field.TheVariants.{Switch, Port}
 use Rattle.pq_fields.specs.Writes.{Written}
 use Rattle.pq_model.specs.Install.{IsLawfulTopology}
@@ -19,7 +19,8 @@ use Rattle.pq_store.specs.declared.test.Test.TheVariants.{Bit, Equal}
 use Rattle.pq_store.specs.Tree.{Tree, IsTested}
 use Rattle.pq_store.specs.Store.{HasAt}
 use Rattle.pq_apply.specs.Restriction.{RestrictsAt}
-use Rattle.pq_store.proofs.Elements.{at_place}
+use Rattle.pq_lists.proofs.Places.{at_place}
+use Rattle.pq_lists.proofs.Paired.{zip_right}
 use Rattle.pq_join.specs.declared.departure.Departure.{Departure}
 use Rattle.pq_join.specs.declared.sight.Seen.{Seen}
 use Rattle.pq_join.specs.Arriving.{ArrivesAt, MakesAt, arrival_of, even_to}
@@ -29,13 +30,6 @@ use Rattle.pq_join.specs.Sight.{IsSight}
 use Rattle.pq_join.specs.Sound.{TestsPortsOrZero}
 use Rattle.pq_join.specs.Switch.{TestPortsAt}
 use Rattle.pq_join.proofs.Soundness.{numbers_in}
-
--- what follows of the second items
-pub zip_right : {A B : Type 0} (R : A → B → Type 0) (P : B → Type 0) → ((x : A) (y : B) → R x y → P y) → (xs : List A) (ys : List B) → AllZip R xs ys → All P ys
-zip_right R P follows [] [] zip = All-nil P
-zip_right R P follows [] (b ∷ bs) zip = absurd zip
-zip_right R P follows (a ∷ xs) [] zip = absurd zip
-zip_right R P follows (a ∷ xs) (b ∷ bs) zip = All-cons P b bs (follows a b zip.0) (zip_right R P follows xs bs zip.1)
 
 -- a tree made of another tests ports where that does
 made_ports : {A C : Type 0} (make : A → C) (from : List (Tree A)) (k : ℕ) (into : List (Tree C)) (id : ℕ) → HasAt TestsPortsOrZero from k → MakesAt make from k into id → TestPortsAt into id

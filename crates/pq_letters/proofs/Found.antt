@@ -5,6 +5,7 @@ use Rattle.std.specs.List.{All, AllPairs}
 use Rattle.std.proofs.lemmas.List.{get_or-take, get_or_default, length-take, take_more}
 use Rattle.std.proofs.lemmas.List.Elements.{All-head, All-tail}
 use Rattle.std.proofs.lemmas.Option.{slice_get_within}
+use Rattle.std.proofs.lemmas.Bool.{cases_Bool}
 use Rattle.pq_store.specs.declared.least.Least.{Least}
 use Rattle.pq_store.specs.Tree.{Tree}
 use Rattle.pq_store.specs.Tree.Tree.{Tip}
@@ -12,7 +13,7 @@ use Rattle.pq_store.specs.Store.{IsCanonical, ShowsBranch}
 use Rattle.pq_store.proofs.LeastCalls.{one_tip}
 use Rattle.pq_letters.specs.Numbering.{AreLeaves, HaveSignatures, place_in}
 use Rattle.pq_letters.specs.Order.{same_truths, truths_eq}
-use Rattle.pq_letters.proofs.Places.{is_or_not, place_later}
+use Rattle.pq_letters.proofs.Places.{place_later}
 
 -- the leaf of what was found at a place
 leaf_at : (ts : List (Tree (List Bool))) (found : List Least) (i : ℕ) (e : Least) → AreLeaves ts found → i < length found → e ≡ get_or found i e → (s : List Bool) × (slice_get ts e.leaf ≡ Some (Tip s))
@@ -38,7 +39,7 @@ fresh_signature : (ts : List (Tree (List Bool))) → IsCanonical ts → (es : Li
 fresh_signature ts canonical [] [] leaf s is others have = refl
 fresh_signature ts canonical [] (r ∷ ss) leaf s is others have = absurd have
 fresh_signature ts canonical (e ∷ es) [] leaf s is others have = absurd have
-fresh_signature ts canonical (e ∷ es) (r ∷ ss) leaf s is others have = elim (is_or_not (truths_eq r s)) [
+fresh_signature ts canonical (e ∷ es) (r ∷ ss) leaf s is others have = elim (cases_Bool (truths_eq r s)) [
   | inl equal ↦ absurd (All-head (λ (d : Least). d.leaf ≢ leaf) e es others
       (one_tip ts canonical e.leaf leaf s (have.0 ∙ ap (λ t. Some (Tip t)) (same_truths r s equal)) is))
   | inr other ↦ omega (arith, place_later r ss s other, fresh_signature ts canonical es ss leaf s is (All-tail (λ (d : Least). d.leaf ≢ leaf) e es others) have.1)

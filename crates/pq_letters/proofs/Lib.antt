@@ -1,6 +1,5 @@
 pub mod Found
 pub mod Lettered
-pub mod NumberLists
 pub mod Numbered
 pub mod Places
 pub mod Signed

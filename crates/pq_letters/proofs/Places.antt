@@ -1,16 +1,12 @@
 -- The places of signatures in lists of them.
 use Rattle.std.proofs.Common.{ℕ, zero, suc, ◌<◌, ◌≤◌, ◌≡◌, ◌∙◌, Bool, true, false, List, [], ◌∷◌, ◌++◌, None, Some, length, get_or, refl, sym, ap, subst, inl, inr, arith}
-use Rattle.std.specs.Prelude.{◌⊎◌, cond, if◌then◌else◌, nat_lt}
+use Rattle.std.specs.Prelude.{cond, if◌then◌else◌, nat_lt}
 use Rattle.std.specs.List.{list_any, position, position_or_len}
 use Rattle.std.proofs.lemmas.Bool.Decides.{leb_tells}
+use Rattle.std.proofs.lemmas.Bool.{cases_Bool}
 use Rattle.indexmap.specs.IndexSet.{insert_key}
 use Rattle.pq_letters.specs.Numbering.{place_in}
 use Rattle.pq_letters.specs.Order.{same_truths, truths_eq, truths_equiv}
-
--- a test that is decided
-pub is_or_not : (b : Bool) → (b ≡ true) ⊎ (b ≡ false)
-is_or_not true = inl refl
-is_or_not false = inr refl
 
 -- the place of a signature that stands first is 0
 pub place_here : (t : List Bool) (ts : List (List Bool)) (s : List Bool) → truths_eq t s ≡ true → place_in (t ∷ ts) s ≡ 0
@@ -23,7 +19,7 @@ place_later t ts s other = ap (λ b. if b then zero else suc (place_in ts s)) ot
 -- the first place of a signature, as the set counts it
 first_place : (ts : List (List Bool)) (s : List Bool) → position_or_len (truths_eq s) ts ≡ place_in ts s
 first_place [] s = refl
-first_place (t ∷ ts) s = elim (is_or_not (truths_eq t s)) [
+first_place (t ∷ ts) s = elim (cases_Bool (truths_eq t s)) [
   | inl equal ↦ rw (truths_equiv.symm s t, equal) refl
   | inr other ↦ rw (truths_equiv.symm s t, other) (omega (arith, first_place ts s))
 ]
@@ -31,7 +27,7 @@ first_place (t ∷ ts) s = elim (is_or_not (truths_eq t s)) [
 -- a place is at most the length
 place_within : (ts : List (List Bool)) (s : List Bool) → place_in ts s ≤ length ts
 place_within [] s = omega arith
-place_within (t ∷ ts) s = elim (is_or_not (truths_eq t s)) [
+place_within (t ∷ ts) s = elim (cases_Bool (truths_eq t s)) [
   | inl equal ↦ omega (arith, place_here t ts s equal)
   | inr other ↦ omega (arith, place_later t ts s other, place_within ts s)
 ]
@@ -58,7 +54,7 @@ place_missing ts s none = elim (leb_tells (suc (position_or_len (truths_eq s) ts
 -- a signature whose place is the length isn't there
 not_there : (ts : List (List Bool)) (s : List Bool) → place_in ts s ≡ length ts → list_any (truths_eq s) ts ≡ false
 not_there [] s last = refl
-not_there (t ∷ ts) s last = elim (is_or_not (truths_eq t s)) [
+not_there (t ∷ ts) s last = elim (cases_Bool (truths_eq t s)) [
   | inl equal ↦ absurd (omega (arith, last, place_here t ts s equal))
   | inr other ↦ rw (truths_equiv.symm s t, other) (not_there ts s (omega (arith, last, place_later t ts s other)))
 ]
@@ -66,7 +62,7 @@ not_there (t ∷ ts) s last = elim (is_or_not (truths_eq t s)) [
 -- what stands at a place that is below the length is the signature
 pub at_place : (ts : List (List Bool)) (s : List Bool) → place_in ts s < length ts → get_or ts (place_in ts s) [] ≡ s
 at_place [] s within = absurd (omega arith)
-at_place (t ∷ ts) s within = elim (is_or_not (truths_eq t s)) [
+at_place (t ∷ ts) s within = elim (cases_Bool (truths_eq t s)) [
   | inl equal ↦ rw (place_here t ts s equal) (same_truths t s equal)
   | inr other ↦ rw (place_later t ts s other) (at_place ts s (omega (arith, within, place_later t ts s other)))
 ]
@@ -75,7 +71,7 @@ at_place (t ∷ ts) s within = elim (is_or_not (truths_eq t s)) [
 place_before : (ts : List (List Bool)) (k : ℕ) → k < length ts → place_in ts (get_or ts k []) ≤ k
 place_before [] k within = absurd (omega arith)
 place_before (t ∷ ts) zero within = omega (arith, place_here t ts t (truths_equiv.refl t))
-place_before (t ∷ ts) (suc k) within = elim (is_or_not (truths_eq t (get_or ts k []))) [
+place_before (t ∷ ts) (suc k) within = elim (cases_Bool (truths_eq t (get_or ts k []))) [
   | inl equal ↦ omega (arith, place_here t ts (get_or ts k []) equal)
   | inr other ↦ omega (arith, place_later t ts (get_or ts k []) other, place_before ts k (omega arith))
 ]

@@ -1,14 +1,14 @@
 -- Diagrams that say which of some predicates hold.
 use Rattle.std.proofs.Common.{ℕ, ◌<◌, ◌≤◌, ◌≡◌, ◌∙◌, Bool, true, false, List, [], ◌∷◌, ◌++◌, take, drop, get_or, length, Some, if◌then◌else◌, refl, sym, ap, subst, inl, inr, arith}
 use Rattle.std.specs.Prelude.{slice_get, All}
-use Rattle.std.proofs.Math.Seq.{take-append_seam, drop-append_seam}
 use Rattle.std.proofs.lemmas.List.{map-append, take-append-drop}
-use Rattle.std.proofs.lemmas.List.Elements.{All-head, All-take, All-drop}
+use Rattle.std.proofs.lemmas.List.Elements.{All-head}
 use Rattle.std.proofs.lemmas.Option.{get_or_from_slice_get}
 use Rattle.pq_store.specs.declared.test.Test.TheVariants.{Equal}
 use Rattle.pq_store.specs.Tree.{Tree, value}
 use Rattle.pq_store.specs.Tree.Tree.{Tip}
-use Rattle.pq_store.proofs.Elements.{at_place}
+use Rattle.pq_lists.proofs.Places.{at_place}
+use Rattle.pq_lists.proofs.Holding.{all_back, all_front}
 use Rattle.pq_apply.specs.Choice.{ChoosesAt}
 use Rattle.pq_store.proofs.RoomLemmas.{room_for}
 use Rattle.pq_apply.specs.Junction.{FitTogetherAll, trees_at}
@@ -37,14 +37,6 @@ one_says cs old new k i j id yes_is no_is chooses u u_is =
     by : (b : Bool) → (if b then true ∷ [] else false ∷ []) ≡ b ∷ []
     by true = refl
     by false = refl
-
--- what holds of all of two lists together holds of all of the first
-all_front : {X : Type 0} (P : X → Type 0) (us vs : List X) → All P (us ++ vs) → All P us
-all_front P us vs all = subst (All P) (take-append_seam us vs) (All-take P (length us) (us ++ vs) all)
-
--- and of all of the second
-all_back : {X : Type 0} (P : X → Type 0) (us vs : List X) → All P (us ++ vs) → All P vs
-all_back P us vs all = subst (All P) (drop-append_seam us vs) (All-drop P (length us) (us ++ vs) all)
 
 -- a product that appends signatures says what the first tree says and then what the second says
 pub both_say : (R : List Bool → List Bool → List Bool → Type 0) (ls rs new : List (Tree (List Bool))) (x y id : ℕ) → ((a b c : List Bool) → R a b c → c ≡ a ++ b)

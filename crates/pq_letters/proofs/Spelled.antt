@@ -9,7 +9,7 @@ use Rattle.pq_model.specs.Word.{Word, Observation, In, Out, alternates, observed
 use Rattle.pq_store.specs.Least.{precedes}
 use Rattle.pq_letters.specs.Letters.{LettersValue, IsLettered, IsLeastOf, letter_at}
 use Rattle.pq_letters.specs.Words.{least_observation, least_word, letter_number, letters_are_before, letters_of}
-use Rattle.pq_letters.proofs.NumberLists.{by_first, by_piece, first_or_rest, not_by_piece, same_first, same_piece}
+use Rattle.pq_model.proofs.NumberLists.{by_first, by_piece, first_or_rest, not_by_piece, same_first, same_piece}
 
 -- the numbers of the packets that a word observes, one packet after the other
 abbrev spelling : Word → List ℕ

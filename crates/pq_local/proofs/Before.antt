@@ -4,6 +4,7 @@ use Rattle.std.specs.declared.option.Option.TheVariants.{None}
 use Rattle.std.specs.List.{AllByRecursion, AllZip}
 use Rattle.std.proofs.lemmas.List.Elements.{recursion_from_All}
 use Rattle.std.proofs.lemmas.Option.{same_Some}
+use Rattle.pq_lists.proofs.Paired.{zip_weaker}
 use Rattle.pq_fields.specs.Writes.{Written}
 use Rattle.pq_auto.specs.Machine.{Machine}
 use Rattle.pq_letters.specs.Letters.{LettersValue}
@@ -30,7 +31,6 @@ use Rattle.pq_compile.specs.Names.{Named}
 use Rattle.pq_compile.specs.Prepared.{AreClassified, ForwardsAt, IsCompilable, parts_in, queries_in}
 use Rattle.pq_local.specs.Local.{AreServedAt, IsBefore, IsServed, IsServedAt, with_parts}
 use Rattle.pq_local.proofs.Small.{none_told, or_nothing}
-use Rattle.pq_local.proofs.Zipped.{zip_weaker}
 
 -- Messages that come from trees.
 module _ (T : Topology) (h : Tagging) (more : Departures) where

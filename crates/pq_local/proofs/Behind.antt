@@ -1,8 +1,9 @@
 -- Diagrams behind the tests of the switch that they begin with.
 use Rattle.std.proofs.Common.{◌≡◌, ◌∙◌, ◌<◌, ℕ, Bool, true, false, List, Some, if◌then◌else◌, refl, sym, ap}
-use Rattle.std.specs.Prelude.{length, slice_get}
+use Rattle.std.specs.Prelude.{length}
 use Rattle.std.specs.Option.{option_map}
 use Rattle.std.proofs.lemmas.Option.{slice_get_within}
+use Rattle.pq_rewrite.proofs.Passed.{side_is}
 use Rattle.pq_fields.specs.declared.field.Field.TheVariants.{Switch}
 use Rattle.pq_fields.specs.Packet.{Numbers, rank}
 use Rattle.pq_store.specs.declared.test.Test.{Test}
@@ -21,11 +22,6 @@ module _ {L : Type 0} where
     pub within : at < length ts
     pub agrees : AgreeAt ts d at from
 
-  side_there : (b : Bool) (ts : List (Tree L)) (i j next : ℕ) (y n : Tree L) → slice_get ts i ≡ Some y → slice_get ts j ≡ Some n → next ≡ (if b then i else j)
-      → slice_get ts next ≡ Some (if b then y else n)
-  side_there true ts i j next y n left right is = ap (slice_get ts) is ∙ left
-  side_there false ts i j next y n left right is = ap (slice_get ts) is ∙ right
-
   side_value : (b : Bool) (x : Numbers) (y n : Tree L) → value (if b then y else n) x ≡ (if b then value y x else value n x)
   side_value true x y n = refl
   side_value false x y n = refl
@@ -34,7 +30,7 @@ module _ {L : Type 0} where
   pub behind_side : (d : ℕ) (ts : List (Tree L)) (from at : ℕ) (s : Test) (i j next : ℕ) → IsBehind d ts from at → ShowsBranch ts at s i j → rank (field_of s) ≡ rank Switch
       → next ≡ (if decides s d then i else j) → IsBehind d ts from next
   behind_side d ts from at s i j next behind shows same is =
-      let there = side_there (decides s d) ts i j next shows.yes_tree shows.no_tree shows.yes_is shows.no_is is in
+      let there = side_is (decides s d) ts i j next shows.yes_tree shows.no_tree shows.yes_is shows.no_is is in
       record {
         within = slice_get_within ts next (if decides s d then shows.yes_tree else shows.no_tree) there;
         agrees = λ x.

@@ -1,10 +1,8 @@
 -- The messages of a switch that are made of its trees.
-use Rattle.std.proofs.Common.{◌≡◌, ◌<◌, ◌^◌, ℕ, List, [], ◌∷◌, Some, length, inl, sym, subst, ◌∙◌}
+use Rattle.std.proofs.Common.{◌≡◌, ◌<◌, ◌^◌, ℕ, List, Some, inl, sym, subst, ◌∙◌}
 use Rattle.std.specs.declared.option.Option.{Option}
-use Rattle.std.specs.Prelude.{All, slice_get}
-use Rattle.std.specs.List.{AllZip}
-use Rattle.std.proofs.lemmas.List.Elements.{All-nil, All-cons}
-use Rattle.std.proofs.lemmas.Option.{same_Some, slice_get_within}
+use Rattle.std.specs.Prelude.{slice_get}
+use Rattle.std.proofs.lemmas.Option.{same_Some}
 use Rattle.pq_fields.specs.declared.field.Field.TheVariants.{Port}
 use Rattle.pq_fields.specs.Writes.{Written}
 use Rattle.pq_auto.specs.Machine.{Machine}
@@ -39,19 +37,11 @@ use Rattle.pq_emit.proofs.Located.{switch_located}
 use Rattle.pq_emit.proofs.MetFaults.{fits_none}
 use Rattle.pq_emit.proofs.PortsAtIds.{placed_ports, tests_with}
 use Rattle.pq_emit.proofs.SoundLayouts.{sound_layout}
+use Rattle.pq_emit.proofs.SoundAtIds.{within_store}
 use Rattle.pq_compile.specs.Documents.{DocumentTree}
 use Rattle.pq_compile.specs.Prepared.{IsCompilable, parts_in, queries_in}
 use Rattle.pq_compile.proofs.Joined.{letter_ports, policy_ports}
 use Rattle.pq_local.specs.Local.{IsServed}
-
--- ids of trees are ids of the store
-within_store : {A L : Type 0} (F : A → Tree L → Type 0) (ts : List (Tree L)) (ks : List A) (ids : List (A × ℕ))
-    → AllZip (λ k p. (p.0 ≡ k) × HasAt (F k) ts p.1) ks ids → All (λ p. p.1 < length ts) ids
-within_store F ts [] [] all = All-nil (λ p. p.1 < length ts)
-within_store F ts [] (p ∷ ids) all = absurd all
-within_store F ts (k ∷ ks) [] all = absurd all
-within_store F ts (k ∷ ks) (p ∷ ids) all =
-    All-cons (λ p. p.1 < length ts) p ids (slice_get_within ts p.1 all.0.1.0 all.0.1.1) (within_store F ts ks ids all.1)
 
 -- entries can stand for the trees of a switch
 pub one_sound : (d : DocumentTree) → IsCompilable d → (a : LettersValue) (m : Machine) → HasTags d.topology a m → (forward : List (Tree (List Written))) (k : ℕ)

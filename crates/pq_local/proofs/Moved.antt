@@ -4,6 +4,7 @@ use Rattle.std.specs.Prelude.{length}
 use Rattle.std.specs.List.{AllZip}
 use Rattle.std.specs.Option.{option_map}
 use Rattle.std.proofs.lemmas.Option.{same_Some}
+use Rattle.pq_lists.proofs.Places.{at_place}
 use Rattle.pq_fields.specs.Packet.{Numbers}
 use Rattle.pq_fields.specs.Writes.{Written}
 use Rattle.pq_auto.specs.Machine.{Machine}
@@ -17,7 +18,6 @@ use Rattle.pq_layout.specs.Messages.{LeavingTrees}
 use Rattle.pq_layout.specs.Tagging.{Tagging, odd_tags}
 use Rattle.pq_layout.specs.Trees.{IsLeaving}
 use Rattle.pq_join.specs.Tags.{tagging_of}
-use Rattle.pq_emit.proofs.Located.{here_at}
 use Rattle.pq_local.specs.Local.{AgreeAt, IsServed, IsServedAt}
 
 module _ (T : Topology) (g : Tagging) (writes more : Departures) where
@@ -49,7 +49,7 @@ module _ (T : Topology) (g : Tagging) (writes more : Departures) where
 pub taken_over : (T : Topology) (forward : List (Tree (List Written))) (before policy : ℕ) (a : LettersValue) (m : Machine) (s : Switch) (ms : List Message)
     → before < length forward → AgreeAt forward s.datapath before policy → IsServedAt T forward before a m s ms → IsServedAt T forward policy a m s ms
 taken_over T forward before policy a m s ms within agree old p at =
-    let q = here_at forward before within in
+    let q = at_place forward before within in
     let alike : (x : Numbers) → departing T (value q.0) (at_switch s.datapath x) ≡ departing T (value p) (at_switch s.datapath x) = λ x.
     let z = at_switch s.datapath x in
     ap (filter (departs_by T z)) (same_Some (value q.0 z) (value p z)

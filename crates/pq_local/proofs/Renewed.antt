@@ -3,6 +3,8 @@ use Rattle.std.proofs.Common.{◌≡◌, ◌∙◌, ℕ, List, [], ◌∷◌, le
 use Rattle.std.specs.declared.option.Option.{Option}
 use Rattle.std.specs.declared.option.Option.TheVariants.{None}
 use Rattle.std.specs.List.{AllZip}
+use Rattle.std.proofs.lemmas.Slice.Zip.{AllZip-long}
+use Rattle.pq_lists.proofs.Paired.{zip_weaker, zip_right}
 use Rattle.pq_fields.specs.Writes.{Written}
 use Rattle.pq_auto.specs.Machine.{Machine}
 use Rattle.pq_letters.specs.Letters.{LettersValue}
@@ -23,7 +25,7 @@ use Rattle.pq_meaning.specs.Laws.{CompiledImplements, HasOneInstall, HasOneSetOf
 use Rattle.pq_meaning.specs.Tags.{ClassesTag}
 use Rattle.pq_emit.specs.Faults.{fault_of, first_fault, group_fault, table_fault}
 use Rattle.pq_emit.specs.Switches.{TablesTrees}
-use Rattle.pq_emit.proofs.Concluded.{as_many, no_fault}
+use Rattle.pq_emit.proofs.Concluded.{no_fault}
 use Rattle.pq_compile.specs.Compiled.{AreTablesWithin, IsInstalled}
 use Rattle.pq_compile.specs.Documents.{DocumentTree}
 use Rattle.pq_compile.specs.Lawful.{names_in}
@@ -32,7 +34,6 @@ use Rattle.pq_compile.proofs.OneFault.{tables_within}
 use Rattle.pq_local.specs.Local.{AreServedAt, IsBefore, IsServed, IsServedAt, with_parts}
 use Rattle.pq_local.proofs.Before.{laid_with, served_before}
 use Rattle.pq_local.proofs.Small.{nothing_or}
-use Rattle.pq_local.proofs.Zipped.{zip_second, zip_weaker}
 
 -- Messages that serve switches.
 module _ (T : Topology) (g : Tagging) (writes : Departures) where
@@ -133,8 +134,8 @@ module _ (depart : PartsDepart) (tag : ClassesTag) (d : DocumentTree) (is : List
           names_differ = lawful.names_differ;
           rows = lawful.rows;
           tags_ascend = lawful.tags_ascend;
-          listed = as_many (IsServed d.topology tags writes) d.topology.switches all served ∙ ap (λ (t : Topology). length t.switches) (sym was.installed.install.emission.topology);
-          messages = zip_second (IsServed d.topology tags writes) IsLawfulList (λ s ms serves. serves.lawful) d.topology.switches all served;
+          listed = AllZip-long (IsServed d.topology tags writes) d.topology.switches all served ∙ ap (λ (t : Topology). length t.switches) (sym was.installed.install.emission.topology);
+          messages = zip_right (IsServed d.topology tags writes) IsLawfulList (λ s ms serves. serves.lawful) d.topology.switches all served;
         }
 
     -- the old install with these messages is the document's

@@ -3,25 +3,10 @@ use Rattle.std.proofs.Common.{◌≡◌, ◌<◌, ◌+◌, ◌∙◌, ℕ, zero,
 use Rattle.std.specs.Prelude.{All, slice_get}
 use Rattle.std.specs.List.{AllZip}
 use Rattle.std.proofs.lemmas.List.{map-append, take_more}
-use Rattle.std.proofs.lemmas.List.Elements.{All-nil, All-cons}
 use Rattle.std.proofs.lemmas.Option.{get_or_from_slice_get, same_Some, slice_get-get_or, slice_get_within}
-use Rattle.pq_emit.proofs.Located.{zip_push}
+use Rattle.std.proofs.lemmas.Slice.Zip.{all_zipped_more}
 
 module _ {A B : Type 0} where
-  -- by a weaker relation
-  pub zip_weaker : (P Q : A → B → Type 0) → ((x : A) (y : B) → P x y → Q x y) → (xs : List A) (ys : List B) → AllZip P xs ys → AllZip Q xs ys
-  zip_weaker P Q weaker [] [] all = tt
-  zip_weaker P Q weaker [] (y ∷ ys) all = absurd all
-  zip_weaker P Q weaker (x ∷ xs) [] all = absurd all
-  zip_weaker P Q weaker (x ∷ xs) (y ∷ ys) all = (weaker x y all.0, zip_weaker P Q weaker xs ys all.1)
-
-  -- what the relation says of the second alone
-  pub zip_second : (P : A → B → Type 0) (Q : B → Type 0) → ((x : A) (y : B) → P x y → Q y) → (xs : List A) (ys : List B) → AllZip P xs ys → All Q ys
-  zip_second P Q weaker [] [] all = All-nil Q
-  zip_second P Q weaker [] (y ∷ ys) all = absurd all
-  zip_second P Q weaker (x ∷ xs) [] all = absurd all
-  zip_second P Q weaker (x ∷ xs) (y ∷ ys) all = All-cons Q y ys (weaker x y all.0) (zip_second P Q weaker xs ys all.1)
-
   -- those at one place are related
   pub zip_at : (P : A → B → Type 0) (xs : List A) (ys : List B) → AllZip P xs ys → (k : ℕ) (x : A) (y : B) → slice_get xs k ≡ Some x → slice_get ys k ≡ Some y → P x y
   zip_at P [] [] all k x y left right = absurd (none left)
@@ -41,7 +26,7 @@ module _ {A B : Type 0} where
       take_more xs k x (slice_get_within xs k x there) ∙ ap (λ j. take k xs ++ j ∷ []) (get_or_from_slice_get xs k x x there) in
       let back : map items pushed ≡ map items vs ++ items v ∷ [] = ap (map items) push ∙ map-append items vs (v ∷ []) in
       subst (λ us. AllZip P us (map items pushed)) (sym front) (subst (λ ms. AllZip P (take k xs ++ x ∷ []) ms) (sym back)
-      (zip_push P (take k xs) (map items vs) x (items v) all one))
+      (all_zipped_more P (take k xs) (map items vs) x (items v) all one))
 
 -- what stands at a place
 pub there_is : {A : Type 0} (xs : List A) (k : ℕ) (x : A) → k < length xs → x ≡ get_or xs k x → slice_get xs k ≡ Some x
@@ -60,12 +45,3 @@ one_of xs ys same k x y within at there = one_there xs k x y within (at ∙ ap (
 -- what holds of all holds of one
 pub all_there : {A : Type 0} (P : A → Type 0) (xs : List A) → All P xs → (k : ℕ) (x : A) → slice_get xs k ≡ Some x → P x
 all_there P xs all k x there = subst P (get_or_from_slice_get xs k x x there) (all k x (slice_get_within xs k x there))
-
--- what stands at a place of the images
-pub image_there : {A B : Type 0} (f : A → B) (xs : List A) (k : ℕ) (x : A) → slice_get xs k ≡ Some x → slice_get (map f xs) k ≡ Some (f x)
-image_there {A} f [] k x there = absurd (none there)
-  where
-    none : slice_get {X = A} [] k ≡ Some x → ⊥
-    none e = cc
-image_there f (y ∷ ys) zero x there = ap (λ z. Some (f z)) (same_Some y x there)
-image_there f (y ∷ ys) (suc k) x there = image_there f ys k x there

@@ -6,6 +6,7 @@ use Rattle.std.specs.Option.{option_map}
 use Rattle.std.specs.declared.option.Option.{Option}
 use Rattle.std.proofs.lemmas.Bool.{false≢true, ne_eqb}
 use Rattle.std.proofs.lemmas.List.Elements.{recursion_from_All}
+use Rattle.pq_lists.proofs.Holding.{all_weaker}
 use Rattle.pq_fields.specs.Packet.{Numbers, Fit}
 use Rattle.pq_model.specs.declared.tagged.Sent.{Sent}
 use Rattle.pq_model.specs.declared.tagged.Sent.TheVariants.{Controller}
@@ -21,7 +22,7 @@ use Rattle.pq_layout.specs.Sending.{arrival_sent, copy_sent, said_by, sent_after
 use Rattle.pq_layout.specs.Sound.{IsMatchable, IsSoundArriving}
 use Rattle.pq_lookup.specs.Lookup.{first_covering}
 use Rattle.pq_lookup.specs.Sent.{AreFilled, TablesSend, TablesSendInOrder}
-use Rattle.pq_lookup.proofs.Leaving.{all-weaker, leaving-sends, rule-sends, sent_by_rule}
+use Rattle.pq_lookup.proofs.Leaving.{leaving-sends, rule-sends, sent_by_rule}
 use Rattle.pq_lookup.proofs.Tables.{IsTold, table-tells}
 use Rattle.pq_lookup.proofs.Taken.{first-found, found-map, second-found}
 
@@ -101,7 +102,7 @@ module _ (first : ArrivingTrees) (second : LeavingTrees) (filled : AreFilled fir
     told-sends o (inr told) = ap (λ e. sent_by_rule onward tables.groups x (option_map first_rule e)) told.1 ∙ arrival-sends told.0 told.2 o
 
     matchable : AllByRecursion (λ p. IsMatchable p.1) first
-    matchable = all-weaker (λ p. IsSoundArriving p.0 p.1) (λ p. IsMatchable p.1) (λ p h. h.matchable) first (recursion_from_All (λ p. IsSoundArriving p.0 p.1) first filled.arriving.each)
+    matchable = all_weaker (λ p. IsSoundArriving p.0 p.1) (λ p. IsMatchable p.1) (λ p h. h.matchable) first (recursion_from_All (λ p. IsSoundArriving p.0 p.1) first filled.arriving.each)
 
     first-sends : sent_from_table (suc (suc more)) tables 0 x ≡ sent_by (said_by first None) (said_by second []) x
     first-sends =

@@ -2,7 +2,7 @@
 use Rattle.std.proofs.Common.{◌≡◌, ◌≢◌, inl, inr, ℕ, ◌-◌, Bool, true, false, not, if◌then◌else◌, List, [], ◌∷◌, ◌++◌, Some, None, refl, sym, ap, subst, ◌∙◌}
 use Rattle.std.specs.Prelude.{◌&&◌}
 use Rattle.std.specs.declared.option.Option.{Option}
-use Rattle.std.proofs.lemmas.Bool.{eq-eqb, ne_eqb}
+use Rattle.std.proofs.lemmas.Bool.{eq-eqb, ne_eqb, and_left}
 use Rattle.pq_fields.specs.declared.field.Field.TheVariants.{Switch}
 use Rattle.pq_fields.specs.Packet.{bit_in, width_of}
 use Rattle.pq_model.specs.MatchFields.{MatchFields, covers, vlan_word}
@@ -37,12 +37,9 @@ failing-covers : (t : Test) (m : MatchFields) (x : TaggedPacket) → IsLawful t 
 failing-covers (Equal f v) m x lawful fresh miss = refl
 failing-covers (Bit f i) m x lawful fresh miss = covers-bit m x f i false lawful.0 lawful.1 fresh ∙ and_not (covers m x) (bit_in f i x.packet) miss
 
-uncovered : (b c : Bool) → b ≡ false → b && c ≡ false
-uncovered b c h = ap (λ a. a && c) h
-
 failing-leaves : (t : Test) (m : MatchFields) (x : TaggedPacket) → IsLawful t → IsFresh t m → covers m x ≡ false → covers (failing t m) x ≡ false
 failing-leaves (Equal f v) m x lawful fresh miss = miss
-failing-leaves (Bit f i) m x lawful fresh miss = covers-bit m x f i false lawful.0 lawful.1 fresh ∙ uncovered (covers m x) (not (bit_in f i x.packet)) miss
+failing-leaves (Bit f i) m x lawful fresh miss = covers-bit m x f i false lawful.0 lawful.1 fresh ∙ and_left (covers m x) (not (bit_in f i x.packet)) miss
 
 passing-vlan : (t : Test) (m : MatchFields) → (passing t m).vlan ≡ m.vlan
 passing-vlan (Equal f v) m = number_vlan f v m

@@ -7,6 +7,7 @@ use Rattle.std.specs.List.{AllByRecursion, flat_map}
 use Rattle.std.specs.Option.{option_map}
 use Rattle.std.specs.declared.option.Option.{Option}
 use Rattle.std.proofs.lemmas.List.Elements.{recursion_from_All}
+use Rattle.pq_lists.proofs.Holding.{all_weaker}
 use Rattle.pq_fields.specs.declared.field.Field.TheVariants.{Port}
 use Rattle.pq_fields.specs.Packet.{Numbers, Fit}
 use Rattle.pq_model.specs.declared.tagged.Sent.{Sent}
@@ -62,10 +63,6 @@ all-both : {A : Type 0} (P Q R : A → Type 0) → ((a : A) → P a → Q a → 
 all-both P Q R h [] p q = tt
 all-both P Q R h (x ∷ xs) (p, ps) (q, qs) = (h x p q, all-both P Q R h xs ps qs)
 
-pub all-weaker : {A : Type 0} (P R : A → Type 0) → ((a : A) → P a → R a) → (xs : List A) → AllByRecursion P xs → AllByRecursion R xs
-all-weaker P R h [] p = tt
-all-weaker P R h (x ∷ xs) (p, ps) = (h x p, all-weaker P R h xs ps)
-
 sendable : (x : Numbers) (c : Outgoing) → IsSoundCopy c → ChangesAll x c.writes → IsSendable x c
 sendable x c sound changes = record { port = sound.port; other = λ p is. (changes Port p is).1 }
 
@@ -81,11 +78,11 @@ module _ (second : LeavingTrees) (sound : AreSoundLeaving second) where
   each = recursion_from_All (λ p. IsSoundLeaving p.0 p.1) second sound.each
 
   matchable : AllByRecursion (λ p. IsMatchable p.1) second
-  matchable = all-weaker (λ p. IsSoundLeaving p.0 p.1) (λ p. IsMatchable p.1) (λ p h. h.matchable) second each
+  matchable = all_weaker (λ p. IsSoundLeaving p.0 p.1) (λ p. IsMatchable p.1) (λ p h. h.matchable) second each
 
   said-sendable : (word : ℕ) (x : Numbers) → Fit x → AllByRecursion (IsSendable x) (said_by second [] word x)
   said-sendable word x fit = said-holds (AllByRecursion (IsSendable x)) [] tt word x second
-      (all-weaker (λ p. IsSoundLeaving p.0 p.1) (λ p. AllByRecursion (IsSendable x) (value p.1 x)) (tree-sendable x fit) second each)
+      (all_weaker (λ p. IsSoundLeaving p.0 p.1) (λ p. AllByRecursion (IsSendable x) (value p.1 x)) (tree-sendable x fit) second each)
 
   abbrev groups : List Buckets
   groups = groups_of (leaving_entries second)

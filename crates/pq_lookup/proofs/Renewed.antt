@@ -6,6 +6,7 @@ use Rattle.std.specs.declared.option.Option.{Option}
 use Rattle.std.proofs.lemmas.Bool.{and_from, ne_eqb}
 use Rattle.std.proofs.lemmas.List.{map-append}
 use Rattle.std.proofs.lemmas.List.Elements.{filter_map-append}
+use Rattle.pq_lists.proofs.Holding.{all_append, all_map}
 use Rattle.pq_fields.specs.declared.field.Field.{Field}
 use Rattle.pq_fields.specs.declared.field.Field.TheVariants.{EthSrc, EthDst, Ipv4Src, Ipv4Dst, TcpSrc, TcpDst, UdpSrc, UdpDst}
 use Rattle.pq_fields.specs.Writes.{Written}
@@ -30,18 +31,10 @@ use Rattle.pq_lookup.proofs.Copying.{to_eth_src, to_eth_dst, to_ipv4_src, to_ipv
 use Rattle.pq_lookup.proofs.Taken.{entry_at}
 use Rattle.pq_lookup.proofs.Grouped.{IsIn, group-there, in-groups}
 
-all-append : {A : Type 0} (P : A → Type 0) (xs ys : List A) → AllByRecursion P xs → AllByRecursion P ys → AllByRecursion P (xs ++ ys)
-all-append P [] ys all more = more
-all-append P (x ∷ xs) ys (here, all) more = (here, all-append P xs ys all more)
-
 -- what holds of each value that stands in a list
 all-in : {A : Type 0} (P : A → Type 0) (xs : List A) → ((a : A) → IsIn a xs → P a) → AllByRecursion P xs
 all-in P [] h = tt
 all-in P (x ∷ xs) h = (h x (inl refl), all-in P xs (λ a i. h a (inr i)))
-
-all-map : {A B : Type 0} (f : A → B) (P : B → Type 0) (xs : List A) → AllByRecursion (λ a. P (f a)) xs → AllByRecursion P (map f xs)
-all-map f P [] all = tt
-all-map f P (x ∷ xs) (here, all) = (here, all-map f P xs all)
 
 -- Groups.
 
@@ -89,7 +82,7 @@ both-priorities : (xid index : ℕ) (rs : List Rule) (fs : List Entry) → index
     HaveOwnPriorities (entries_from xid 0 index rs ++ fs)
 both-priorities xid index [] fs few ones own = own
 both-priorities xid index (r ∷ rs) fs few ones own = (
-  all-append (AreApart (entry_at 0 index r)) (entries_from (suc xid) 0 (suc index) rs) fs
+  all_append (AreApart (entry_at 0 index r)) (entries_from (suc xid) 0 (suc index) rs) fs
       (behind-apart (entry_at 0 index r) index (suc xid) 0 (suc index) rs refl (omega arith) (omega arith)) (other-apart (entry_at 0 index r) fs refl ones),
   both-priorities (suc xid) (suc index) rs fs (omega arith) ones own,
 )
@@ -163,7 +156,7 @@ module _ (second : LeavingTrees) where
       and_from (contains_key added (group_number groups b)) true (ap is_some (group-there b groups (in-groups b (m, c ∷ d ∷ cs) refl (leaving_entries second) i))) refl
 
   second-there : AllByRecursion (λ r. AreThere added r.actions) (second_rules second)
-  second-there = all-map (second_rule groups) (λ r. AreThere added r.actions) (leaving_entries second)
+  second-there = all_map (second_rule groups) (λ r. AreThere added r.actions) (leaving_entries second)
       (all-in (λ e. AreThere added (leaving_actions groups e.1)) (leaving_entries second) (λ e i. leaf-there e.0 e.1 i))
 
 module _ (first : ArrivingTrees) (second : LeavingTrees) (filled : AreFilled first second) where
@@ -173,9 +166,9 @@ module _ (first : ArrivingTrees) (second : LeavingTrees) (filled : AreFilled fir
     groups_away = (refl, refl);
     groups = groups-added 4 1 (groups second);
     numbers = groups-numbered 4 1 (groups second);
-    entries = all-append (λ f. f.command ≡ AddFlow) (adds_from xid 0 0 (first_rules first)) (adds_from yid 1 0 (second_rules second))
+    entries = all_append (λ f. f.command ≡ AddFlow) (adds_from xid 0 0 (first_rules first)) (adds_from yid 1 0 (second_rules second))
         (entries-added xid 0 0 (first_rules first)) (entries-added yid 1 0 (second_rules second));
-    named = all-append (λ f. AreThere (added second) f.actions) (adds_from xid 0 0 (first_rules first)) (adds_from yid 1 0 (second_rules second))
+    named = all_append (λ f. AreThere (added second) f.actions) (adds_from xid 0 0 (first_rules first)) (adds_from yid 1 0 (second_rules second))
         (added-there (added second) xid 0 0 (first_rules first) first_named) (added-there (added second) yid 1 0 (second_rules second) (second-there second));
     priorities = subst HaveOwnPriorities (sym (map-append entry_of (adds_from xid 0 0 (first_rules first)) (adds_from yid 1 0 (second_rules second))))
         (both-priorities xid 0 (first_rules first) (entries_from yid 1 0 (second_rules second)) (omega (arith, filled.first_few))
@@ -190,7 +183,7 @@ module _ (first : ArrivingTrees) (second : LeavingTrees) (filled : AreFilled fir
       yid = suc (4 + length (groups second)) + length (first_rules first)
 
       first_named : AllByRecursion (λ r. AreThere (added second) r.actions) (first_rules first)
-      first_named = all-map first_rule (λ r. AreThere (added second) r.actions) (table_of is_nothing first)
+      first_named = all_map first_rule (λ r. AreThere (added second) r.actions) (table_of is_nothing first)
           (all-in (λ e. AreThere (added second) (first_rule e).actions) (table_of is_nothing first) (λ e i. first-there (added second) e.0 e.1))
 
   pub switch-sends : SwitchSends first second

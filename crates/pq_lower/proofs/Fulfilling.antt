@@ -3,9 +3,9 @@ use Rattle.std.proofs.Common.{◌≡◌, ◌≢◌, ℕ, Bool, true, false, not,
 use Rattle.std.specs.List.{list_all}
 use Rattle.std.specs.Prelude.{◌==◌}
 use Rattle.std.proofs.lemmas.Bool.Decides.{eqb_tells}
+use Rattle.std.proofs.lemmas.Bool.{and_parts}
 use Rattle.pq_fields.specs.Packet.{Numbers}
 use Rattle.pq_fields.specs.Pred.{PredTree, preds, truths, holds}
-use Rattle.pq_expr.proofs.Cuts.{both}
 use Rattle.pq_query.specs.Groups.{Group}
 use Rattle.pq_query.specs.Language.{meets, Fulfils}
 use Rattle.pq_lower.specs.Added.{dropped, sent, tests, fulfilling}
@@ -35,8 +35,8 @@ fulfils_holds p gs label more x (held, met) rest = rw (tests_hold gs label more 
 
 pub holds_fulfils : (p : PredTree) (gs : List Group) (label : List ℕ) (more : List PredTree) (x : Numbers) → holds (fulfilling p gs label more) x ≡ true → Fulfils p gs label x × (all_hold more x ≡ true)
 holds_fulfils p gs label more x h =
-    let first = both (holds p x) (all_hold (tests gs label ++ more) x) h in
-    let later = both (meets gs label x) (all_hold more x) (sym (tests_hold gs label more x) ∙ first.1) in
+    let first = and_parts (holds p x) (all_hold (tests gs label ++ more) x) h in
+    let later = and_parts (meets gs label x) (all_hold more x) (sym (tests_hold gs label more x) ∙ first.1) in
     ((first.0, later.0), later.1)
 
 -- the packet is at port 0, or not

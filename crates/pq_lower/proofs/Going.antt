@@ -1,6 +1,7 @@
 -- Operands that are lowered one after another.
-use Rattle.std.proofs.Common.{◌≡◌, ◌≤◌, ◌<◌, ℕ, zero, suc, ◌+◌, ◌*◌, ◌^◌, List, [], ◌∷◌, ◌++◌, map, drop, length, get_or, refl, sym, ap, subst, ◌∙◌, append_assoc, length-append, drop-cons, arith}
+use Rattle.std.proofs.Common.{◌≡◌, ◌≤◌, ◌<◌, ℕ, zero, suc, ◌+◌, ◌*◌, ◌^◌, List, [], ◌∷◌, ◌++◌, map, drop, length, get_or, refl, sym, ap, subst, ◌∙◌, append_assoc, length-append, arith}
 use Rattle.std.proofs.lemmas.List.{length-map, map-append}
+use Rattle.pq_lists.proofs.Places.{from_place}
 use Rattle.pq_expr.specs.declared.expr.Expr.{Expr}
 use Rattle.pq_expr.specs.Expr.{ExprTree, expr_tree}
 use Rattle.pq_fields.specs.Pred.{PredTree, pred_tree}
@@ -54,16 +55,10 @@ going_on base label whole needed end q qs place count added done e next more gai
       room = omega (arith, g.room, few, sum, size, counts, more_is);
     }
 
--- the list from a place on
-walk : {A : Type 0} (xs : List A) (i : ℕ) (x : A) → i < length xs → x ≡ get_or xs i x → drop i xs ≡ x ∷ drop (i + 1) xs
-walk {A = A} xs i x there is =
-    let next : suc i ≡ i + 1 = omega arith in
-    drop-cons xs i x there ∙ ap {A = A} {B = List A} (λ z. z ∷ drop (suc i) xs) (sym is) ∙ ap {A = ℕ} {B = List A} (λ k. x ∷ drop k xs) next
-
 -- the same of what the code keeps
 pub walk_on : (base : ℕ) (label : List ℕ) (whole : List ExprTree) (needed : List PredTree) (end : List ℕ) (xs : List Query) (i : ℕ) (x : Query) (place next : ℕ) (added gained : List Pred) (done new : List Expr) (e : Expr) → Going base label whole needed end (map query_tree (drop i xs)) place (length added) (map pred_tree added) (map expr_tree done) → i < length xs → x ≡ get_or xs i x → new ≡ done ++ e ∷ [] → expr_tree e ≡ lowered base (base + length added) (query_tree x) → map pred_tree gained ≡ map pred_tree added ++ query_preds (query_tree x) (drop place label) → drop next label ≡ drop (share (query_tree x).top (query_tree x).below) (drop place label) → next ≤ length label → Going base label whole needed end (map query_tree (drop (i + 1) xs)) next (length gained) (map pred_tree gained) (map expr_tree new)
 walk_on base label whole needed end xs i x place next added gained done new e g there is pushed expr_is gained_is next_is within =
-    let split = ap (λ z. map query_tree z) (walk xs i x there is) in
+    let split = ap (λ z. map query_tree z) (from_place xs i x there is) in
     let here = subst (λ qs. Going base label whole needed end qs place (length added) (map pred_tree added) (map expr_tree done)) split g in
     subst (λ z. Going base label whole needed end (map query_tree (drop (i + 1) xs)) next (length gained) (map pred_tree gained) z) (sym (ap (λ z. map expr_tree z) pushed ∙ map-append expr_tree done (e ∷ [])))
     (going_on base label whole needed end (query_tree x) (map query_tree (drop (i + 1) xs)) place (length added) (map pred_tree added) (map expr_tree done) (expr_tree e) next (length gained) (map pred_tree gained) here expr_is gained_is next_is within (sym (length-map added pred_tree)) (sym (length-map gained pred_tree)))

@@ -1,12 +1,12 @@
 -- Which words of observations small expressions hold.
 use Rattle.std.proofs.Common.{◌≡◌, ℕ, Bool, true, false, ◌||◌, ◌⊎◌, inl, inr, List, [], ◌∷◌, map, get_or, refl, ap, rules}
+use Rattle.std.proofs.lemmas.Bool.{and_parts, or_cases}
 use Rattle.pq_fields.specs.Packet.{Numbers}
 use Rattle.pq_fields.specs.Pred.{PredTree, holds as is_met}
 use Rattle.pq_model.specs.Word.{In, Out, Word}
 use Rattle.pq_expr.specs.Expr.{Enters, Leaves, ExprTree, exprs, leaf}
 use Rattle.pq_expr.specs.Word.{Word as HalfSteps}
 use Rattle.pq_expr.specs.Language.{Language, is_empty, in_turn, languages, holds}
-use Rattle.pq_expr.proofs.Cuts.{either, both}
 use Rattle.pq_expr.proofs.Pieces.{joined_last}
 use Rattle.pq_lower.specs.HalfSteps.{half_steps}
 use Rattle.pq_lower.specs.Operators.{optional_out}
@@ -35,7 +35,7 @@ is_none ps (o ∷ w) h = absurd (search (h, rules))
 -- one half step In
 pub one_in : (ps : List PredTree) (n : ℕ) (w : Word) → holds (leaf (Enters n)) (half_steps ps w) ≡ true → (x : Numbers) × (w ≡ In x ∷ []) × (truth ps n x ≡ true)
 one_in ps n [] h = absurd (search (h, rules))
-one_in ps n (In x ∷ w) h = let seen = both (truth ps n x) (is_empty (half_steps ps w)) h in (x, ap (λ v. In x ∷ v) (is_none ps w seen.1), seen.0)
+one_in ps n (In x ∷ w) h = let seen = and_parts (truth ps n x) (is_empty (half_steps ps w)) h in (x, ap (λ v. In x ∷ v) (is_none ps w seen.1), seen.0)
 one_in ps n (Out x ∷ w) h = absurd (search (h, rules))
 
 pub in_one : (ps : List PredTree) (n : ℕ) (x : Numbers) → truth ps n x ≡ true → holds (leaf (Enters n)) (half_steps ps (In x ∷ [])) ≡ true
@@ -45,7 +45,7 @@ in_one ps n x met = rw met refl
 pub one_out : (ps : List PredTree) (n : ℕ) (w : Word) → holds (leaf (Leaves n)) (half_steps ps w) ≡ true → (x : Numbers) × (w ≡ Out x ∷ []) × (truth ps n x ≡ true)
 one_out ps n [] h = absurd (search (h, rules))
 one_out ps n (In x ∷ w) h = absurd (search (h, rules))
-one_out ps n (Out x ∷ w) h = let seen = both (truth ps n x) (is_empty (half_steps ps w)) h in (x, ap (λ v. Out x ∷ v) (is_none ps w seen.1), seen.0)
+one_out ps n (Out x ∷ w) h = let seen = and_parts (truth ps n x) (is_empty (half_steps ps w)) h in (x, ap (λ v. Out x ∷ v) (is_none ps w seen.1), seen.0)
 
 pub out_one : (ps : List PredTree) (n : ℕ) (x : Numbers) → truth ps n x ≡ true → holds (leaf (Leaves n)) (half_steps ps (Out x ∷ [])) ≡ true
 out_one ps n x met = rw met refl
@@ -60,9 +60,9 @@ lead_optional ps t u always (inr (x, one)) = rw (one, always x) refl
 
 pub optional_lead : (ps : List PredTree) (t : ℕ) (u : Word) → holds (optional_out t) (half_steps ps u) ≡ true → IsLead u
 optional_lead ps t u h =
-    elim (either (is_empty (half_steps ps u)) (holds (leaf (Leaves t)) (half_steps ps u) || false) h) [
+    elim (or_cases (is_empty (half_steps ps u)) (holds (leaf (Leaves t)) (half_steps ps u) || false) h) [
       | inl none ↦ inl (is_none ps u none)
-      | inr more ↦ (elim (either (holds (leaf (Leaves t)) (half_steps ps u)) false more) [
+      | inr more ↦ (elim (or_cases (holds (leaf (Leaves t)) (half_steps ps u)) false more) [
         | inl out ↦ (let one = one_out ps t u out in inr (one.0, one.1))
         | inr never ↦ absurd (search (never, rules))
       ])

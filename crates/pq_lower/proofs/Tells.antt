@@ -1,7 +1,7 @@
 -- Expressions that hold the led words of a language.
 use Rattle.std.proofs.Common.{◌≡◌, ◌↔◌, ℕ, zero, suc, Bool, true, false, not, ◌&&◌, ◌||◌, inl, inr, List, [], ◌∷◌, ◌++◌, length, take, drop, refl, sym, ap, subst, ◌∙◌, rules}
 use Rattle.std.specs.List.{list_any, list_all}
-use Rattle.std.proofs.lemmas.Bool.{or_left, or_right}
+use Rattle.std.proofs.lemmas.Bool.{or_left, or_right, and_parts, or_cases}
 use Rattle.pq_fields.specs.Packet.{Numbers}
 use Rattle.pq_fields.specs.Pred.{PredTree}
 use Rattle.pq_model.specs.Word.{In, Out, Word, alternates, is_word}
@@ -10,7 +10,7 @@ use Rattle.pq_query.specs.Language.{Rounds, IsHop, share, AnyOne, All, Joined, F
 use Rattle.pq_expr.specs.Expr.{ExprTree, NoWord, Enters, Leaves, leaf, exprs}
 use Rattle.pq_expr.specs.Word.{Word as HalfSteps}
 use Rattle.pq_expr.specs.Language.{Language, is_empty, joined, in_pieces, holds, languages}
-use Rattle.pq_expr.proofs.Cuts.{either, both, any_number}
+use Rattle.pq_expr.proofs.Cuts.{any_number}
 use Rattle.pq_expr.proofs.Pieces.{joined_cut, cut_joined}
 use Rattle.pq_lower.specs.HalfSteps.{half_step, half_steps}
 use Rattle.pq_lower.specs.Operators.{optional_out, entry, hop, turn_of, any_of, all_of, other_than, repeated}
@@ -96,7 +96,7 @@ any_kept ps [] none label each b w word h = absurd (search (h, rules))
 any_kept ps [] (put top below rest) label each b w word h = absurd each
 any_kept ps (e ∷ es) none label each b w word h = absurd each
 any_kept ps (e ∷ es) (put top below rest) label each b w word h =
-    elim (either (holds e (half_steps ps w)) _ h) [
+    elim (or_cases (holds e (half_steps ps w)) _ h) [
       | inl own ↦ led_map (Holds top (HoldTogether below) (take (share top below) label)) (HoldTogether (put top below rest) AnyOne label) w (λ u held. inl held) (each.0.keeps b w word own)
       | inr later ↦ led_map (HoldTogether rest AnyOne (drop (share top below) label)) (HoldTogether (put top below rest) AnyOne label) w (λ u held. inr held) (any_kept ps es rest (drop (share top below) label) each.1 b w word later)
     ]
@@ -159,10 +159,10 @@ all_shown ps (e ∷ es) (put top below rest) label each b w word held =
 all_kept : (ps : List PredTree) (e : ExprTree) (es : List ExprTree) (qs : Queries) (label : List ℕ) → EachTells ps (e ∷ es) qs label → Keeps ps (λ v. list_all (λ P. P v) (languages (exprs (e ∷ es)))) (HoldTogether qs All label)
 all_kept ps e es none label each b w word h = absurd each
 all_kept ps e [] (put top below none) label each b w word h =
-    led_map (Holds top (HoldTogether below) (take (share top below) label)) (HoldTogether (put top below none) All label) w (λ u held. (held, tt)) (each.0.keeps b w word (both (holds e (half_steps ps w)) _ h).0)
+    led_map (Holds top (HoldTogether below) (take (share top below) label)) (HoldTogether (put top below none) All label) w (λ u held. (held, tt)) (each.0.keeps b w word (and_parts (holds e (half_steps ps w)) _ h).0)
 all_kept ps e [] (put top below (put next lower rest)) label each b w word h = absurd each.1
 all_kept ps e (f ∷ es) (put top below rest) label each b w word h =
-    let parts = both (holds e (half_steps ps w)) _ h in
+    let parts = and_parts (holds e (half_steps ps w)) _ h in
     both_led (Holds top (HoldTogether below) (take (share top below) label)) (HoldTogether rest All (drop (share top below) label)) w (each.0.keeps b w word parts.0) (all_kept ps f es rest (drop (share top below) label) each.1 b w word parts.1)
 
 -- none of them
@@ -257,7 +257,7 @@ rounds_shown (suc n) ps L P own b w word held = or_right _ _ (join_shown ps L (R
 rounds_kept : (n : ℕ) (ps : List PredTree) (L : Word → Type 0) (P : Language) → Keeps ps P L → Keeps ps (in_pieces P n) (AnyRounds L)
 rounds_kept zero ps L P own b w word h = subst (λ z. IsLed (AnyRounds L) z) (sym (is_none ps w h)) (zero, refl)
 rounds_kept (suc n) ps L P own b w word h =
-    elim (either (is_empty (half_steps ps w)) (joined P (in_pieces P n) (half_steps ps w)) h) [
+    elim (or_cases (is_empty (half_steps ps w)) (joined P (in_pieces P n) (half_steps ps w)) h) [
       | inl nothing ↦ subst (λ z. IsLed (AnyRounds L) z) (sym (is_none ps w nothing)) (zero, refl)
       | inr more ↦ led_map (Join L (AnyRounds L)) (AnyRounds L) w (λ u all. (suc all.4.0, (all.0, all.1, all.2, all.3, all.4.1))) (join_kept ps L (AnyRounds L) P (in_pieces P n) own (rounds_kept n ps L P own) b w word more)
     ]

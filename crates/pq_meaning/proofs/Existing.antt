@@ -7,6 +7,7 @@ use Rattle.std.proofs.lemmas.Bool.Decides.{nat_tests}
 use Rattle.std.proofs.lemmas.List.Elements.{All-from_recursion}
 use Rattle.std.proofs.lemmas.List.Folds.{Any-from_list_any, list_any-from_Any}
 use Rattle.std.proofs.lemmas.Slice.Eq.{bytes_eq-Decides}
+use Rattle.std.proofs.lemmas.List.Kept.{Any-cons}
 use Rattle.pq_fields.specs.Packet.{Numbers, is_before, numbers}
 use Rattle.pq_fields.specs.Writes.{Written, on}
 use Rattle.pq_model.specs.Buckets.{Instance}
@@ -15,17 +16,17 @@ use Rattle.pq_model.specs.Install.{AscendsBy}
 use Rattle.pq_model.specs.Meaning.{Meaning}
 use Rattle.pq_model.specs.Topology.{Topology}
 use Rattle.pq_model.specs.Word.{Word}
+use Rattle.pq_model.proofs.NumberLists.{same_list}
 use Rattle.pq_policy.specs.Policy.{IsInPacketOrder, IsListOf, PolicyTree}
 use Rattle.pq_query.specs.Instances.{instances_of}
 use Rattle.pq_query.specs.Language.{lang}
 use Rattle.pq_query.specs.Query.{QueryTree}
 use Rattle.pq_rewrite.specs.Rewriting.{IsGiven, IsWrittenBy}
-use Rattle.pq_rewrite.proofs.Sets.{any_cases, any_first, any_later, any_none}
+use Rattle.pq_rewrite.proofs.Sets.{any_cases, any_first, any_none}
 use Rattle.pq_layout.specs.Leaves.{Departures}
 use Rattle.pq_layout.specs.Tagging.{Tagging, tag_of}
 use Rattle.pq_headline.proofs.Keys.{first_ahead, numbers_tell, rest_ascends}
 use Rattle.pq_headline.proofs.Members.{StandsIn, among_from_contains, contains_from_among}
-use Rattle.pq_headline.proofs.SortedTo.{neither_before}
 use Rattle.pq_meaning.specs.Compiled.{IsLaid}
 use Rattle.pq_meaning.specs.Meaning.{IsMeaning, departs}
 
@@ -77,7 +78,7 @@ put_in x z (y ∷ ys) here = by (is_before (numbers x) (numbers y)) (is_before (
     by false true first back (inl is) rest = inr (rest (inl is))
     by false true first back (inr (inl is)) rest = inl is
     by false true first back (inr (inr later)) rest = inr (rest (inr later))
-    by false false first back (inl is) rest = inl (is ∙ numbers_tell x y (neither_before (numbers x) (numbers y) first back))
+    by false false first back (inl is) rest = inl (is ∙ numbers_tell x y (same_list (numbers x) (numbers y) first back))
     by false false first back (inr old) rest = old
 
 -- what writes give, in order
@@ -93,7 +94,7 @@ in_given : (x z : Numbers) (ws : List Written) → StandsIn z (given_in_order x 
 in_given x z [] never = absurd never
 in_given x z (w ∷ ws) there = elim (in_put (on w x) z (given_in_order x ws) there) [
   | inl is ↦ any_first (λ v. z ≡ on v x) w ws is
-  | inr later ↦ any_later (λ v. z ≡ on v x) w ws (in_given x z ws later)
+  | inr later ↦ Any-cons (λ v. z ≡ on v x) w ws (in_given x z ws later)
 ]
 
 given_in : (x z : Numbers) (ws : List Written) → IsWrittenBy x ws z → StandsIn z (given_in_order x ws)

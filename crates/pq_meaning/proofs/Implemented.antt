@@ -1,6 +1,6 @@
 -- The install of a document implements its meaning.
-use Rattle.std.proofs.Common.{ℕ, List, [], ◌∷◌, sym, subst}
-use Rattle.std.specs.List.{AllZip}
+use Rattle.std.proofs.Common.{ℕ, List, sym, subst}
+use Rattle.pq_lists.proofs.Paired.{zip_weaker}
 use Rattle.pq_model.specs.declared.message.Message.{Message}
 use Rattle.pq_model.specs.Buckets.{Instance}
 use Rattle.pq_model.specs.Headline.{Implements}
@@ -21,13 +21,6 @@ use Rattle.pq_headline.proofs.Implemented.{implemented}
 use Rattle.pq_meaning.specs.Compiled.{IsCompiled, IsFilled}
 use Rattle.pq_meaning.specs.Meaning.{IsMeaning}
 use Rattle.pq_meaning.proofs.Meant.{laid_out}
-
--- what follows of values side by side
-pub zip_weaker : {A B : Type 0} (R Q : A → B → Type 0) → ((x : A) (y : B) → R x y → Q x y) → (xs : List A) (ys : List B) → AllZip R xs ys → AllZip Q xs ys
-zip_weaker R Q follows [] [] all = tt
-zip_weaker R Q follows [] (y ∷ ys) all = absurd all
-zip_weaker R Q follows (x ∷ xs) [] all = absurd all
-zip_weaker R Q follows (x ∷ xs) (y ∷ ys) all = (follows x y all.0, zip_weaker R Q follows xs ys all.1)
 
 module _ (sends : (first : ArrivingTrees) (second : LeavingTrees) → AreFilled first second → SwitchSends first second) where
   -- a switch whose messages come from trees that entries can stand for sends by them

@@ -5,10 +5,12 @@ use Rattle.std.specs.List.{AllByRecursion, flat_map}
 use Rattle.std.specs.List.Sorted.{IsStrictlySortedBy}
 use Rattle.std.specs.Ordering.{MatchOrdering}
 use Rattle.std.proofs.lemmas.Bool.Decides.{nat_tests}
+use Rattle.pq_lists.proofs.Holding.{all_append, all_weaker, all_map}
 use Rattle.pq_fields.specs.Packet.{is_before}
 use Rattle.pq_model.specs.Buckets.{Instance, instance_numbers}
 use Rattle.pq_model.specs.Install.{AscendsBy}
 use Rattle.pq_model.specs.Topology.{Topology}
+use Rattle.pq_model.proofs.NumberLists.{by_first}
 use Rattle.pq_query.specs.Groups.{Group}
 use Rattle.pq_query.specs.Instances.{instances_from, instances_of, under_labels}
 use Rattle.pq_query.specs.Labels.{ascending, group_values, groups_of, labels, one_from_each}
@@ -16,18 +18,6 @@ use Rattle.pq_query.specs.Query.{QueryTree, queries}
 use Rattle.pq_deriv.proofs.Ascending.{ascends_inserted}
 
 -- Lists in an order.
-
-pub all_append : {A : Type 0} (P : A → Type 0) (xs ys : List A) → AllByRecursion P xs → AllByRecursion P ys → AllByRecursion P (xs ++ ys)
-all_append P [] ys first later = later
-all_append P (x ∷ xs) ys first later = (first.0, all_append P xs ys first.1 later)
-
-pub all_map : {A B : Type 0} (f : A → B) (P : B → Type 0) (xs : List A) → AllByRecursion (λ x. P (f x)) xs → AllByRecursion P (map f xs)
-all_map f P [] all = tt
-all_map f P (x ∷ xs) all = (all.0, all_map f P xs all.1)
-
-pub all_weaker : {A : Type 0} (P Q : A → Type 0) → ((x : A) → P x → Q x) → (xs : List A) → AllByRecursion P xs → AllByRecursion Q xs
-all_weaker P Q follows [] all = tt
-all_weaker P Q follows (x ∷ xs) all = (follows x all.0, all_weaker P Q follows xs all.1)
 
 all_of : {A : Type 0} (P : A → Type 0) → ((x : A) → P x) → (xs : List A) → AllByRecursion P xs
 all_of P each [] = tt
@@ -44,12 +34,6 @@ module _ {A : Type 0} (R : A → A → Type 0) where
   rise_append (x ∷ xs) ys first later ahead = (all_append (R x) xs ys first.0 ahead.0, rise_append xs ys first.1 later ahead.1)
 
 -- Lists of numbers.
-
--- the first number decides
-less_first : (m n : ℕ) (xs ys : List ℕ) → m < n → is_before (m ∷ xs) (n ∷ ys) ≡ true
-less_first m n xs ys less =
-    let is : nat_lt m n ≡ true = grind (arith, nat_tests, less) in
-    λ i. is i || ((m == n) && is_before xs ys)
 
 -- or what follows it
 same_first : (m : ℕ) (xs ys : List ℕ) → is_before xs ys ≡ true → is_before (m ∷ xs) (m ∷ ys) ≡ true
@@ -94,7 +78,7 @@ module _ (R : List (List ℕ)) where
   ahead n k (m ∷ ms) above =
       let less : n < m = above.0 in
       all_append (LabelBefore (n ∷ k)) (map (λ label. m ∷ label) R) (led ms)
-      (all_map (λ label. m ∷ label) (LabelBefore (n ∷ k)) R (all_of (λ l. LabelBefore (n ∷ k) (m ∷ l)) (λ l. less_first (n + 1) (m + 1) (label_key k) (label_key l) (omega (arith, less))) R))
+      (all_map (λ label. m ∷ label) (LabelBefore (n ∷ k)) R (all_of (λ l. LabelBefore (n ∷ k) (m ∷ l)) (λ l. by_first (n + 1) (m + 1) (label_key k) (label_key l) (omega (arith, less))) R))
       (ahead n k ms above.1)
 
 led_alone : (n : ℕ) (R : List (List ℕ)) → Rise LabelBefore R → Rise LabelBefore (map (λ label. n ∷ label) R)
@@ -146,7 +130,7 @@ instances_rise T place (q ∷ qs) =
     (all_map (λ label. record { query = place; label = label }) (λ i. AllByRecursion (InstanceBefore i) later) (labels T q)
     (all_of (λ label. AllByRecursion (InstanceBefore (record { query = place; label = label })) later)
     (λ label. all_weaker (λ (j : Instance). place + 1 ≤ j.query) (InstanceBefore (record { query = place; label = label }))
-    (λ j above. less_first place j.query (label_key label) (label_key j.label) (omega (arith, above))) later (behind T (place + 1) (place + 1) qs (omega arith))) (labels T q)))
+    (λ j above. by_first place j.query (label_key label) (label_key j.label) (omega (arith, above))) later (behind T (place + 1) (place + 1) qs (omega arith))) (labels T q)))
 
 ascends_by : (is : List Instance) → Rise InstanceBefore is → AscendsBy instance_numbers is
 ascends_by [] up = tt

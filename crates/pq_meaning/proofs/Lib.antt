@@ -3,7 +3,7 @@ mod Ignoring
 mod Implemented
 mod InstancesAscend
 mod Meant
-mod PartsHalves
+pub mod PartsHalves
 mod Presence
 mod OneTagging
 pub mod OneInstall

@@ -16,7 +16,7 @@ use Rattle.pq_query.specs.Instances.{instances_of}
 use Rattle.pq_query.specs.Languages.{IsHeld}
 use Rattle.pq_query.specs.Query.{QueryTree}
 use Rattle.pq_query.proofs.Listed.{instances_below}
-use Rattle.pq_store.proofs.Elements.{at_place}
+use Rattle.pq_lists.proofs.Places.{at_place}
 use Rattle.pq_rewrite.proofs.Sets.{given_same}
 use Rattle.pq_layout.specs.Leaves.{AreDepartures, Departures}
 use Rattle.pq_layout.specs.Tagging.{Tagging}

@@ -1,7 +1,9 @@
 -- A document has one install.
-use Rattle.std.proofs.Common.{◌≡◌, ◌∙◌, ◌<◌, ◌≤◌, ◌^◌, ℕ, zero, suc, Bool, true, false, not, None, Some, cond, if◌then◌else◌, List, [], ◌∷◌, ◌++◌, map, refl, sym, ap, ap₂, subst, arith}
+use Rattle.std.proofs.Common.{◌≡◌, ◌∙◌, ◌<◌, ◌≤◌, ◌^◌, ℕ, zero, suc, not, None, Some, if◌then◌else◌, List, [], ◌∷◌, ◌++◌, map, refl, sym, ap, ap₂, subst, arith}
 use Rattle.std.specs.List.{AllByRecursion, AllZip, filter, flat_map}
 use Rattle.std.proofs.lemmas.List.Elements.{recursion_from_All}
+use Rattle.pq_join.proofs.Arrivals.{at_switch_fits}
+use Rattle.pq_lists.proofs.Holding.{all_append, all_filter, all_weaker, all_map, filter_same}
 use Rattle.pq_fields.specs.Packet.{Fit, Numbers}
 use Rattle.pq_fields.specs.Writes.{AllFit, Written, no_writes, on}
 use Rattle.pq_model.specs.declared.message.Message.{Message}
@@ -27,22 +29,9 @@ use Rattle.pq_layout.specs.Tagging.{Tagging, captures, even_tags, is_empty, odd_
 use Rattle.pq_layout.specs.Trees.{IsArriving, IsLeaving, IsTreeOf, keys_of}
 use Rattle.pq_meaning.specs.Compiled.{IsCompiled, IsLaid}
 use Rattle.pq_meaning.specs.Meaning.{departs}
-use Rattle.pq_meaning.proofs.InstancesAscend.{all_append, all_map, all_weaker}
 use Rattle.pq_meaning.proofs.OneTagging.{AreAlike, taggings_alike}
 
 -- Lists of numbers that are tags.
-
-all_filter : {A : Type 0} (P : A → Type 0) (p : A → Bool) (xs : List A) → AllByRecursion P xs → AllByRecursion P (filter p xs)
-all_filter P p [] all = tt
-all_filter P p (x ∷ xs) all = by (p x) (all_filter P p xs all.1)
-  where
-    by : (b : Bool) → AllByRecursion P (filter p xs) → AllByRecursion P (cond b (x ∷ filter p xs) (filter p xs))
-    by true rest = (all.0, rest)
-    by false rest = rest
-
-filter_same : {A : Type 0} (p q : A → Bool) (xs : List A) → AllByRecursion (λ x. p x ≡ q x) xs → filter p xs ≡ filter q xs
-filter_same p q [] all = refl
-filter_same p q (x ∷ xs) all = λ i. cond (all.0 i) (x ∷ filter_same p q xs all.1 i) (filter_same p q xs all.1 i)
 
 map_same : {A B : Type 0} (f f' : A → B) (xs : List A) → AllByRecursion (λ x. f x ≡ f' x) xs → map f xs ≡ map f' xs
 map_same f f' [] all = refl
@@ -90,25 +79,6 @@ module _ {K L : Type 0} (word : K → ℕ) (F G : K → Numbers → L) (Known : 
   one_trees (k ∷ ks) known [] qs a b = absurd a
   one_trees (k ∷ ks) known (p ∷ ps) [] a b = absurd b
   one_trees (k ∷ ks) known (p ∷ ps) (q ∷ qs) a b = ap₂ (λ r rs. r ∷ rs) (one_tree k known.0 p q a.0 b.0) (one_trees ks known.1 ps qs a.1 b.1)
-
--- a packet at a switch is a packet
-at_fits : (d : ℕ) (x : Numbers) → d < 2 ^ 64 → Fit x → Fit (at_switch d x)
-at_fits d x small fit = record {
-  switch = small;
-  port = fit.port;
-  eth_type = fit.eth_type;
-  ip_proto = fit.ip_proto;
-  eth_src = fit.eth_src;
-  eth_dst = fit.eth_dst;
-  ipv4_src = fit.ipv4_src;
-  ipv4_dst = fit.ipv4_dst;
-  tcp_src = fit.tcp_src;
-  tcp_dst = fit.tcp_dst;
-  udp_src = fit.udp_src;
-  udp_dst = fit.udp_dst;
-  ipv6_src = fit.ipv6_src;
-  ipv6_dst = fit.ipv6_dst;
-}
 
 -- so is one at port 0
 dropped_fits : (x : Numbers) → Fit x → Fit (record x { port = 0 })
@@ -201,10 +171,10 @@ module _ (T : Topology) (g h : Tagging) (alike : AreAlike g h) where
 
     module _ (d : ℕ) (small : d < 2 ^ 64) where
       arrival_at : (k : Key) → IsKey k → (x : Numbers) → Fit x → arrival T g k (at_switch d x) ≡ arrival T h k (at_switch d x)
-      arrival_at k known x fit = arrival_same k known (at_switch d x) (at_fits d x small fit)
+      arrival_at k known x fit = arrival_same k known (at_switch d x) (at_switch_fits d x small fit)
 
       leaving_at : (t : ℕ) → IsOneOf g.count t → (x : Numbers) → Fit x → leaving T g writes t (at_switch d x) ≡ leaving T h more t (at_switch d x)
-      leaving_at t known x fit = leaving_same t known (at_switch d x) (at_fits d x small fit)
+      leaving_at t known x fit = leaving_same t known (at_switch d x) (at_switch_fits d x small fit)
 
       -- the trees of a switch
       pub trees_same : (a : ArrivingTrees) (b : LeavingTrees) → AreTrees T g writes d a b → AreTrees T h more d a b

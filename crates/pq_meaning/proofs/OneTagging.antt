@@ -1,64 +1,26 @@
 -- Languages have one tagging, up to what it says of other numbers than tags.
-use Rattle.std.proofs.Common.{◌≡◌, ◌∙◌, ◌≤◌, ◌+◌, ℕ, suc, Bool, true, false, not, if◌then◌else◌, Some, List, [], ◌∷◌, ◌++◌, length, length-append, refl, sym, ap, subst, arith}
+use Rattle.std.proofs.Common.{◌≡◌, ◌∙◌, ◌≤◌, ℕ, suc, Bool, true, false, Some, List, [], ◌∷◌, ◌++◌, length, length-append, refl, sym, ap, arith}
 use Rattle.std.specs.Prelude.{slice_get}
 use Rattle.std.specs.List.{Contains}
-use Rattle.std.proofs.lemmas.List.{get_or-append-add}
-use Rattle.std.proofs.lemmas.List.Elements.{All-append}
 use Rattle.std.proofs.lemmas.Option.{slice_get-get_or}
 use Rattle.pq_fields.specs.Packet.{Fit, Numbers}
-use Rattle.pq_model.specs.Classes.{AllObservedFit, AreSame, IsLeast, IsPath, IsTag, Languages, has_even_length}
+use Rattle.pq_model.specs.Classes.{AreSame, IsLeast, IsPath, IsTag, Languages, has_even_length}
 use Rattle.pq_model.specs.Meaning.{entered}
 use Rattle.pq_model.specs.Orders.{IsReordering}
-use Rattle.pq_model.specs.Word.{Out, Word, alternates, observed_packet, word_is_before}
-use Rattle.pq_lower.proofs.Seams.{alternating_cut, behind}
-use Rattle.pq_classes.proofs.Counted.{one_count}
+use Rattle.pq_model.specs.Word.{Out, Word, word_is_before}
+use Rattle.pq_classes.proofs.Counted.{one_count, same_back, same_through}
 use Rattle.pq_classes.proofs.Following.{same_contents}
 use Rattle.pq_classes.proofs.Order.{one_word}
-use Rattle.pq_classes.proofs.Spelled.{alternates_append}
 use Rattle.pq_layout.specs.Tagging.{IsTagging, Tagging, tag_of}
 use Rattle.pq_headline.proofs.Members.{AreApart, StandsIn, among_from_contains, contains_from_among, same_members}
 use Rattle.pq_headline.proofs.Paths.{entered_path, entered_tag, left_path, left_tag}
 
 -- Words that are the same.
 
--- the next observation is an In after an even length
-turn_of : (b : Bool) (u : Word) → behind b u ≡ (if has_even_length u then b else not b)
-turn_of b [] = refl
-turn_of b (o ∷ u) = turn_of (not b) u ∙ turned b (has_even_length u)
-  where
-    turned : (b even : Bool) → (if even then not b else not (not b)) ≡ (if not even then b else not b)
-    turned true true = refl
-    turned true false = refl
-    turned false true = refl
-    turned false false = refl
-
-fits_after : (u e : Word) → AllObservedFit (u ++ e) → AllObservedFit e
-fits_after u e fits k d within = subst (λ o. Fit (observed_packet o)) (get_or-append-add u e k d) (fits (length u + k) d (omega (arith, within, length-append u e)))
-
--- what may follow a word may follow each of the same parity
-follows : (u v e : Word) → has_even_length u ≡ has_even_length v → IsPath v → IsPath (u ++ e) → IsPath (v ++ e)
-follows u v e parity (is, fits) (more, more_fits) = (
-  alternates_append true v e is (ap (λ b. alternates b e) (ap (λ b. if b then true else false) (sym parity) ∙ sym (turn_of true u)) ∙ (alternating_cut true u e more).1),
-  All-append (λ o. Fit (observed_packet o)) v e fits (fits_after u e more_fits),
-)
-
 module _ (Ls : Languages) where
-  same_back : (u v : Word) → AreSame Ls u v → AreSame Ls v u
-  same_back u v same = record { parity = sym same.parity; held = λ e a b i. let both = same.held e b a i in (both.1, both.0) }
-
-  same_through : (u v w : Word) → IsPath v → AreSame Ls u v → AreSame Ls v w → AreSame Ls u w
-  same_through u v w path one two = record {
-    parity = one.parity ∙ two.parity;
-    held = λ e a b i.
-        let middle = follows u v e one.parity path a in
-        let first = one.held e a middle i in
-        let second = two.held e middle b i in
-        (λ h. second.0 (first.0 h), λ h. first.1 (second.1 h));
-  }
-
   -- a class has one least word
   one_least : (u v : Word) → IsLeast Ls u → IsLeast Ls v → AreSame Ls u v → u ≡ v
-  one_least u v left right same = one_word u v left.path.0 right.path.0 (right.least u left.path (same_back u v same)) (left.least v right.path same)
+  one_least u v left right same = one_word u v left.path.0 right.path.0 (right.least u left.path (same_back Ls u v same)) (left.least v right.path same)
 
 -- Lists of the same values, each once, are as long.
 

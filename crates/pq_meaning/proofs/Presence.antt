@@ -4,6 +4,8 @@ use Rattle.std.specs.Prelude.{◌&&◌}
 use Rattle.std.specs.Option.{unwrap_or}
 use Rattle.std.proofs.lemmas.Bool.{true≢false}
 use Rattle.std.proofs.lemmas.Bool.Decides.{eqb_tells, nat_tests}
+use Rattle.std.proofs.Math.Bool.{and-true}
+use Rattle.pq_apply.proofs.Choices.{one_of_same}
 use Rattle.pq_fields.specs.declared.field.Field.{Field}
 use Rattle.pq_fields.specs.declared.field.Field.TheVariants.{Switch, Port, EthType, IpProto, EthSrc, EthDst, Ipv4Src, Ipv4Dst, TcpSrc, TcpDst, UdpSrc, UdpDst, Ipv6Src, Ipv6Dst}
 use Rattle.pq_fields.specs.Packet.{Numbers, has_field, number_in, rank, with_number}
@@ -13,7 +15,7 @@ use Rattle.pq_policy.specs.Policy.{written}
 use Rattle.pq_store.proofs.Order.{rank_injective}
 use Rattle.pq_store.proofs.PrefixNumbers.{number_with, number_with_other}
 use Rattle.pq_rewrite.proofs.Fields.{written_with}
-use Rattle.pq_rewrite.proofs.Numbers.{number_on, stays}
+use Rattle.pq_rewrite.proofs.Numbers.{number_on}
 use Rattle.pq_rewrite.proofs.Single.{alone}
 use Rattle.pq_classes.proofs.Ignoring.{holds_kept}
 
@@ -35,10 +37,6 @@ same_packet x y same = λ i. record {
   ipv6_src = same Ipv6Src i;
   ipv6_dst = same Ipv6Dst i;
 }
-
-and_true : (b : Bool) → (b && true) ≡ b
-and_true true = refl
-and_true false = refl
 
 -- One write.
 
@@ -76,7 +74,7 @@ module _ (g : Field) (m : ℕ) (writable : is_writable g ≡ true) where
         | inl same ↦ subst (λ k. number_after k one x ≡ number_in k (written g m x)) (sym (rank_injective h g same.1))
             (ap (λ o. if has_field g x then unwrap_or o (number_in g x) else number_in g x) written_there ∙ own (has_field g x))
         | inr other ↦ ap (λ o. if has_field h x then unwrap_or o (number_in h x) else number_in h x) (unwritten h other.1)
-            ∙ (sym (stays (has_field h x) (number_in h x)) ∙ else_where h other.1 (has_field g x))
+            ∙ (sym (one_of_same (has_field h x) (number_in h x)) ∙ else_where h other.1 (has_field g x))
       ]
 
 -- Another number in a field that the packet lacks.
@@ -91,7 +89,7 @@ module _ (f : Field) (n : ℕ) where
     lacks_still =
         let changed = with_number f n x in
         let same : (number_in f changed == n) ≡ true = grind (arith, nat_tests, number_with f n x) in
-        sym (and_true (has_field f changed)) ∙ (ap (λ c. has_field f changed && c) (sym same)
+        sym (and-true (has_field f changed)) ∙ (ap (λ c. has_field f changed && c) (sym same)
         ∙ (holds_kept f n x lacks (leaf (Equals f n)) ∙ (ap (λ b. b && (number_in f x == n)) lacks ∙ sym lacks)))
 
     has_other : (g : Field) → (rank g ≡ rank f → ⊥) → has_field g (with_number f n x) ≡ has_field g x
@@ -101,8 +99,8 @@ module _ (f : Field) (n : ℕ) where
         let kept : number_in g changed ≡ v = number_with_other f g n x other in
         let same : (number_in g changed == v) ≡ true = grind (arith, nat_tests, kept) in
         let itself : (v == v) ≡ true = grind (arith, nat_tests) in
-        sym (and_true (has_field g changed)) ∙ (ap (λ c. has_field g changed && c) (sym same)
-        ∙ (holds_kept f n x lacks (leaf (Equals g v)) ∙ (ap (λ c. has_field g x && c) itself ∙ and_true (has_field g x))))
+        sym (and-true (has_field g changed)) ∙ (ap (λ c. has_field g changed && c) (sym same)
+        ∙ (holds_kept f n x lacks (leaf (Equals g v)) ∙ (ap (λ c. has_field g x && c) itself ∙ and-true (has_field g x))))
 
     -- it has the fields that it had
     pub has_kept : (g : Field) → has_field g (with_number f n x) ≡ has_field g x

@@ -49,7 +49,7 @@ same_match-comm m n i =
     && same_number-comm m.udp_src n.udp_src i && same_number-comm m.udp_dst n.udp_dst i
     && same_masked-comm m.ipv6_src n.ipv6_src i && same_masked-comm m.ipv6_dst n.ipv6_dst i
 
-equal-comm : (a b : ℕ) → (a == b) ≡ (b == a)
+pub equal-comm : (a b : ℕ) → (a == b) ≡ (b == a)
 equal-comm a b = grind (arith, nat_tests)
 
 is_placed-comm : (f g : FlowValue) → is_placed f (entry_of g) ≡ is_placed g (entry_of f)

@@ -29,7 +29,7 @@ module _ (xid : ℕ) (ms : List Message) where
   free-parted (Barrier x ∷ block) more rest = free-parted block more rest
 
 -- entries that are apart have different places
-apart-placed : (f : FlowValue) (e : Entry) → AreApart (entry_of f) e → is_placed f e ≡ false
+pub apart-placed : (f : FlowValue) (e : Entry) → AreApart (entry_of f) e → is_placed f e ≡ false
 apart-placed f e apart = by (e.table == f.table) (e.priority == f.priority) refl refl
   where
     by : (a b : Bool) → (e.table == f.table) ≡ a → (e.priority == f.priority) ≡ b → a && b && same_match e.matching f.matching ≡ false

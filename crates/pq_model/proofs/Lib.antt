@@ -4,6 +4,7 @@ pub mod Examples
 pub mod Filters
 pub mod FreeOfOrder
 pub mod LawfulOrders
+pub mod NumberLists
 pub mod Pairs
 pub mod Reorderings
 pub mod Renewals

@@ -1,5 +1,5 @@
 mod Exact
-mod Members
+pub mod Members
 pub mod OneList
 mod Yielded
 pub mod Choices

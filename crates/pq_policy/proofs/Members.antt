@@ -14,7 +14,7 @@ contained (x ∷ xs) y (inl same) = subst (Contains (x ∷ xs)) (sym same) (Cont
 contained (x ∷ xs) y (inr later) = Contains-append_right (x ∷ []) xs y (contained xs y later)
 
 -- nothing is in the empty list
-none_in : {X : Type 0} (y : X) → Contains [] y → ⊥
+pub none_in : {X : Type 0} (y : X) → Contains [] y → ⊥
 none_in y (k, below, is) = omega (arith, below)
 
 -- what is in a list of one

@@ -1,20 +1,12 @@
 -- Packets have one list in packet order.
-use Rattle.std.proofs.Common.{◌≡◌, ◌<◌, ◌⊎◌, ◌==◌, ◌&&◌, ◌∙◌, ℕ, true, List, [], ◌∷◌, refl, sym, subst, inl, inr, arith}
-use Rattle.std.specs.Prelude.{nat_lt}
+use Rattle.std.proofs.Common.{◌≡◌, ◌⊎◌, ◌∙◌, ℕ, true, List, [], ◌∷◌, refl, sym, subst, inl, inr, arith}
 use Rattle.std.specs.List.{All}
-use Rattle.std.proofs.lemmas.Bool.{and_parts, both_ways, eqb-true, ltb-true, or_cases}
+use Rattle.std.proofs.lemmas.Bool.{both_ways}
 use Rattle.std.proofs.lemmas.List.Elements.{All-contains}
+use Rattle.pq_model.proofs.NumberLists.{first_or_rest}
 use Rattle.pq_fields.specs.Packet.{Numbers, is_before, numbers}
 use Rattle.pq_policy.specs.Policy.{IsInPacketOrder, IsListOf}
 use Rattle.pq_policy.proofs.Members.{IsIn, contained, is_in}
-
--- where one list stands before another, its first number is the smaller, or it is the same and the rest stands before the rest
-parts : (a b : ℕ) (xs ys : List ℕ) → is_before (a ∷ xs) (b ∷ ys) ≡ true → (a < b) ⊎ ((a ≡ b) × (is_before xs ys ≡ true))
-parts a b xs ys is =
-    elim (or_cases (nat_lt a b) ((a == b) && is_before xs ys) is) [
-      | inl less ↦ inl (ltb-true a b less)
-      | inr same ↦ inr (eqb-true a b (and_parts (a == b) (is_before xs ys) same).0, (and_parts (a == b) (is_before xs ys) same).1)
-    ]
 
 -- no two lists stand before each other
 never_both : (xs ys : List ℕ) → is_before xs ys ≡ true → is_before ys xs ≡ true → ⊥
@@ -22,9 +14,9 @@ never_both [] [] is back = both_ways true (sym is) refl
 never_both [] (y ∷ ys) is back = both_ways true (sym back) refl
 never_both (x ∷ xs) [] is back = both_ways true (sym is) refl
 never_both (x ∷ xs) (y ∷ ys) is back =
-    elim (parts x y xs ys is) [
-      | inl less ↦ elim (parts y x ys xs back) [ inl more ↦ omega (arith, less, more) | inr same ↦ omega (arith, less, same.0) ]
-      | inr same ↦ elim (parts y x ys xs back) [ inl more ↦ omega (arith, same.0, more) | inr also ↦ never_both xs ys same.1 also.1 ]
+    elim (first_or_rest x y xs ys is) [
+      | inl less ↦ elim (first_or_rest y x ys xs back) [ inl more ↦ omega (arith, less, more) | inr same ↦ omega (arith, less, same.0) ]
+      | inr same ↦ elim (first_or_rest y x ys xs back) [ inl more ↦ omega (arith, same.0, more) | inr also ↦ never_both xs ys same.1 also.1 ]
     ]
 
 -- x stands before y

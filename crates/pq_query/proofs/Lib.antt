@@ -1,3 +1,4 @@
+pub mod AtomsOfTrees
 pub mod Ascending
 mod Below
 pub mod Counted

@@ -9,6 +9,7 @@ use Rattle.pq_model.specs.Install.{IsLawfulSwitch, port_count}
 use Rattle.pq_model.specs.Lawful.{Ascends}
 use Rattle.pq_model.specs.Topology.{Switch, Topology}
 use Rattle.pq_topo.specs.Named.{IsNamedTopology}
+use Rattle.pq_topo.proofs.Ascending.{rest_ascends}
 use Rattle.pq_query.specs.Counts.{capped, count_other, count_others}
 use Rattle.pq_query.specs.Labels.{ascending, datapath_numbers, port_numbers}
 use Rattle.pq_query.proofs.Ascending.{has, first_once, one_more, length_ascending, length_ascends, length_within}
@@ -16,10 +17,6 @@ use Rattle.pq_query.proofs.Ascending.{has, first_once, one_more, length_ascendin
 -- a number is one of two lists where it is one of either
 pub either_has : (ps qs : List ℕ) (n : ℕ) → has (ps ++ qs) n ≡ (has ps n || has qs n)
 either_has ps qs n = list_any-append (λ k. k == n) ps qs
-
-rest_ascends : (p : ℕ) (ps : List ℕ) → Ascends (p ∷ ps) → Ascends ps
-rest_ascends p [] up = tt
-rest_ascends p (q ∷ ps) up = up.1
 
 -- ascending ports count where none of the others has them
 pub others_counted : (ps known : List ℕ) (n : ℕ) → Ascends ps → capped (count_others ps known n + length (ascending known)) ≡ capped (n + length (ascending (ps ++ known)))

@@ -10,7 +10,7 @@ use Rattle.pq_fields.specs.Pred.{PredTree, holds, leaf, pred_step, pred_tree}
 use Rattle.pq_fields.specs.Pred.PredTop.{Equals}
 use Rattle.pq_store.specs.Tree.{Tree, value}
 use Rattle.pq_store.specs.Store.{HasAt, Keeps}
-use Rattle.pq_store.proofs.Elements.{at_place}
+use Rattle.pq_lists.proofs.Places.{at_place}
 use Rattle.pq_store.specs.Room.{Within}
 use Rattle.pq_store.proofs.RoomLemmas.{room_for}
 use Rattle.pq_apply.specs.Predicates.{HoldsAt, IsPredWithin}

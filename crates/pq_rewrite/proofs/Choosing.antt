@@ -5,7 +5,7 @@ use Rattle.pq_fields.specs.Packet.{Numbers, Fit}
 use Rattle.pq_fields.specs.Pred.{PredTree, holds}
 use Rattle.pq_store.specs.declared.test.Test.TheVariants.{Equal}
 use Rattle.pq_store.specs.Tree.{Tree, value}
-use Rattle.pq_store.proofs.Elements.{at_place}
+use Rattle.pq_lists.proofs.Places.{at_place}
 use Rattle.pq_store.specs.Store.{HasAt}
 use Rattle.pq_store.specs.Room.{Within}
 use Rattle.pq_store.proofs.RoomLemmas.{room_for}

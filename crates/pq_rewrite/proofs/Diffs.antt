@@ -3,12 +3,12 @@ use Rattle.std.proofs.Common.{ℕ, ◌≡◌, ◌∙◌, Bool, true, false, Opti
 use Rattle.std.specs.Option.{unwrap_or}
 use Rattle.std.proofs.lemmas.Bool.{true≢false}
 use Rattle.std.proofs.lemmas.Bool.Decides.{eqb_tells}
+use Rattle.pq_apply.proofs.Choices.{one_of_same}
 use Rattle.pq_fields.specs.declared.field.Field.{Field}
 use Rattle.pq_fields.specs.declared.field.Field.TheVariants.{Switch, Port, EthType, IpProto, EthSrc, EthDst, Ipv4Src, Ipv4Dst, TcpSrc, TcpDst, UdpSrc, UdpDst, Ipv6Src, Ipv6Dst}
 use Rattle.pq_fields.specs.Packet.{Numbers, has_field}
 use Rattle.pq_fields.specs.Writes.{Written, diff, no_writes, on, written_in}
 use Rattle.pq_rewrite.specs.Rewriting.{ChangesAll}
-use Rattle.pq_rewrite.proofs.Numbers.{stays}
 
 -- the number after writes of a field that the packet may have
 abbrev after_write : Bool → Option ℕ → ℕ → ℕ
@@ -68,13 +68,13 @@ none_written UdpDst = refl
 none_written Ipv6Src = refl
 none_written Ipv6Dst = refl
 
--- then the packet stays
+-- then the packet one_of_same
 pub on_none : (x : Numbers) → on no_writes x ≡ x
 on_none x = λ i. record x {
-  ipv4_src = sym (stays (has_field Ipv4Src x) x.ipv4_src) i;
-  ipv4_dst = sym (stays (has_field Ipv4Dst x) x.ipv4_dst) i;
-  tcp_src = sym (stays (has_field TcpSrc x) x.tcp_src) i;
-  tcp_dst = sym (stays (has_field TcpDst x) x.tcp_dst) i;
-  udp_src = sym (stays (has_field UdpSrc x) x.udp_src) i;
-  udp_dst = sym (stays (has_field UdpDst x) x.udp_dst) i;
+  ipv4_src = sym (one_of_same (has_field Ipv4Src x) x.ipv4_src) i;
+  ipv4_dst = sym (one_of_same (has_field Ipv4Dst x) x.ipv4_dst) i;
+  tcp_src = sym (one_of_same (has_field TcpSrc x) x.tcp_src) i;
+  tcp_dst = sym (one_of_same (has_field TcpDst x) x.tcp_dst) i;
+  udp_src = sym (one_of_same (has_field UdpSrc x) x.udp_src) i;
+  udp_dst = sym (one_of_same (has_field UdpDst x) x.udp_dst) i;
 }

@@ -1,21 +1,19 @@
 -- Trees of packets that are written by one of some writes first.
 use Rattle.std.proofs.Common.{ℕ, ◌<◌, ◌≡◌, List, [], ◌∷◌, ◌++◌, length, Some}
 use Rattle.std.specs.Prelude.{◌⊎◌, slice_get}
-use Rattle.std.specs.List.{All, Any}
+use Rattle.std.specs.List.{Any}
 use Rattle.std.proofs.lemmas.List.Elements.{All-head}
-use Rattle.pq_fields.specs.declared.field.Field.{Field}
-use Rattle.pq_fields.specs.Packet.{Numbers}
 use Rattle.pq_fields.specs.Writes.{Written, on}
 use Rattle.pq_store.specs.Tree.{Tree, value}
 use Rattle.pq_store.specs.Tree.Tree.{Tip}
 use Rattle.pq_store.specs.Store.{Keeps}
-use Rattle.pq_store.proofs.Elements.{at_place}
+use Rattle.pq_lists.proofs.Places.{at_place}
 use Rattle.pq_store.proofs.RoomLemmas.{room_for}
 use Rattle.pq_apply.specs.Product.{FitTogetherAt}
 use Rattle.pq_apply.proofs.Kept.{tree_before}
 use Rattle.pq_rewrite.specs.Merged.{IsMerge, MergesAt}
 use Rattle.pq_rewrite.specs.Rewriting.{CoversWrites, Gives}
-use Rattle.pq_rewrite.specs.Sequence.{AreReady, FitAsFollowedAt, FitAsFollowedEach, FitAsFollowedEachAt, FollowsEachAt, IsFollowed, IsFollowedAt, IsFollowedEach}
+use Rattle.pq_rewrite.specs.Sequence.{AreReady, FitAsFollowedAt, FitAsFollowedEach, FitAsFollowedEachAt, FollowsEachAt, IsFollowedAt, IsFollowedEach}
 use Rattle.pq_rewrite.proofs.Following.{followed_there}
 use Rattle.pq_rewrite.proofs.Halves.{all_halves, any_halves, any_one}
 use Rattle.pq_rewrite.proofs.Merging.{merge_given, merge_within}

@@ -9,7 +9,9 @@ use Rattle.pq_fields.specs.Writes.{Written, number_after, on, written_in}
 use Rattle.pq_store.specs.declared.test.Test.{Test}
 use Rattle.pq_store.specs.declared.test.Test.TheVariants.{Equal, Bit}
 use Rattle.pq_store.specs.Test.{field_of, passes}
+use Rattle.pq_store.proofs.Ignored.{passes_number as passes_by}
 use Rattle.pq_apply.specs.Restricting.{decides}
+use Rattle.pq_apply.proofs.Choices.{one_of_same}
 
 -- the packet keeps its fields when it is written
 pub has_on : (f : Field) (w : Written) (x : Numbers) → has_field f (on w x) ≡ has_field f x
@@ -28,17 +30,12 @@ has_on UdpDst w x = refl
 has_on Ipv6Src w x = refl
 has_on Ipv6Dst w x = refl
 
--- what is the same either way stays
-pub stays : {A : Type 0} (b : Bool) (a : A) → a ≡ (if b then a else a)
-stays true a = refl
-stays false a = refl
-
 -- a field has the number after the writes
 pub number_on : (f : Field) (w : Written) (x : Numbers) → number_in f (on w x) ≡ number_after f w x
 number_on Switch w x = refl
 number_on Port w x = refl
 number_on EthType w x = refl
-number_on IpProto w x = stays (is_ip x) x.ip_proto
+number_on IpProto w x = one_of_same (is_ip x) x.ip_proto
 number_on EthSrc w x = refl
 number_on EthDst w x = refl
 number_on Ipv4Src w x = refl
@@ -47,13 +44,8 @@ number_on TcpSrc w x = refl
 number_on TcpDst w x = refl
 number_on UdpSrc w x = refl
 number_on UdpDst w x = refl
-number_on Ipv6Src w x = stays (is_ipv6 x) x.ipv6_src
-number_on Ipv6Dst w x = stays (is_ipv6 x) x.ipv6_dst
-
--- a test answers by its field's number alone
-passes_by : (t : Test) (x y : Numbers) → number_in (field_of t) x ≡ number_in (field_of t) y → passes t x ≡ passes t y
-passes_by (Equal f v) x y same = ap (λ n. n == v) same
-passes_by (Bit f i) x y same = ap (λ n. n / 2 ^ (width_of f - 1 - i) % 2 == 1) same
+number_on Ipv6Src w x = one_of_same (is_ipv6 x) x.ipv6_src
+number_on Ipv6Dst w x = one_of_same (is_ipv6 x) x.ipv6_dst
 
 -- and as the number decides it
 passes_number : (t : Test) (x : Numbers) (n : ℕ) → number_in (field_of t) x ≡ n → passes t x ≡ decides t n
@@ -65,7 +57,7 @@ pub passes_unwritten : (t : Test) (w : Written) (x : Numbers) → written_in (fi
 passes_unwritten t w x none =
     let f = field_of t in
     passes_by t (on w x) x
-    (number_on f w x ∙ (ap (λ o. if has_field f x then unwrap_or o (number_in f x) else number_in f x) none ∙ sym (stays (has_field f x) (number_in f x))))
+    (number_on f w x ∙ (ap (λ o. if has_field f x then unwrap_or o (number_in f x) else number_in f x) none ∙ sym (one_of_same (has_field f x) (number_in f x))))
 
 -- where it is written, the number decides the test of packets that have the field
 pub passes_written : (t : Test) (w : Written) (n : ℕ) (x : Numbers) → written_in (field_of t) w ≡ Some n

@@ -12,7 +12,7 @@ use Rattle.pq_store.specs.Tree.{Tree, value}
 use Rattle.pq_store.specs.Tree.Tree.{Fork, Tip}
 use Rattle.pq_store.specs.Diagram.{HasEqualSides, SkipsBelow}
 use Rattle.pq_store.specs.Store.{HasAt, IsJoinable, Keeps}
-use Rattle.pq_store.proofs.Elements.{at_place}
+use Rattle.pq_lists.proofs.Places.{at_place}
 use Rattle.pq_store.specs.Room.{Within}
 use Rattle.pq_store.proofs.RoomLemmas.{fork_within, room_for, roomy, tip_within}
 use Rattle.pq_apply.specs.Restricting.{decides}
@@ -61,7 +61,7 @@ passing_condition w t cs k is = (
 
 module _ {L : Type 0} where
   -- the tree at the place of one of two sides
-  side_is : (b : Bool) (ts : List (Tree L)) (i j k : ℕ) (y n : Tree L) → slice_get ts i ≡ Some y → slice_get ts j ≡ Some n → k ≡ (if b then i else j)
+  pub side_is : (b : Bool) (ts : List (Tree L)) (i j k : ℕ) (y n : Tree L) → slice_get ts i ≡ Some y → slice_get ts j ≡ Some n → k ≡ (if b then i else j)
       → slice_get ts k ≡ Some (if b then y else n)
   side_is true ts i j k y n y_is n_is is = ap (slice_get ts) is ∙ y_is
   side_is false ts i j k y n y_is n_is is = ap (slice_get ts) is ∙ n_is

@@ -1,18 +1,14 @@
 -- Idle-free trees that give the same packets have the same values, so a store has one id of them.
-use Rattle.std.proofs.Common.{ℕ, ◌≡◌, ◌∙◌, List, Some, sym, ap}
-use Rattle.std.specs.Prelude.{◌↔◌, slice_get}
-use Rattle.std.specs.Option.{option_map}
+use Rattle.std.proofs.Common.{◌≡◌, ◌∙◌, List, Some, sym, ap}
+use Rattle.std.specs.Prelude.{◌↔◌}
 use Rattle.std.proofs.lemmas.Option.{slice_get_within}
 use Rattle.pq_fields.specs.Packet.{Numbers, Fit}
 use Rattle.pq_fields.specs.Writes.{Written}
-use Rattle.pq_store.specs.Store.{IsCanonical, value_at}
+use Rattle.pq_store.specs.Store.{IsCanonical}
 use Rattle.pq_store.specs.Tree.{Tree, value}
+use Rattle.pq_store.proofs.Joins.{value_there}
 use Rattle.pq_rewrite.specs.Rewriting.{Gives, IsCanonicalRewriting, IsIdleFree}
 use Rattle.pq_rewrite.proofs.Sets.{one_given}
-
--- the value of the tree at a place
-value_there : {L : Type 0} (ts : List (Tree L)) (i : ℕ) (t : Tree L) (x : Numbers) → slice_get ts i ≡ Some t → value_at ts i x ≡ Some (value t x)
-value_there ts i t x is = ap (option_map (λ u. value u x)) is
 
 -- idle-free trees that give the same packets have the same values
 same_values : (t u : Tree (List Written)) → IsIdleFree t → IsIdleFree u → ((x y : Numbers) → Fit x → Gives t x y ↔ Gives u x y) → (x : Numbers) → Fit x → value t x ≡ value u x

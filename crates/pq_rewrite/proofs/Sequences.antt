@@ -1,5 +1,5 @@
 -- Trees of packets that a tree gives, step by step.
-use Rattle.std.proofs.Common.{ℕ, ◌<◌, ◌≡◌, ◌∙◌, List, length, Some, if◌then◌else◌, refl, sym, ap, subst, eqb-true}
+use Rattle.std.proofs.Common.{ℕ, ◌<◌, ◌≡◌, ◌∙◌, List, length, Some, if◌then◌else◌, sym, ap, subst, eqb-true}
 use Rattle.std.specs.Prelude.{◌==◌, slice_get}
 use Rattle.std.specs.List.{Any}
 use Rattle.indexmap.specs.IndexMap.{IndexMap, Updates}
@@ -10,7 +10,7 @@ use Rattle.pq_store.specs.Test.{passes}
 use Rattle.pq_store.specs.Tree.{Tree, value}
 use Rattle.pq_store.specs.Tree.Tree.{Fork, Tip}
 use Rattle.pq_store.specs.Store.{Keeps, ShowsBranch}
-use Rattle.pq_store.proofs.Elements.{at_place}
+use Rattle.pq_lists.proofs.Places.{at_place}
 use Rattle.pq_store.proofs.RoomLemmas.{room_for}
 use Rattle.pq_apply.specs.Memo.{Remembers}
 use Rattle.pq_apply.proofs.Kept.{tree_before}

@@ -5,6 +5,7 @@ use Rattle.std.specs.List.{list_any}
 use Rattle.std.specs.Option.{unwrap_or}
 use Rattle.std.proofs.lemmas.Bool.{true≢false}
 use Rattle.std.proofs.lemmas.Bool.Decides.{eqb_tells}
+use Rattle.pq_apply.proofs.Choices.{one_of_same}
 use Rattle.pq_fields.specs.declared.field.Field.{Field}
 use Rattle.pq_fields.specs.declared.field.Field.TheVariants.{Switch, Port, EthType, IpProto, EthSrc, EthDst, Ipv4Src, Ipv4Dst, TcpSrc, TcpDst, UdpSrc, UdpDst, Ipv6Src, Ipv6Dst}
 use Rattle.pq_fields.specs.Packet.{Numbers, has_field, number_in, rank}
@@ -15,7 +16,6 @@ use Rattle.pq_rewrite.specs.Rewriting.{ChangesAll, IsGiven}
 use Rattle.pq_rewrite.specs.Settled.{with_change, with_changes}
 use Rattle.pq_rewrite.proofs.Diffs.{none_written}
 use Rattle.pq_rewrite.proofs.Fields.{same_written, written_with}
-use Rattle.pq_rewrite.proofs.Numbers.{stays}
 use Rattle.pq_rewrite.proofs.Sets.{given_one, given_same}
 
 -- the number to write into a field that the packet may have, where that changes it
@@ -139,15 +139,15 @@ in_place_twice : (o c : Option ℕ) → in_place (in_place o c) c ≡ in_place o
 in_place_twice o None = refl
 in_place_twice o (Some n) = refl
 
--- after a step for its own rank a field has the change of that step, and after others it stays
+-- after a step for its own rank a field has the change of that step, and after others it one_of_same
 step_in : (f g : Field) (o : Option ℕ) (x : Numbers) (done : Written) → is_writable g ≡ true
     → written_in g (with_change f o x done) ≡ (if rank f == rank g then in_place (written_in g done) (change_of (has_field f x) (number_in f x) o) else written_in g done)
-step_in f g None x done writable = stays (rank f == rank g) (written_in g done)
+step_in f g None x done writable = one_of_same (rank f == rank g) (written_in g done)
 step_in f g (Some n) x done writable = by (differs f n x)
   where
     by : (b : Bool) → written_in g (if b then with_write f n done else done) ≡ (if rank f == rank g then in_place (written_in g done) (if b then Some n else None) else written_in g done)
     by true = written_with f g n done writable
-    by false = stays (rank f == rank g) (written_in g done)
+    by false = one_of_same (rank f == rank g) (written_in g done)
 
 -- after the step with what the writes have for its own field a field has its own change
 step_own : (f g : Field) (w : Written) (x : Numbers) (done : Written) → is_writable g ≡ true

@@ -3,6 +3,7 @@ use Rattle.std.proofs.Common.{◌≡◌, ℕ, ◌+◌, ◌<◌, List, [], ◌∷
 use Rattle.std.specs.Prelude.{All, slice_get}
 use Rattle.std.specs.List.{AllZip}
 use Rattle.std.proofs.lemmas.List.{append-nil, append_assoc, drop_more}
+use Rattle.std.proofs.lemmas.Option.{same_Some}
 use Rattle.pq_model.specs.MatchFields.{MatchFields}
 use Rattle.pq_store.specs.declared.test.Test.{Test}
 use Rattle.pq_store.specs.Tree.{Tree}
@@ -19,15 +20,11 @@ zip_both R [] ys (u ∷ us) vs first second = absurd first
 zip_both R (x ∷ xs) ys [] vs first second = absurd first
 zip_both R (x ∷ xs) ys (u ∷ us) vs first second = (first.0, zip_both R xs ys us vs first.1 second)
 
--- what stands at a place is one
-pub one_there : {A : Type 0} (x y : A) → Some x ≡ Some y → x ≡ y
-one_there x y same = cc
-
 module _ {L : Type 0} (ts : List (Tree L)) where
   -- a leaf is one entry
   pub leaf_found : (k : ℕ) (l : L) (m : MatchFields) (old : List (MatchFields × ℕ)) → slice_get ts k ≡ Some (Tip l) → (t : Tree L) → slice_get ts k ≡ Some t → Finds ts
       (matches_below m t) old (old ++ (m, k) ∷ [])
-  leaf_found k l m old at t is = subst (λ u. Finds ts (matches_below m u) old (old ++ (m, k) ∷ [])) (one_there (Tip l) t (sym at ∙ is)) ((m, k) ∷ [], refl, ((refl, at), tt))
+  leaf_found k l m old at t is = subst (λ u. Finds ts (matches_below m u) old (old ++ (m, k) ∷ [])) (same_Some (Tip l) t (sym at ∙ is)) ((m, k) ∷ [], refl, ((refl, at), tt))
 
   -- one list is found behind another
   pub found_both : (ms ns : List (MatchFields × L)) (old mid new : List (MatchFields × ℕ)) → Finds ts ms old mid → Finds ts ns mid new → Finds ts (ms ++ ns) old new
@@ -40,15 +37,15 @@ module _ {L : Type 0} (ts : List (Tree L)) where
       → ((t : Tree L) → slice_get ts j ≡ Some t → Finds ts (matches_below (failing s m) t) mid new)
       → (t : Tree L) → slice_get ts k ≡ Some t → Finds ts (matches_below m t) old new
   sides_found k i j s m old mid new shows first second t is =
-      subst (λ u. Finds ts (matches_below m u) old new) (one_there (Fork s shows.yes_tree shows.no_tree) t (sym shows.is ∙ is))
+      subst (λ u. Finds ts (matches_below m u) old new) (same_Some (Fork s shows.yes_tree shows.no_tree) t (sym shows.is ∙ is))
       (found_both (matches_below (passing s m) shows.yes_tree) (matches_below (failing s m) shows.no_tree) old mid new (first shows.yes_tree shows.yes_is) (second shows.no_tree shows.no_is))
 
   -- the sides of a test stay lawful below their matches
   pub sides_stay : (k i j : ℕ) (s : Test) (m : MatchFields) → ShowsBranch ts k s i j → ((t : Tree L) → slice_get ts k ≡ Some t → StaysLawful m t) → (y n : Tree L)
       → slice_get ts i ≡ Some y → slice_get ts j ≡ Some n → StaysLawful m (Fork s y n)
   sides_stay k i j s m shows stays y n at_yes at_no =
-      let left : shows.yes_tree ≡ y = one_there shows.yes_tree y (sym shows.yes_is ∙ at_yes) in
-      let right : shows.no_tree ≡ n = one_there shows.no_tree n (sym shows.no_is ∙ at_no) in
+      let left : shows.yes_tree ≡ y = same_Some shows.yes_tree y (sym shows.yes_is ∙ at_yes) in
+      let right : shows.no_tree ≡ n = same_Some shows.no_tree n (sym shows.no_is ∙ at_no) in
       subst (λ u. StaysLawful m (Fork s y u)) right (subst (λ u. StaysLawful m (Fork s u shows.no_tree)) left (stays (Fork s shows.yes_tree shows.no_tree) shows.is))
 
   -- what is found behind nothing is all

@@ -10,10 +10,6 @@ use Rattle.pq_layout.specs.Sound.{IsMatchable}
 use Rattle.pq_rules.specs.Found.{IsKeyWord, IsRoot, matches_of, trees_with, with_word}
 use Rattle.pq_rules.specs.Tables.{Gathers, IsBlankAt}
 
--- what holds of all before holds of all with one more
-pub all_more : {A : Type 0} (P : A → Type 0) (xs : List A) (x : A) → All P xs → P x → All P (xs ++ x ∷ [])
-all_more P xs x all one = All-push P xs x all one
-
 -- what holds of all holds of the one that is met
 pub element : {A : Type 0} (P : A → Type 0) (xs : List A) (i : ℕ) (x : A) → All P xs → i < length xs → x ≡ get_or xs i x → P x
 element P xs i x all within is = subst P (sym is) (all i x within)
@@ -51,7 +47,7 @@ module _ {L : Type 0} (blank : L → Bool) (ts : List (Tree L)) where
   -- the roots are lawful with one more
   pub roots_more : (roots : List (ℕ × ℕ)) (w k : ℕ) (b : Bool) → All (IsRoot ts) roots → IsRoot ts (w, k) → All (IsRoot ts) (if b then roots else roots ++ (w, k) ∷ [])
   roots_more roots w k true all one = all
-  roots_more roots w k false all one = all_more (IsRoot ts) roots (w, k) all one
+  roots_more roots w k false all one = All-push (IsRoot ts) roots (w, k) all one
 
 -- the first of what is left, with another sight of it
 pub map_drop : {A B : Type 0} (f : A → B) (xs : List A) (i : ℕ) (x : A) → i < length xs → x ≡ get_or xs i x → map f (drop i xs) ≡ f x ∷ map f (drop (i + 1) xs)

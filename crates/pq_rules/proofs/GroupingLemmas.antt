@@ -5,6 +5,7 @@ use Rattle.std.specs.Prelude.{slice_get, ◌||◌}
 use Rattle.std.specs.List.{list_any}
 use Rattle.std.specs.declared.option.Option.{Option}
 use Rattle.std.proofs.lemmas.List.{append-nil, append_assoc, drop_more}
+use Rattle.pq_lists.proofs.Places.{kept_places}
 use Rattle.indexmap.specs.IndexMap.{IndexMap, Updates}
 use Rattle.indexmap.specs.IndexSet.{insert_key}
 use Rattle.pq_apply.specs.Memo.{Remembers}
@@ -22,18 +23,12 @@ Grows old new = (i : ℕ) (g : List Outgoing) → slice_get old i ≡ Some g →
 grows_self : (gs : List (List Outgoing)) → Grows gs gs
 grows_self gs i g is = is
 
--- what is behind a list leaves its places
-front_stays : {A : Type 0} (xs ys : List A) (i : ℕ) (x : A) → slice_get xs i ≡ Some x → slice_get (xs ++ ys) i ≡ Some x
-front_stays [] ys i x is = absurd cc
-front_stays (y ∷ xs) ys zero x is = is
-front_stays (y ∷ xs) ys (suc i) x is = front_stays xs ys i x is
-
 pub insert_grows : (gs : List (List Outgoing)) (g : List Outgoing) → Grows gs (insert_key copies_eq gs g)
 insert_grows gs g = by (list_any (copies_eq g) gs)
   where
     by : (b : Bool) → Grows gs (if b then gs else gs ++ g ∷ [])
     by true = grows_self gs
-    by false = λ i h is. front_stays gs (g ∷ []) i h is
+    by false = λ i h is. kept_places gs (g ∷ []) i h is
 
 pub group_grows : (gs : List (List Outgoing)) (o : Option (List Outgoing)) → Grows gs (with_group gs o)
 group_grows gs None = grows_self gs

@@ -6,6 +6,7 @@ use Rattle.std.specs.declared.option.Option.{Option}
 use Rattle.std.proofs.lemmas.Bool.Decides.{leb_tells}
 use Rattle.std.proofs.lemmas.List.{length-append, length-map, map-append}
 use Rattle.std.proofs.lemmas.List.Elements.{All-from_recursion, recursion_from_All}
+use Rattle.pq_lists.proofs.Holding.{all_append}
 use Rattle.pq_model.specs.declared.message.Message.TheVariants.{Flow, Group as Grouping, Barrier}
 use Rattle.pq_model.specs.Lawful.{IsLawfulAction, IsLawfulBucket, IsLawfulGoto, IsLawfulMessage}
 use Rattle.pq_model.specs.MatchFields.{MatchFields, IsLawfulMatch}
@@ -23,7 +24,7 @@ use Rattle.pq_rules.specs.Found.{IsKeyWord}
 use Rattle.pq_rules.specs.Grouping.{group_copies, in_bucket, with_groups}
 use Rattle.pq_rules.specs.Paths.{StaysLawful}
 use Rattle.pq_rules.specs.Refusals.{FitRules, many_copies}
-use Rattle.pq_rules.proofs.ActionLemmas.{all_both, all_weaker, arrival_lawful, buckets_few, buckets_lawful, copy_ordered}
+use Rattle.pq_rules.proofs.ActionLemmas.{all_weaker, arrival_lawful, buckets_few, buckets_lawful, copy_ordered}
 use Rattle.pq_rules.proofs.BytesLemmas.{barrier_short, entries_away_short, flow_short, group_short, groups_away_short}
 use Rattle.pq_rules.proofs.GroupsLemmas.{IsShown, SoundEntries, groups_all, groups_few, groups_made, groups_shown}
 use Rattle.pq_rules.proofs.PathsLemmas.{stays_lawful, word_lawful}
@@ -36,12 +37,12 @@ module _ {L : Type 0} where
   below_lawful : (t : Tree L) (m : MatchFields) → IsLawfulMatch m → StaysLawful m t → AllByRecursion (λ e. IsLawfulMatch e.0) (matches_below m t)
   below_lawful (Tip l) m lawful stays = (lawful, tt)
   below_lawful (Fork s y n) m lawful stays =
-      all_both (λ e. IsLawfulMatch e.0) (matches_below (passing s m) y) (matches_below (failing s m) n) (below_lawful y (passing s m) stays.1 stays.3) (below_lawful n (failing s m) stays.2 stays.4)
+      all_append (λ e. IsLawfulMatch e.0) (matches_below (passing s m) y) (matches_below (failing s m) n) (below_lawful y (passing s m) stays.1 stays.3) (below_lawful n (failing s m) stays.2 stays.4)
 
   table_lawful : (blank : L → Bool) (trees : List (ℕ × Tree L)) → AllByRecursion (λ p. IsKeyWord p.0 × StaysLawful (vlan_match p.0) p.1) trees → AllByRecursion (λ e. IsLawfulMatch e.0)
       (table_of blank trees)
   table_lawful blank [] all = tt
-  table_lawful blank (p ∷ ps) all = all_both (λ e. IsLawfulMatch e.0) (entries_of blank p) (table_of blank ps) (by (is_blank blank p.1)) (table_lawful blank ps all.1)
+  table_lawful blank (p ∷ ps) all = all_append (λ e. IsLawfulMatch e.0) (entries_of blank p) (table_of blank ps) (by (is_blank blank p.1)) (table_lawful blank ps all.1)
     where
       by : (b : Bool) → AllByRecursion (λ e. IsLawfulMatch e.0) (if b then [] else matches_below (vlan_match p.0) p.1)
       by true = tt
@@ -273,15 +274,15 @@ module _ (limit : ℕ) (firsts : ArrivingTrees) (seconds : LeavingTrees) (arrivi
       let second = adds_lawful (second_rules seconds) (suc (4 + n) + a) 1 0 (omega arith) (omega (arith, group_count, first_count, second_count)) seconds_lawful in
       let adds : AllByRecursion IsLawfulMessage (map Flow (adds_from (suc (4 + n)) 0 0 (first_rules firsts) ++ adds_from (suc (4 + n) + a) 1 0 (second_rules seconds))) =
       subst (AllByRecursion IsLawfulMessage) (sym (map-append Flow (adds_from (suc (4 + n)) 0 0 (first_rules firsts)) (adds_from (suc (4 + n) + a) 1 0 (second_rules seconds))))
-      (all_both IsLawfulMessage (map Flow (adds_from (suc (4 + n)) 0 0 (first_rules firsts))) (map Flow (adds_from (suc (4 + n) + a) 1 0 (second_rules seconds))) first second) in (
+      (all_append IsLawfulMessage (map Flow (adds_from (suc (4 + n)) 0 0 (first_rules firsts))) (map Flow (adds_from (suc (4 + n) + a) 1 0 (second_rules seconds))) first second) in (
         away_lawful,
         (
           groups_away_lawful,
           (
             barrier_lawful 3 (omega arith),
-            all_both IsLawfulMessage (map Grouping (groups_from 4 1 (groups_of (leaving_entries seconds)))) _ groups (
+            all_append IsLawfulMessage (map Grouping (groups_from 4 1 (groups_of (leaving_entries seconds)))) _ groups (
               barrier_lawful (4 + n) (omega (arith, group_count)),
-              all_both IsLawfulMessage (map Flow (adds_from (suc (4 + n)) 0 0 (first_rules firsts) ++ adds_from (suc (4 + n) + a) 1 0 (second_rules seconds))) _ adds
+              all_append IsLawfulMessage (map Flow (adds_from (suc (4 + n)) 0 0 (first_rules firsts) ++ adds_from (suc (4 + n) + a) 1 0 (second_rules seconds))) _ adds
                   (barrier_lawful (suc (4 + n) + a + b) (omega (arith, group_count, first_count, second_count)), tt),
             ),
           ),

@@ -1,9 +1,9 @@
 -- Matches with one statement more are lawful where the prerequisites of the field are stated.
-use Rattle.std.proofs.Common.{◌≡◌, ◌≢◌, ◌⊎◌, inl, inr, ℕ, suc, ◌-◌, ◌^◌, ◌<◌, Bool, true, false, List, [], ◌∷◌, Some, None, refl, sym, ap, arith, eqb-true, true≢false}
-use Rattle.std.specs.Prelude.{◌==◌, ◌||◌, ◌&&◌, IfSome}
+use Rattle.std.proofs.Common.{◌≡◌, ◌≢◌, ◌⊎◌, inl, inr, ℕ, suc, ◌-◌, ◌^◌, ◌<◌, Bool, true, false, List, [], ◌∷◌, Some, None, sym, ap, arith, eqb-true, true≢false}
+use Rattle.std.specs.Prelude.{◌==◌, ◌&&◌, IfSome}
 use Rattle.std.specs.Option.{unwrap_or}
 use Rattle.std.specs.declared.option.Option.{Option}
-use Rattle.std.proofs.lemmas.Bool.{eq-eqb}
+use Rattle.std.proofs.lemmas.Bool.{eq-eqb, or_cases}
 use Rattle.pq_fields.specs.declared.field.Field.{Field}
 use Rattle.pq_fields.specs.declared.field.Field.TheVariants.{Switch, Port, EthType, IpProto, EthSrc, EthDst, Ipv4Src, Ipv4Dst, TcpSrc, TcpDst, UdpSrc, UdpDst, Ipv6Src, Ipv6Dst}
 use Rattle.pq_fields.specs.Packet.{Numbers, Fit, has_field, is_ip, width_of, zero_packet}
@@ -360,10 +360,6 @@ is_stated : (o : Option ℕ) (n : ℕ) → n ≢ 0 → unwrap_or o 0 == n ≡ tr
 is_stated None n other same = absurd (other (sym (eqb-true 0 n same)))
 is_stated (Some k) n other same = ap Some (eqb-true k n same)
 
-either : (a b : Bool) → a || b ≡ true → (a ≡ true) ⊎ (b ≡ true)
-either true b h = inl refl
-either false b h = inr h
-
 second : (a b : Bool) → a && b ≡ true → b ≡ true
 second true b h = h
 second false b h = absurd cc
@@ -373,7 +369,7 @@ unfolding stated_packet
 needed Switch m h = tt
 needed Port m h = tt
 needed EthType m h = tt
-needed IpProto m h = elim (either (unwrap_or m.eth_type 0 == 0x0800) (unwrap_or m.eth_type 0 == 0x86dd) h)
+needed IpProto m h = elim (or_cases (unwrap_or m.eth_type 0 == 0x0800) (unwrap_or m.eth_type 0 == 0x86dd) h)
     [ inl is ↦ inl (is_stated m.eth_type 0x0800 (λ e. absurd (omega (arith, e))) is) | inr is ↦ inr (is_stated m.eth_type 0x86dd (λ e. absurd (omega (arith, e))) is) ]
 needed EthSrc m h = tt
 needed EthDst m h = tt

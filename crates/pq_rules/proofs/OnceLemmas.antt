@@ -4,6 +4,7 @@ use Rattle.std.specs.Prelude.{◌||◌, ◌&&◌}
 use Rattle.std.specs.List.{AllByRecursion, IsDistinct, filter, list_any}
 use Rattle.std.proofs.lemmas.List.{append-nil, append_assoc}
 use Rattle.std.proofs.lemmas.List.Folds.{list_any-append}
+use Rattle.pq_lists.proofs.Holding.{all_filter}
 use Rattle.indexmap.specs.IndexSet.{insert_all}
 
 -- a filter by one test after another
@@ -19,15 +20,6 @@ filter_twice {A} p q r both (x ∷ xs) = by (q x) refl (filter_twice p q r both 
 filter_all : {A : Type 0} (p : A → Bool) → ((a : A) → p a ≡ true) → (xs : List A) → filter p xs ≡ xs
 filter_all p all [] = refl
 filter_all p all (x ∷ xs) = ap (λ b. cond b (x ∷ filter p xs) (filter p xs)) (all x) ∙ ap (λ l. x ∷ l) (filter_all p all xs)
-
--- what holds of all holds of all that pass
-pub filter_keeps : {A : Type 0} (P : A → Type 0) (p : A → Bool) (xs : List A) → AllByRecursion P xs → AllByRecursion P (filter p xs)
-filter_keeps P p [] all = tt
-filter_keeps P p (x ∷ xs) all = by (p x) (filter_keeps P p xs all.1)
-  where
-    by : (b : Bool) → AllByRecursion P (filter p xs) → AllByRecursion P (cond b (x ∷ filter p xs) (filter p xs))
-    by true rest = (all.0, rest)
-    by false rest = rest
 
 -- a filter of values that are made
 pub filter_made : {A B : Type 0} (P : A → Type 0) (f : A → B) (p : B → Bool) (q : A → Bool) → ((a : A) → P a → p (f a) ≡ q a) → (xs : List A) → AllByRecursion P xs → filter p
@@ -48,7 +40,7 @@ module _ {A : Type 0} (E : A → A → Bool) where
   pub once_keeps : (P : A → Type 0) (xs : List A) → AllByRecursion P xs → AllByRecursion P (once xs)
   unfolding once
   once_keeps P [] all = tt
-  once_keeps P (x ∷ xs) all = (all.0, filter_keeps P (λ y. not (E x y)) (once xs) (once_keeps P xs all.1))
+  once_keeps P (x ∷ xs) all = (all.0, all_filter P (λ y. not (E x y)) (once xs) (once_keeps P xs all.1))
 
   -- those that differ from one
   apart : (x : A) (ys : List A) → AllByRecursion (λ y. E x y ≡ false) (filter (λ y. not (E x y)) ys)
@@ -66,7 +58,7 @@ module _ {A : Type 0} (E : A → A → Bool) where
   distinct_filter p (x ∷ xs) d = by (p x) (distinct_filter p xs d.1)
     where
       by : (b : Bool) → IsDistinct E (filter p xs) → IsDistinct E (cond b (x ∷ filter p xs) (filter p xs))
-      by true rest = (filter_keeps (λ y. E x y ≡ false) p xs d.0, rest)
+      by true rest = (all_filter (λ y. E x y ≡ false) p xs d.0, rest)
       by false rest = rest
 
   pub once_distinct : (xs : List A) → IsDistinct E (once xs)

@@ -15,7 +15,8 @@ use Rattle.pq_rewrite.specs.Leaves.{copies_eq}
 use Rattle.pq_store.specs.Tree.{Tree}
 use Rattle.pq_store.specs.Tree.Tree.{Tip, Fork}
 use Rattle.pq_store.specs.Store.{HasAt}
-use Rattle.pq_store.proofs.Elements.{at_place}
+use Rattle.pq_lists.proofs.Places.{at_place}
+use Rattle.pq_lists.proofs.Holding.{all_append}
 use Rattle.pq_layout.specs.Actions.{buckets_of, key_word, tag_word}
 use Rattle.pq_layout.specs.Entries.{entries_of, failing, is_blank, matches_below, passing, table_of, vlan_match}
 use Rattle.pq_layout.specs.Messages.{ArrivingTrees, LeavingTrees, first_rule, groups_of, is_nothing, is_without, leaving_entries, second_rule}
@@ -87,18 +88,14 @@ leaving_sound ts ids within sound =
 
 -- Leaves of entries.
 
-both_all : {A : Type 0} (P : A → Type 0) (xs ys : List A) → AllByRecursion P xs → AllByRecursion P ys → AllByRecursion P (xs ++ ys)
-both_all P [] ys first second = second
-both_all P (x ∷ xs) ys first second = (first.0, both_all P xs ys first.1 second)
-
 module _ {L : Type 0} (P : L → Type 0) where
   below_all : (t : Tree L) (m : MatchFields) → AllLeaves P t → AllByRecursion (λ e. P e.1) (matches_below m t)
   below_all (Tip l) m all = (all, tt)
-  below_all (Fork s y n) m all = both_all (λ e. P e.1) (matches_below (passing s m) y) (matches_below (failing s m) n) (below_all y (passing s m) all.0) (below_all n (failing s m) all.1)
+  below_all (Fork s y n) m all = all_append (λ e. P e.1) (matches_below (passing s m) y) (matches_below (failing s m) n) (below_all y (passing s m) all.0) (below_all n (failing s m) all.1)
 
   table_all : (blank : L → Bool) (trees : List (ℕ × Tree L)) → AllByRecursion (λ p. AllLeaves P p.1) trees → AllByRecursion (λ e. P e.1) (table_of blank trees)
   table_all blank [] all = tt
-  table_all blank (p ∷ ps) all = both_all (λ e. P e.1) (entries_of blank p) (table_of blank ps) (by (is_blank blank p.1)) (table_all blank ps all.1)
+  table_all blank (p ∷ ps) all = all_append (λ e. P e.1) (entries_of blank p) (table_of blank ps) (by (is_blank blank p.1)) (table_all blank ps all.1)
     where
       by : (b : Bool) → AllByRecursion (λ e. P e.1) (if b then [] else matches_below (vlan_match p.0) p.1)
       by true = tt

@@ -2,7 +2,7 @@
 use Rattle.std.proofs.Common.{◌≡◌, ◌⊎◌, ℕ, suc, ◌<◌, ◌^◌, Bool, true, false, ◌&&◌, List, [], ◌∷◌, ◌++◌, sym, ap, subst, ◌∙◌, inl, inr, append_assoc, append-nil, arith}
 use Rattle.std.specs.Prelude.{All, ◌==◌}
 use Rattle.std.specs.List.{AllByRecursion, list_any}
-use Rattle.std.proofs.lemmas.Bool.{and_from, both_ways, eq-eqb}
+use Rattle.std.proofs.lemmas.Bool.{and_from, both_ways, eq-eqb, or_parts}
 use Rattle.std.proofs.lemmas.List.Concat.{flat_map-append}
 use Rattle.pq_model.specs.declared.message.Message.{Message}
 use Rattle.pq_model.specs.declared.message.Message.TheVariants.{Flow, Group, Barrier}
@@ -15,7 +15,6 @@ use Rattle.pq_speaker.specs.Rules.{Session, Effect, barrier_reply, effect, ends_
 use Rattle.pq_speaker.specs.Speaking.{EndsWithOwnBarrier, effects, has_xid, xid_of}
 use Rattle.pq_speaker.specs.World.{installed_by}
 use Rattle.pq_speaker.proofs.Effects.{Does, does, ends-with, installs}
-use Rattle.pq_speaker.proofs.Taking.{or_parts}
 
 -- How far a session is.
 

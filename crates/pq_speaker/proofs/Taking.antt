@@ -1,8 +1,8 @@
 -- Messages that the switch takes.
-use Rattle.std.proofs.Common.{◌≡◌, ◌⊎◌, ℕ, zero, suc, Bool, true, false, not, ltb, ◌&&◌, ◌||◌, List, [], ◌∷◌, ◌++◌, length, take, drop, refl, sym, ap, subst, ◌∙◌, inl, inr, arith}
+use Rattle.std.proofs.Common.{◌≡◌, ◌⊎◌, ℕ, zero, suc, Bool, true, false, not, ltb, ◌&&◌, List, [], ◌∷◌, ◌++◌, length, take, drop, refl, sym, ap, subst, ◌∙◌, inl, inr, arith}
 use Rattle.std.specs.List.{list_any}
 use Rattle.std.specs.declared.option.Option.TheVariants.{None, Some}
-use Rattle.std.proofs.lemmas.Bool.{cases_Bool, and_cases, both_ways, ltb-false}
+use Rattle.std.proofs.lemmas.Bool.{cases_Bool, and_cases, both_ways, ltb-false, or_parts}
 use Rattle.std.proofs.lemmas.List.{take-append-drop}
 use Rattle.pq_model.specs.declared.message.Message.{Message}
 use Rattle.pq_model.specs.declared.message.Message.TheVariants.{Flow, Group, Barrier}
@@ -83,10 +83,6 @@ may-more : (f m : Message) (front : List Message) → is_barrier f ≡ false →
 may-more (Flow f) m front e n may = (no_barrier m n, may)
 may-more (Group g) m front e n may = (no_barrier m n, may)
 may-more (Barrier x) m front e n may = cc
-
-pub or_parts : (a b : Bool) → (a || b) ≡ false → (a ≡ false) × (b ≡ false)
-or_parts false b e = (refl, e)
-or_parts true b e = cc
 
 pub taken-order : (m : Message) (front back order : List Message) → list_any is_barrier front ≡ false → (is_barrier m ≡ true → front ≡ []) →
     IsLawfulOrder (front ++ back) order → IsLawfulOrder (front ++ m ∷ back) (m ∷ order)

@@ -8,7 +8,7 @@ use Rattle.pq_store.specs.Tree.{Tree}
 use Rattle.pq_store.specs.Store.{AddsOnly}
 use Rattle.pq_store.specs.Arena.{trees, IsArena, tree_of, CanStand}
 use Rattle.pq_store.proofs.Arenas.{grows, is_canonical}
-use Rattle.pq_store.proofs.Elements.{older_or_last}
+use Rattle.pq_lists.proofs.Places.{older_or_last}
 use Rattle.pq_store.proofs.Parts.{one_place}
 
 module _ {L : Type 0} where

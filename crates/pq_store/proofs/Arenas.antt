@@ -24,7 +24,7 @@ use Rattle.pq_store.specs.Tree.Tree.{Tip, Fork}
 use Rattle.pq_store.specs.Diagram.{IsDiagram}
 use Rattle.pq_store.specs.Store.{Keeps, IsCanonical, value_at}
 use Rattle.pq_store.specs.Arena.{put_fork, put_cell, trees, KnowsPast, IsArena, fork_of, tree_of, CanStand}
-use Rattle.pq_store.proofs.Elements.{kept_places, last_place, older_or_last, at_place}
+use Rattle.pq_lists.proofs.Places.{kept_places, last_place, older_or_last, at_place}
 use Rattle.pq_store.proofs.Canonical.{one_diagram}
 
 module _ {L : Type 0} where

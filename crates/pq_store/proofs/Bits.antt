@@ -5,12 +5,12 @@ use Rattle.std.proofs.Math.Nat.{pow-succ', div-div-eq-div-mul, div-one}
 use Rattle.std.proofs.lemmas.Nat.{div-mul-add, mod-mul-add}
 
 -- a bit as a number
-digit : Bool → ℕ
+pub digit : Bool → ℕ
 digit true = 1
 digit false = 0
 
 -- it is 0 or 1
-digit_below : (b : Bool) → digit b < 2
+pub digit_below : (b : Bool) → digit b < 2
 unfolding digit
 digit_below true = omega arith
 digit_below false = omega arith

@@ -1,6 +1,6 @@
 -- Cells that compare as equal are one.
 use Rattle.std.proofs.Common.{◌≡◌, Bool, true, false, ◌&&◌, ◌==◌, rules, refl, sym, ap, ap₂, ◌∙◌}
-use Rattle.std.proofs.lemmas.Bool.{eq-eqb, eqb-true}
+use Rattle.std.proofs.lemmas.Bool.{eq-eqb, eqb-true, and_parts, and_from}
 use denote.Enum.Bare.{same_true, true_same}
 use Rattle.pq_fields.specs.declared.field.Field.{Field}
 use Rattle.pq_fields.specs.contracts.field.Field.{the_type}
@@ -13,16 +13,6 @@ use Rattle.pq_store.specs.declared.cell.Cell.TheVariants as cell
 use Rattle.pq_store.specs.contracts.test.TestPartialEq.TheImpl.{ghosts as tests}
 use Rattle.pq_store.specs.contracts.cell.BranchPartialEq.TheImpl.{ghosts as branches}
 
--- what passes two tests passes each
-both : (a b : Bool) → (a && b) ≡ true → (a ≡ true) × (b ≡ true)
-both true b h = (refl, h)
-both false b h = absurd cc
-
--- what passes each of two tests passes both
-join : (a b : Bool) → a ≡ true → b ≡ true → (a && b) ≡ true
-join true b h k = k
-join false b h k = absurd cc
-
 -- fields that compare as equal are one
 field_exact : (f g : Field) → fields.eq f g ≡ true → f ≡ g
 field_exact f g h = same_true the_type (search rules) f g h
@@ -33,22 +23,22 @@ field_itself f = true_same the_type f f refl
 
 -- tests that compare as equal are one
 test_exact : (s t : Test) → tests.eq s t ≡ true → s ≡ t
-test_exact (Equal f v) (Equal g w) h = let p = both (fields.eq f g) (v == w) h in ap₂ Equal (field_exact f g p.0) (eqb-true v w p.1)
+test_exact (Equal f v) (Equal g w) h = let p = and_parts (fields.eq f g) (v == w) h in ap₂ Equal (field_exact f g p.0) (eqb-true v w p.1)
 test_exact (Equal f v) (Bit g i) h = absurd cc
 test_exact (Bit f i) (Equal g w) h = absurd cc
-test_exact (Bit f i) (Bit g j) h = let p = both (fields.eq f g) (i == j) h in ap₂ Bit (field_exact f g p.0) (eqb-true i j p.1)
+test_exact (Bit f i) (Bit g j) h = let p = and_parts (fields.eq f g) (i == j) h in ap₂ Bit (field_exact f g p.0) (eqb-true i j p.1)
 
 -- a test compares as equal to itself
 test_itself : (t : Test) → tests.eq t t ≡ true
-test_itself (Equal f v) = join (fields.eq f f) (v == v) (field_itself f) (eq-eqb v v refl)
-test_itself (Bit f i) = join (fields.eq f f) (i == i) (field_itself f) (eq-eqb i i refl)
+test_itself (Equal f v) = and_from (fields.eq f f) (v == v) (field_itself f) (eq-eqb v v refl)
+test_itself (Bit f i) = and_from (fields.eq f f) (i == i) (field_itself f) (eq-eqb i i refl)
 
 -- branches that compare as equal are one
 branch_exact : (a b : Branch) → branches.eq a b ≡ true → a ≡ b
 branch_exact a b h =
-    let p = both (tests.eq a.test b.test) ((a.yes == b.yes) && ((a.no == b.no) && (a.past == b.past))) h in
-    let q = both (a.yes == b.yes) ((a.no == b.no) && (a.past == b.past)) p.1 in
-    let r = both (a.no == b.no) (a.past == b.past) q.1 in
+    let p = and_parts (tests.eq a.test b.test) ((a.yes == b.yes) && ((a.no == b.no) && (a.past == b.past))) h in
+    let q = and_parts (a.yes == b.yes) ((a.no == b.no) && (a.past == b.past)) p.1 in
+    let r = and_parts (a.no == b.no) (a.past == b.past) q.1 in
     let test_is : a.test ≡ b.test = test_exact a.test b.test p.0 in
     let yes_is : a.yes ≡ b.yes = eqb-true a.yes b.yes q.0 in
     let no_is : a.no ≡ b.no = eqb-true a.no b.no r.0 in
@@ -57,9 +47,9 @@ branch_exact a b h =
 
 -- a branch compares as equal to itself
 branch_itself : (a : Branch) → branches.eq a a ≡ true
-branch_itself a = join (tests.eq a.test a.test) ((a.yes == a.yes) && ((a.no == a.no) && (a.past == a.past))) (test_itself a.test)
-    (join (a.yes == a.yes) ((a.no == a.no) && (a.past == a.past)) (eq-eqb a.yes a.yes refl)
-    (join (a.no == a.no) (a.past == a.past) (eq-eqb a.no a.no refl) (eq-eqb a.past a.past refl)))
+branch_itself a = and_from (tests.eq a.test a.test) ((a.yes == a.yes) && ((a.no == a.no) && (a.past == a.past))) (test_itself a.test)
+    (and_from (a.yes == a.yes) ((a.no == a.no) && (a.past == a.past)) (eq-eqb a.yes a.yes refl)
+    (and_from (a.no == a.no) (a.past == a.past) (eq-eqb a.no a.no refl) (eq-eqb a.past a.past refl)))
 
 -- a comparison of cells goes by their leaves, or by their branches
 pub record Compares {L : Type 0} (eq : Cell L → Cell L → Bool) (same : L → L → Bool) : Type 0 where

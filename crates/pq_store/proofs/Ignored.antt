@@ -24,7 +24,7 @@ use Rattle.pq_store.proofs.Unique.{zero_point, zero_in_range}
 use Rattle.pq_store.proofs.Guarded.{AllPass, AreAlikeOff, AreAhead, IsKey, StayLacking, Guarded, own_ahead, ahead_no, pass_still, guarded, guarded_untested}
 
 -- a test asks for its field's number alone
-passes_number : (s : Test) (x y : Numbers) → number_in (field_of s) x ≡ number_in (field_of s) y → passes s x ≡ passes s y
+pub passes_number : (s : Test) (x y : Numbers) → number_in (field_of s) x ≡ number_in (field_of s) y → passes s x ≡ passes s y
 passes_number (Equal f v) x y same = ap (λ n. n == v) same
 passes_number (Bit f i) x y same = ap (λ n. n / 2 ^ (width_of f - 1 - i) % 2 == 1) same
 

@@ -19,7 +19,7 @@ use Rattle.pq_store.specs.Diagram.{HasEqualSides, IsBefore, Ascends, IsDiagram}
 use Rattle.pq_store.specs.Store.{IsJoinable, JoinsAt, IsPastAt, ShowsBranch, AreDiagrams, value_at}
 use Rattle.pq_store.specs.Arena.{behind, behind_test, trees, IsArena, CanStand, tree_of}
 use Rattle.pq_store.proofs.Arenas.{one_place, of_sides, sides_of, stands}
-use Rattle.pq_store.proofs.Elements.{at_place}
+use Rattle.pq_lists.proofs.Places.{at_place}
 use Rattle.pq_store.proofs.Order.{rank_injective, before_side}
 
 -- a packet with the number fails each test of a later number of the field

@@ -2,11 +2,11 @@ pub mod Added
 pub mod Arenas
 pub mod Bits
 pub mod Canonical
-pub mod Elements
 pub mod Exact
 pub mod Fresh
 pub mod Guarded
 pub mod Ignored
+pub mod JoinedTrees
 pub mod Joins
 pub mod LeastCalls
 pub mod LeastFound

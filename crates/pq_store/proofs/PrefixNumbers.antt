@@ -62,7 +62,7 @@ with_own Ipv6Src x = refl
 with_own Ipv6Dst x = refl
 
 -- a packet has fourteen numbers
-rank_below : (f : Field) → rank f < 14
+pub rank_below : (f : Field) → rank f < 14
 rank_below Switch = omega arith
 rank_below Port = omega arith
 rank_below EthType = omega arith

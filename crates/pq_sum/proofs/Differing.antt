@@ -5,6 +5,7 @@ use Rattle.std.specs.List.{AllByRecursion, IsDistinct, list_any, range_with_len,
 use Rattle.std.proofs.lemmas.Bool.Decides.{eqb_tells}
 use Rattle.std.proofs.lemmas.Map.Steps.{length-le_from_distinct_below}
 use Rattle.std.proofs.lemmas.Option.{same_Some}
+use Rattle.pq_lists.proofs.Ranges.{range_push}
 use Rattle.pq_sum.specs.Places.{renamed}
 
 -- none of these is that one
@@ -84,16 +85,6 @@ differ_more (s ∷ ss) n below differ = (by ss differ.0, differ_more ss n (λ i 
     by [] none = (told_apart s n (let less = below 0 s refl in omega (arith, less)), tt)
     by (t ∷ ts) none = (none.0, by ts none.1)
 
--- numbers one after another differ
-beyond : (a b n : ℕ) → a < b → NoneIs a (range_with_len b n)
-beyond a b zero less = tt
-beyond a b (suc n) less = (told_apart a b (omega (arith, less)), beyond a (b + 1) n (omega (arith, less)))
-
-pub range_differs : (a n : ℕ) → IsDistinct nat_eq (range_with_len a n)
-unfolding IsDistinct
-range_differs a zero = tt
-range_differs a (suc n) = (beyond a (a + 1) n (omega arith), range_differs (a + 1) n)
-
 -- n slots below n that differ are all of them
 module _ (ss : List ℕ) (n : ℕ) (all : length ss ≡ n) (below : (i s : ℕ) → slice_get ss i ≡ Some s → s < n) (differ : IsDistinct nat_eq ss) where
   place_of : (s : ℕ) (ts : List ℕ) → list_any (nat_eq s) ts ≡ true → (i : ℕ) × (slice_get ts i ≡ Some s)
@@ -128,15 +119,10 @@ module _ (ss : List ℕ) (n : ℕ) (all : length ss ≡ n) (below : (i s : ℕ) 
               near zero at = subst (λ t. t < n) (same_Some s q at) within
               near (suc i) at = below i q at
 
--- one number more
-turn_from : (a n : ℕ) → range_with_len a (suc n) ≡ range_with_len a n ++ (a + n) ∷ []
-turn_from a zero = ap (λ m. m ∷ []) (omega arith)
-turn_from a (suc n) = ap (λ l. a ∷ l) (turn_from (a + 1) n ∙ ap (λ m. range_with_len (a + 1) n ++ m ∷ []) (omega arith))
-
 pub turn_more : (n m : ℕ) → m ≡ n + 1 → range_with_len 0 m ≡ range_with_len 0 n ++ n ∷ []
 turn_more n m is =
     ap (λ k. range_with_len 0 k) (let same : m ≡ suc n = omega (arith, is) in same)
-    ∙ (turn_from 0 n ∙ ap (λ k. range_with_len 0 n ++ k ∷ []) (let same : 0 + n ≡ n = omega arith in same))
+    ∙ (range_push 0 n ∙ ap (λ k. range_with_len 0 n ++ k ∷ []) (let same : 0 + n ≡ n = omega arith in same))
 
 -- one slot more that is renamed
 renamed_next : (f : ℕ → ℕ) (ss : List ℕ) (i d : ℕ) → i < length ss

@@ -5,7 +5,7 @@ mod Placed
 mod Unions
 pub mod Trees
 mod Changing
-mod Filling
+pub mod Filling
 mod Leaves
 mod Moving
 mod Removing

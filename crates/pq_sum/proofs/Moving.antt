@@ -3,7 +3,7 @@ use Rattle.std.proofs.Common.{ℕ, zero, suc, ◌^◌, ◌-◌, ◌<◌, ◌≡�
 use Rattle.std.specs.Prelude.{All, slice_get}
 use Rattle.std.specs.List.{AllZip}
 use Rattle.std.proofs.lemmas.List.{append-nil, drop_all, length-drop, take-append-drop}
-use Rattle.std.proofs.lemmas.List.Elements.{All-cons, All-head, All-nil, All-tail}
+use Rattle.std.proofs.lemmas.List.Elements.{All-cons, All-nil, All-append}
 use Rattle.pq_fields.specs.Writes.{Written}
 use Rattle.pq_model.specs.Topology.{Topology}
 use Rattle.pq_policy.specs.Policy.{PolicyTree}
@@ -73,11 +73,6 @@ module _ (T : Topology) (old now : Trees) where
             behind = behind halves.back halves.behind;
           }
 
--- what holds of all of two lists holds of all of both
-pub all_both : {X : Type 0} (P : X → Type 0) (xs ys : List X) → All P xs → All P ys → All P (xs ++ ys)
-all_both P [] ys left right = right
-all_both P (x ∷ xs) ys left right = All-cons P x (xs ++ ys) (All-head P x xs left) (all_both P xs ys (All-tail P x xs left) right)
-
 -- the cells of a sum are ids of its store
 pub cells_within : (T : Topology) (ts : Trees) (h : ℕ) (cells : List ℕ) (ps : List PolicyTree) → IsSumTree T ts h cells ps → All (λ id. id < length ts) cells
 cells_within T ts zero cells ps tree =
@@ -86,7 +81,7 @@ cells_within T ts zero cells ps tree =
 cells_within T ts (suc h) cells ps tree =
     subst (λ l. All (λ id. id < length ts) l) (sym tree.is)
     (All-cons (λ id. id < length ts) tree.root (tree.front ++ tree.back) (has_within (IsUnionOfParts T ps) ts tree.root tree.total)
-    (all_both (λ id. id < length ts) tree.front tree.back
+    (All-append (λ id. id < length ts) tree.front tree.back
     (cells_within T ts h tree.front (take (2 ^ h) ps) tree.first) (cells_within T ts h tree.back (drop (2 ^ h) ps) tree.behind)))
 
 -- A part put into a slot.

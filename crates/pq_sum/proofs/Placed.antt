@@ -6,11 +6,12 @@ use Rattle.std.specs.Prelude.{nat_eq}
 use Rattle.std.proofs.lemmas.Bool.Decides.{eqb_tells}
 use Rattle.std.proofs.lemmas.List.{length-append}
 use Rattle.std.proofs.lemmas.Option.{get_or_from_slice_get, same_Some, slice_get-get_or, slice_get_within}
+use Rattle.pq_lists.proofs.Ranges.{range_differs}
 use Rattle.pq_sum.specs.Cells.{at_place, removed}
 use Rattle.pq_sum.specs.Places.{ArePlaced, renamed}
 use Rattle.pq_sum.specs.Sum.{replaced}
 use Rattle.pq_sum.proofs.Items.{item_at, put_elsewhere, put_here, put_last, put_length, removed_elsewhere, removed_here, removed_length, taken_length}
-use Rattle.pq_sum.proofs.Differing.{NoneIs, apart, differ_more, differ_renamed, differ_taken, none_at, others, place_of_slot, range_differs, renamed_last, renamed_other}
+use Rattle.pq_sum.proofs.Differing.{NoneIs, apart, differ_more, differ_renamed, differ_taken, none_at, others, place_of_slot, renamed_last, renamed_other}
 
 -- Items and slots side by side.
 

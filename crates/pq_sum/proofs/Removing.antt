@@ -2,6 +2,7 @@
 use Rattle.std.proofs.Common.{ℕ, suc, ◌+◌, ◌*◌, ◌^◌, ◌-◌, ◌<◌, ◌≤◌, ◌≡◌, List, [], ◌++◌, take, drop, length, sym, ap, subst, arith}
 use Rattle.std.specs.Prelude.{All}
 use Rattle.std.proofs.lemmas.List.{length-take, take-append-drop, take_all}
+use Rattle.std.proofs.lemmas.List.Elements.{All-append}
 use Rattle.pq_fields.specs.Writes.{Written}
 use Rattle.pq_model.specs.Topology.{Topology}
 use Rattle.pq_policy.specs.Policy.{PolicyTree}
@@ -14,7 +15,7 @@ use Rattle.pq_forward.specs.Forward.{IsPolicyWithin}
 use Rattle.pq_meaning.specs.Parts.{FitAsParts, IsUnionOfParts}
 use Rattle.pq_sum.specs.Cells.{IsRemovable, MayRemove, removed}
 use Rattle.pq_sum.specs.Sum.{GivesNone, HasLeaf, IsChange, IsChanged, IsCounted, IsLeaf, IsSumTree, MayChange, UnitesParts, replaced}
-use Rattle.pq_sum.proofs.Moving.{all_both, one_last, removed_before, removed_last, without_last}
+use Rattle.pq_sum.proofs.Moving.{one_last, removed_before, removed_last, without_last}
 use Rattle.pq_sum.proofs.Trees.{parts_of, tree_still}
 use Rattle.pq_sum.proofs.Unions.{halves_fit, none_unites}
 
@@ -28,7 +29,7 @@ fits_replaced T ps slot last fits = room_for (λ ns (topology, within).
     let at_slot = all_halves P (take slot ps) (drop slot ps) (subst (λ l. All P l) (sym (take-append-drop slot ps)) within) in
     let behind = all_halves P (take (suc slot) ps) (drop (suc slot) ps) (subst (λ l. All P l) (sym (take-append-drop (suc slot) ps)) within) in
     let at_last = all_halves P (take last ps) (drop last ps) (subst (λ l. All P l) (sym (take-append-drop last ps)) within) in
-    (topology, all_both P (take slot ps) (drop last ps ++ drop (suc slot) ps) at_slot.0 (all_both P (drop last ps) (drop (suc slot) ps) at_last.1 behind.1))) fits
+    (topology, All-append P (take slot ps) (drop last ps ++ drop (suc slot) ps) at_slot.0 (All-append P (drop last ps) (drop (suc slot) ps) at_last.1 behind.1))) fits
 
 module _ (T : Topology) (ts mid : Trees) (keeps : Keeps ts mid) (cells : List ℕ) (slot last none : ℕ) (ps : List PolicyTree)
     (remove : IsRemovable T ts cells slot last ps) (gives_none : GivesNone mid none) where

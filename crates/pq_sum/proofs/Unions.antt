@@ -4,19 +4,20 @@ use Rattle.std.specs.Prelude.{◌⊎◌}
 use Rattle.std.proofs.lemmas.List.{take-append-drop}
 use Rattle.pq_fields.specs.Writes.{Written, on}
 use Rattle.pq_model.specs.Topology.{Topology}
-use Rattle.pq_policy.specs.Policy.{PolicyTree, yields}
+use Rattle.pq_policy.specs.Policy.{PolicyTree}
 use Rattle.pq_store.specs.Tree.{Tree}
 use Rattle.pq_store.specs.Tree.Tree.{Tip}
 use Rattle.pq_store.proofs.RoomLemmas.{room_for}
 use Rattle.pq_apply.specs.Product.{FitTogetherAt}
 use Rattle.pq_rewrite.specs.Calls.{IsIdleFreeAt, IsUnion, UnitesAt}
 use Rattle.pq_rewrite.specs.Rewriting.{Gives, IsCanonicalRewriting, IsIdleFree}
-use Rattle.pq_rewrite.proofs.Halves.{all_halves, any_halves}
-use Rattle.pq_rewrite.proofs.Sets.{any_none, given_none}
+use Rattle.pq_rewrite.proofs.Halves.{all_halves}
+use Rattle.pq_rewrite.proofs.Sets.{any_none}
 use Rattle.pq_rewrite.proofs.Standing.{has_there, has_within}
-use Rattle.pq_rewrite.proofs.Turns.{giving_as, giving_idle_free, has_idle_free, union_giving, union_within}
+use Rattle.pq_rewrite.proofs.Turns.{giving_as, giving_idle_free, has_idle_free}
 use Rattle.pq_forward.specs.Forward.{IsPolicyWithin}
 use Rattle.pq_meaning.specs.Parts.{FitAsParts, IsUnionOfParts, any_yields}
+use Rattle.pq_meaning.proofs.PartsHalves.{none_united, halves_united}
 use Rattle.pq_sum.specs.Sum.{GivesNone, UnitesParts}
 
 -- the parts of a list fit where all do
@@ -26,13 +27,6 @@ halves_fit T w ps fits =
       room_for (λ ns (topology, within). (topology, (all_halves (IsPolicyWithin ns) (take w ps) (drop w ps) within).0)) fit,
       room_for (λ ns (topology, within). (topology, (all_halves (IsPolicyWithin ns) (take w ps) (drop w ps) within).1)) fit,
     )
-
--- the leaf of no writes gives what no parts give
-pub none_united : (T : Topology) → IsUnionOfParts T [] (Tip [])
-none_united T = record {
-  giving = λ x fit. given_none x (any_yields T [] x) (λ y. any_none (λ p. yields T p x y));
-  covers = λ ns topology within. record { tests = λ f v none. absurd none; writes = λ f n (x, fit, written). absurd (any_none _ written) };
-}
 
 -- a place with that leaf unites no parts
 pub none_unites : (T : Topology) (ts : List (Tree (List Written))) (none : ℕ) → GivesNone ts none → UnitesParts T ts [] none
@@ -48,23 +42,6 @@ none_is T ts none id canonical is (t, there, united) =
     let left = (united.giving x fit).gives y in
     let right = (tip.giving x fit).gives y in
     (λ given. right.1 (left.0 given), λ given. left.1 (right.0 given)))
-
-module _ (T : Topology) (ps qs : List PolicyTree) (t u r : Tree (List Written)) where
-  -- the union of two halves is that of all
-  pub halves_united : IsUnionOfParts T ps t → IsUnionOfParts T qs u → IsUnion t u r → IsUnionOfParts T (ps ++ qs) r
-  halves_united left right union = record {
-    giving = giving_as (λ x y. any_yields T ps x y ⊎ any_yields T qs x y) (any_yields T (ps ++ qs)) r
-        (λ x y fit. any_halves (λ p. yields T p x y) ps qs)
-        (union_giving (any_yields T ps) (any_yields T qs) t u r left.giving right.giving union);
-    covers = λ ns topology within.
-        let parts = all_halves (IsPolicyWithin ns) ps qs within in
-        let first = left.covers ns topology parts.0 in
-        let second = right.covers ns topology parts.1 in
-        record {
-          tests = union_within ns t u r first.tests second.tests union;
-          writes = λ f n writes. elim (union.writes f n writes) [ inl in_t ↦ first.writes f n in_t | inr in_u ↦ second.writes f n in_u ];
-        };
-  }
 
 -- an idle-free tree is its union with the leaf of no writes
 union_with_none : (t : Tree (List Written)) → IsIdleFree t → IsUnion t (Tip []) t

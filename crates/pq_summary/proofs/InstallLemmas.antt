@@ -16,6 +16,7 @@ use Rattle.pq_model.specs.Spelling.{message_bytes}
 use Rattle.pq_model.specs.TablesMachine.{Row}
 use Rattle.pq_model.specs.Topology.{Switch}
 use Rattle.pq_install.proofs.AllPorts.{few_links}
+use Rattle.pq_install.proofs.Renamed.{few_rows}
 use Rattle.pq_summary.specs.Lengths.{install_length, list_length, message_length, name_length, pair_length, row_length, switch_length}
 use Rattle.pq_summary.proofs.LengthLemmas.{all_long, each_long, message_long}
 
@@ -103,12 +104,6 @@ few_ascending : (most x : ℕ) (rows : List Row) (row : Row) → Ascends (map (�
     → length (row ∷ rows) + row.tag ≤ most + 1
 few_ascending most x [] row up fit = omega (arith, All-head (λ (r : Row). r.tag ≤ most) row [] fit)
 few_ascending most x (next ∷ rows) row up fit = omega (arith, up.0, few_ascending most x rows next up.1 (All-tail (λ (r : Row). r.tag ≤ most) row (next ∷ rows) fit))
-
-few_rows : (queries : ℕ) (rows : List Row) → All (IsLawfulRow queries) rows → Ascends (map (λ row. row.tag) rows) → length rows ≤ 4094
-few_rows queries [] each up = omega arith
-few_rows queries (row ∷ rows) each up =
-    let small = few_ascending 4094 0 rows row up (All-weaker (IsLawfulRow queries) (λ r. r.tag ≤ 4094) (λ r law. law.1) (row ∷ rows) each) in
-    omega (arith, small, (All-head (IsLawfulRow queries) row rows each).0)
 
 pub install_short : (i : Install) → IsLawfulInstall i → install_length i < 2 ^ 64
 unfolding install_length

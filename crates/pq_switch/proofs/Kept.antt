@@ -10,6 +10,7 @@ use Rattle.std.specs.Map.{keys_of, lookup, remove_entry, values_of}
 use Rattle.std.specs.BTreeMap.{BTreeMap, get_by, insert_entry, is_at}
 use Rattle.std.specs.Ordering.{is_eq}
 use Rattle.std.proofs.lemmas.List.{map-append}
+use Rattle.pq_lists.proofs.Holding.{all_filter, all_weaker, all_push}
 use Rattle.pq_fields.specs.Packet.{is_before}
 use Rattle.pq_model.specs.Mods.{FlowValue}
 use Rattle.pq_model.specs.SwitchMachine.{Entry, entry_of, is_placed}
@@ -19,14 +20,14 @@ use Rattle.pq_switch.specs.declared.entry.Slot.{Slot}
 use Rattle.pq_switch.specs.declared.place.Place.{Place}
 use Rattle.pq_switch.proofs.Places.{place_cmp_total, placed-equal}
 use Rattle.pq_switch.proofs.Rows.{Tells, all-insert, all-remove, parts, removed, values-filter}
-use Rattle.pq_switch.proofs.SortedParts.{all-filter, sort-all, sort-filter, sort-greatest}
+use Rattle.pq_switch.proofs.SortedParts.{sort-all, sort-filter, sort-greatest}
 
 climbs-filter : (p : Slot → Bool) (slots : List Slot) → Climbs slots → Climbs (filter p slots)
 climbs-filter p [] climb = tt
 climbs-filter p (s ∷ slots) (above, climb) = by (p s) (climbs-filter p slots climb)
   where
     by : (b : Bool) → Climbs (filter p slots) → Climbs (cond b (s ∷ filter p slots) (filter p slots))
-    by true more = (all-filter (λ t. s.sequence < t.sequence) p slots above, more)
+    by true more = (all_filter (λ t. s.sequence < t.sequence) p slots above, more)
     by false more = more
 
 entries-filter : (q : Entry → Bool) (slots : List Slot) → entries_of (filter (λ s. q s.entry) slots) ≡ filter q (entries_of slots)
@@ -50,17 +51,9 @@ values-early : (next : ℕ) (es : List (Place × Slot)) → AllByRecursion (IsKe
 values-early next [] all = tt
 values-early next (e ∷ es) (here, all) = (here.early, values-early next es all)
 
-all-mapped : {A : Type 0} (P Q : A → Type 0) → ((x : A) → P x → Q x) → (xs : List A) → AllByRecursion P xs → AllByRecursion Q xs
-all-mapped P Q f [] all = tt
-all-mapped P Q f (x ∷ xs) (here, all) = (f x here, all-mapped P Q f xs all)
-
-all-push : {A : Type 0} (P : A → Type 0) (xs : List A) (x : A) → AllByRecursion P xs → P x → AllByRecursion P (xs ++ x ∷ [])
-all-push P [] x all last = (last, tt)
-all-push P (y ∷ xs) x (here, all) last = (here, all-push P xs x all last)
-
 climbs-push : (slots : List Slot) (s : Slot) → Climbs slots → AllByRecursion (λ t. t.sequence < s.sequence) slots → Climbs (slots ++ s ∷ [])
 climbs-push [] s climb below = (tt, tt)
-climbs-push (t ∷ slots) s (above, climb) (here, below) = (all-push (λ u. t.sequence < u.sequence) slots s above here, climbs-push slots s climb below)
+climbs-push (t ∷ slots) s (above, climb) (here, below) = (all_push (λ u. t.sequence < u.sequence) slots s above here, climbs-push slots s climb below)
 
 module _ (f : FlowValue) (next : ℕ) (small : f.priority < 0x10000) where
   -- the place of an entry of this flow mod
@@ -93,9 +86,9 @@ module _ (f : FlowValue) (next : ℕ) (small : f.priority < 0x10000) where
     in_turn-added : in_turn (values_of new) ≡ filter stays (in_turn (values_of es)) ++ s ∷ []
     in_turn-added =
         let p = parts place_cmp placed_at stays place_cmp_total s es (kept-tells es kept.each) sorted in
-        let before = all-mapped (λ t. t.sequence < next) (λ t. is_before (turn t) (turn s) ≡ true) before-last (values_of es) (values-early next es kept.each) in
+        let before = all_weaker (λ t. t.sequence < next) (λ t. is_before (turn t) (turn s) ≡ true) before-last (values_of es) (values-early next es kept.each) in
         ap in_turn p.is
-        ∙ sort-greatest turn p.front s p.back (subst (AllByRecursion (λ t. is_before (turn t) (turn s) ≡ true)) p.rest (all-filter (λ t. is_before (turn t) (turn s) ≡ true) stays (values_of es) before))
+        ∙ sort-greatest turn p.front s p.back (subst (AllByRecursion (λ t. is_before (turn t) (turn s) ≡ true)) p.rest (all_filter (λ t. is_before (turn t) (turn s) ≡ true) stays (values_of es) before))
         ∙ ap (λ l. in_turn l ++ s ∷ []) (sym p.rest) ∙ ap (λ l. l ++ s ∷ []) (sort-filter turn stays (values_of es))
 
     -- the entry stands last, and the one of its place is gone
@@ -106,10 +99,10 @@ module _ (f : FlowValue) (next : ℕ) (small : f.priority < 0x10000) where
     pub added-kept : AreKept (next + 1) new
     added-kept = record {
       each = all-insert place_cmp placed_at (IsKept (next + 1)) s (at placed_at (tied_itself place_cmp_total placed_at)) es
-          (all-mapped (IsKept next) (IsKept (next + 1)) (λ r k. record { place = k.place; priority = k.priority; early = later r.1.sequence k.early }) es kept.each) at;
+          (all_weaker (IsKept next) (IsKept (next + 1)) (λ r k. record { place = k.place; priority = k.priority; early = later r.1.sequence k.early }) es kept.each) at;
       climb = subst Climbs (sym in_turn-added) (climbs-push (filter stays (in_turn (values_of es))) s (climbs-filter stays (in_turn (values_of es)) kept.climb)
-          (all-filter (λ t. t.sequence < s.sequence) stays (in_turn (values_of es))
-          (sort-all turn (λ t. t.sequence < s.sequence) (values_of es) (all-mapped (λ t. t.sequence < next) (λ t. t.sequence < s.sequence) below-last (values_of es) (values-early next es kept.each)))));
+          (all_filter (λ t. t.sequence < s.sequence) stays (in_turn (values_of es))
+          (sort-all turn (λ t. t.sequence < s.sequence) (values_of es) (all_weaker (λ t. t.sequence < next) (λ t. t.sequence < s.sequence) below-last (values_of es) (values-early next es kept.each)))));
     }
       where
         later : (n : ℕ) → n < next → n < next + 1
@@ -150,7 +143,7 @@ module _ (f : FlowValue) (next : ℕ) (small : f.priority < 0x10000) (p : Place)
 -- what is left where a test of the entries decides
 pub kept_where : (next : ℕ) (q : Entry → Bool) (old new : List (Place × Slot)) → AreKept next old → new ≡ filter (λ r. q r.1.entry) old → AreKept next new
 kept_where next q old new kept is = record {
-  each = subst (AllByRecursion (IsKept next)) (sym is) (all-filter (IsKept next) (λ r. q r.1.entry) old kept.each);
+  each = subst (AllByRecursion (IsKept next)) (sym is) (all_filter (IsKept next) (λ r. q r.1.entry) old kept.each);
   climb = thinned-climb (λ s. q s.entry) old new (ap values_of is ∙ values-filter (λ s. q s.entry) old) kept.climb;
 }
 

@@ -1,17 +1,10 @@
 -- A sorted list, when values are taken out or a greater one is put in.
 use Rattle.std.proofs.Common.{◌≡◌, ℕ, Bool, true, false, cond, if◌then◌else◌, List, [], ◌∷◌, ◌++◌, refl, sym, ap, ◌∙◌}
 use Rattle.std.specs.List.{AllByRecursion, filter}
+use Rattle.pq_lists.proofs.Holding.{all_filter}
 use Rattle.pq_fields.specs.Packet.{is_before}
 use Rattle.pq_model.specs.Sorting.{put_by, sort_by}
 use Rattle.pq_model.proofs.Sorted.{Rises, all_above, filter-choice, order, put-all, sort-rises}
-
-pub all-filter : {A : Type 0} (P : A → Type 0) (p : A → Bool) (ys : List A) → AllByRecursion P ys → AllByRecursion P (filter p ys)
-all-filter P p [] all = tt
-all-filter P p (y ∷ ys) (here, all) = by (p y) (all-filter P p ys all)
-  where
-    by : (b : Bool) → AllByRecursion P (filter p ys) → AllByRecursion P (cond b (y ∷ filter p ys) (filter p ys))
-    by true more = (here, more)
-    by false more = more
 
 module _ {A : Type 0} (key : A → List ℕ) where
   abbrev below : A → A → Bool
@@ -33,8 +26,8 @@ module _ {A : Type 0} (key : A → List ℕ) where
       by true e true false more = more
       by true e false true more = ap (λ l. y ∷ l) more
       by true e false false more = more
-      by false e true true more = sym (put-first x (y ∷ filter p ys) (e, all_above key x y (filter p ys) e (all-filter (λ w. below w y ≡ false) p ys above)))
-      by false e true false more = sym (put-first x (filter p ys) (all_above key x y (filter p ys) e (all-filter (λ w. below w y ≡ false) p ys above)))
+      by false e true true more = sym (put-first x (y ∷ filter p ys) (e, all_above key x y (filter p ys) e (all_filter (λ w. below w y ≡ false) p ys above)))
+      by false e true false more = sym (put-first x (filter p ys) (all_above key x y (filter p ys) e (all_filter (λ w. below w y ≡ false) p ys above)))
       by false e false d more = refl
 
   pub sort-filter : (p : A → Bool) (xs : List A) → sort_by key (filter p xs) ≡ filter p (sort_by key xs)

@@ -13,7 +13,7 @@ use Rattle.pq_term.proofs.Digits.{hexadecimal_below}
 use Rattle.pq_term.specs.Addresses.{groups_value, spell_digits}
 
 -- one more digit multiplies the bound
-below_next : (weight k value digit : ℕ) → value < weight ^ k → digit < weight → value * weight + digit < weight ^ suc k
+pub below_next : (weight k value digit : ℕ) → value < weight ^ k → digit < weight → value * weight + digit < weight ^ suc k
 below_next weight k value digit below small =
     let scaled : (value + 1) * weight ≤ weight ^ k * weight = mul-le-mul_right weight (omega (arith, below)) in
     let power : weight ^ suc k ≡ weight * weight ^ k = pow-succ' weight k in

@@ -8,6 +8,7 @@ use Rattle.std.proofs.lemmas.List.Concat.{flat_map-append}
 use Rattle.std.proofs.lemmas.List.Sorted.{IsPermutation-refl, IsPermutation-cons, IsPermutation-trans, IsPermutation-swap, IsPermutation-append, IsPermutation-append_comm}
 use Rattle.std.proofs.lemmas.List.Elements.{All-from_recursion}
 use Rattle.std.proofs.lemmas.Map.Keys.{IsDistinct-push, IsDistinct-IsPermutation}
+use Rattle.pq_lists.proofs.Holding.{all_push}
 use Rattle.pq_fields.specs.Packet.{is_before}
 use Rattle.pq_term.specs.declared.token.Token.{Token}
 use Rattle.pq_tree.specs.Trees.{Forest, nothing, grown}
@@ -21,7 +22,6 @@ use Rattle.pq_topo.specs.Naming.{next}
 use Rattle.pq_topo.specs.Statements.{number_in, switch_at, end_of, link_of, begins_with, links_after, ordered, in_order}
 use Rattle.pq_topo.proofs.Readings.{next_ok, unless_ok}
 use Rattle.pq_topo.proofs.Ordered.{sort_ascends, all_sorted, same_key, one_is_before}
-use Rattle.pq_topo.proofs.SwitchRules.{all_push}
 
 -- the same end
 abbrev pub same_end : ℕ × ℕ → ℕ × ℕ → Bool

@@ -1,23 +1,15 @@
 -- Names are equal where their bytes are.
-use Rattle.std.specs.Prelude.{◌≡◌, ℕ, ◌-◌, Bool, true, false, ◌&&◌, List, [], ◌∷◌, ◌++◌, length, take, replicate, ◌==◌, bytes_eq}
+use Rattle.std.specs.Prelude.{◌≡◌, ℕ, ◌-◌, true, false, ◌&&◌, List, [], ◌∷◌, ◌++◌, length, take, replicate, ◌==◌, bytes_eq}
 use Rattle.std.specs.Bool.{Decides}
 use Rattle.std.specs.List.{list_any}
 use Rattle.std.proofs.Common.{refl, sym, ap, subst, ◌∙◌}
-use Rattle.std.proofs.lemmas.Bool.{eq-eqb, eqb-true}
+use Rattle.std.proofs.lemmas.Bool.{eq-eqb, eqb-true, and_parts, and_from}
 use Rattle.std.proofs.lemmas.Bool.Decides.{same_from_decides}
 use Rattle.std.proofs.lemmas.List.{take_at}
 use Rattle.std.proofs.lemmas.Slice.Eq.{bytes_eq-Decides}
 use Rattle.indexmap.specs.IndexSet.{insert_key}
 use Rattle.pq_term.specs.declared.name.Name.{Name}
 use Rattle.pq_term.specs.contracts.name.NamePartialEq.TheImpl as equality
-
-both : (a b : Bool) → a ≡ true → b ≡ true → (a && b) ≡ true
-both true b x y = y
-both false b x y = x
-
-parts : (a b : Bool) → (a && b) ≡ true → (a ≡ true) × (b ≡ true)
-parts true b x = (refl, x)
-parts false b x = absurd cc
 
 -- a name as it is stored
 abbrev padded : List ℕ → List ℕ
@@ -33,11 +25,11 @@ tells v w = (apart, λ same. subst (λ w. (bytes_eq (padded v) (padded w) && (le
   where
     apart : (bytes_eq (padded v) (padded w) && (length v == length w)) ≡ true → v ≡ w
     apart h =
-        let p = parts (bytes_eq (padded v) (padded w)) (length v == length w) h in
+        let p = and_parts (bytes_eq (padded v) (padded w)) (length v == length w) h in
         stored_alike v w ((bytes_eq-Decides (padded v) (padded w)).0 p.0) (eqb-true (length v) (length w) p.1)
 
     alike : (bytes_eq (padded v) (padded v) && (length v == length v)) ≡ true
-    alike = both (bytes_eq (padded v) (padded v)) (length v == length v) ((bytes_eq-Decides (padded v) (padded v)).1 refl) (eq-eqb (length v) (length v) refl)
+    alike = and_from (bytes_eq (padded v) (padded v)) (length v == length v) ((bytes_eq-Decides (padded v) (padded v)).1 refl) (eq-eqb (length v) (length v) refl)
 
 -- names are equal where their bytes are
 pub same_names : (v w : Name) → (equality.eq-value).it v w ≡ bytes_eq v w

@@ -7,11 +7,12 @@ use Rattle.std.specs.Cmp.Lexicographic.{nat_list_eq_equiv}
 use Rattle.std.specs.Option.{unwrap_or}
 use Rattle.std.proofs.lemmas.Bool.{and_parts, leb-true}
 use Rattle.std.proofs.lemmas.Bool.Decides.{nat_tests}
-use Rattle.std.proofs.lemmas.List.{length-map}
+use Rattle.std.proofs.lemmas.List.{length-map, map_push}
 use Rattle.std.proofs.lemmas.List.Sums.{sum_by_push}
 use Rattle.std.proofs.lemmas.List.Sorted.{length_permutation, sum_by-IsPermutation, IsPermutation-map}
 use Rattle.std.proofs.lemmas.List.Elements.{All-from_recursion}
 use Rattle.std.proofs.lemmas.Map.Keys.{IsDistinct-push, IsDistinct-IsPermutation}
+use Rattle.pq_lists.proofs.Holding.{all_push}
 use Rattle.pq_term.specs.declared.token.Token.{Token}
 use Rattle.pq_term.specs.Names.{is_name}
 use Rattle.pq_term.specs.Numbers.{number_of, is_decimal, is_hexadecimal, value_of}
@@ -30,14 +31,6 @@ use Rattle.pq_topo.specs.Naming.{next}
 use Rattle.pq_topo.specs.Statements.{number_in, may_be_port, port_of, ports_after, room_after, seen, limit_in, name_of, datapath_of, switch_with, switch_begins, switch_from, switch_of, begins_with, switches_after, by_datapath}
 use Rattle.pq_topo.proofs.Readings.{next_ok, unless_ok}
 use Rattle.pq_topo.proofs.Ordered.{ascends_from, sort_shuffles, sort_ascends, all_sorted, same_key}
-
-pub all_push : {X : Type 0} (P : X → Type 0) (xs : List X) (x : X) → AllByRecursion P xs → P x → AllByRecursion P (xs ++ x ∷ [])
-all_push P [] x all here = (here, tt)
-all_push P (y ∷ ys) x all here = (all.0, all_push P ys x all.1 here)
-
-pub map-push : {X Y : Type 0} (f : X → Y) (xs : List X) (x : X) → map f (xs ++ x ∷ []) ≡ map f xs ++ f x ∷ []
-map-push f [] x = refl
-map-push f (y ∷ ys) x = ap (λ l. f y ∷ l) (map-push f ys x)
 
 -- what is spelled is below 2 ^ 64
 small : (bs : List ℕ) → unwrap_or (number_of bs) 0 < 2 ^ 64
@@ -161,8 +154,8 @@ switch_kept bytes earlier keyword name datapath port z ports rest s e are =
       few = grind (arith, nat_tests, few.0.0, counted, long);
       few_ports = omega (arith, sum, sorted.3, are.few_ports);
       each = all_push IsReadSwitch earlier made are.each ((bound, sorted.0, sorted.1, sorted.2), limit_told);
-      names = subst (IsDistinct bytes_eq) (sym (map-push (λ t. t.name) earlier made)) (IsDistinct-push nat_list_eq_equiv (map (λ t. t.name) earlier) named.0 are.names new_name);
-      datapaths = subst (IsDistinct nat_eq) (sym (map-push (λ t. t.datapath) earlier made)) (IsDistinct-push nat_eq_equiv (map (λ t. t.datapath) earlier) numbered.0 are.datapaths new_datapath);
+      names = subst (IsDistinct bytes_eq) (sym (map_push (λ t. t.name) earlier made)) (IsDistinct-push nat_list_eq_equiv (map (λ t. t.name) earlier) named.0 are.names new_name);
+      datapaths = subst (IsDistinct nat_eq) (sym (map_push (λ t. t.datapath) earlier made)) (IsDistinct-push nat_eq_equiv (map (λ t. t.datapath) earlier) numbered.0 are.datapaths new_datapath);
     })
 
 statement_kept : (bytes : List ℕ) (earlier : List Switch) (keyword : Token) (f : Forest) (s : Switch) → switch_of bytes (seen earlier) keyword f ≡ Ok s → AreReadSwitches earlier → AreReadSwitches (earlier ++ s ∷ [])

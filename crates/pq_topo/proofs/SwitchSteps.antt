@@ -2,6 +2,7 @@
 use Rattle.std.specs.Prelude.{◌≡◌, ℕ, ◌+◌, ◌-◌, ◌<◌, Bool, true, false, if◌then◌else◌, List, [], ◌∷◌, ◌++◌, length, map, get_or, Ok, Err}
 use Rattle.std.proofs.Common.{arith, drop, ap, sym, subst, ◌∙◌}
 use Rattle.std.proofs.lemmas.List.Sums.{sum_by_push}
+use Rattle.std.proofs.lemmas.List.{map_push}
 use Rattle.pq_tree.specs.declared.term.Term.{Term}
 use Rattle.pq_tree.specs.declared.term.Term.TheViews.{out-Term}
 use Rattle.pq_tree.specs.Trees.{trees}
@@ -12,7 +13,6 @@ use Rattle.pq_topo.specs.declared.fault.NameFault.{NameFault}
 use Rattle.pq_topo.specs.Naming.{Reading, IsAnswer, next}
 use Rattle.pq_topo.specs.Statements.{Seen, seen, seen_more, room_after, begins_with, switch_of, switches_after}
 use Rattle.pq_topo.proofs.Passed.{passed, handed}
-use Rattle.pq_topo.proofs.SwitchRules.{map-push}
 use Rattle.pq_topo.proofs.Terms.{trees_left}
 
 -- one more switch takes room
@@ -23,8 +23,8 @@ less_room ss s =
 
 one_more : (ss : List Switch) (s : Switch) → seen_more (seen ss) s ≡ seen (ss ++ s ∷ [])
 one_more ss s =
-    ap (λ (names : List (List ℕ)). record { names = names; datapaths = map (λ t. t.datapath) ss ++ s.datapath ∷ []; room = room_after ss - length s.ports }) (sym (map-push (λ t. t.name) ss s))
-    ∙ ap (λ (datapaths : List ℕ). record { names = map (λ t. t.name) (ss ++ s ∷ []); datapaths = datapaths; room = room_after ss - length s.ports }) (sym (map-push (λ t. t.datapath) ss s))
+    ap (λ (names : List (List ℕ)). record { names = names; datapaths = map (λ t. t.datapath) ss ++ s.datapath ∷ []; room = room_after ss - length s.ports }) (sym (map_push (λ t. t.name) ss s))
+    ∙ ap (λ (datapaths : List ℕ). record { names = map (λ t. t.name) (ss ++ s ∷ []); datapaths = datapaths; room = room_after ss - length s.ports }) (sym (map_push (λ t. t.datapath) ss s))
     ∙ ap (λ (room : ℕ). record { names = map (λ t. t.name) (ss ++ s ∷ []); datapaths = map (λ t. t.datapath) (ss ++ s ∷ []); room = room }) (less_room ss s)
 
 -- what is seen behind one more switch

@@ -1,41 +1,21 @@
 -- The messages between the installs of two documents are lawful: neither install adds more groups than there are numbers of groups.
-use Rattle.std.proofs.Common.{◌≡◌, ◌∙◌, List, [], ◌∷◌, ◌++◌, All, append-nil, length, map, refl, sym, ap, subst, arith}
+use Rattle.std.proofs.Common.{List, [], ◌∷◌, All, length, sym, ap, subst, arith}
 use Rattle.std.proofs.lemmas.List.{length-map}
-use Rattle.std.proofs.lemmas.List.Elements.{All-from_recursion, filter_map-append}
+use Rattle.std.proofs.lemmas.List.Elements.{All-from_recursion}
 use Rattle.std.specs.List.{AllByRecursion, AllZip}
-use Rattle.pq_model.specs.declared.group_mod.GroupCommand.TheVariants.{Add as AddGroup}
 use Rattle.pq_model.specs.declared.message.Message.{Message}
-use Rattle.pq_model.specs.declared.message.Message.TheVariants.{Flow, Group, Barrier}
 use Rattle.pq_model.specs.Install.{Install}
-use Rattle.pq_model.specs.Mods.{FlowValue, GroupValue}
-use Rattle.pq_model.specs.Renewal.{IsRenewing, Renewal, renewal_messages}
+use Rattle.pq_model.specs.Renewal.{Renewal, renewal_messages}
 use Rattle.pq_model.specs.Topology.{Switch}
-use Rattle.pq_delta.specs.Added.{group_added, group_by, groups_added}
 use Rattle.pq_delta.specs.Turning.{HasFewGroups, IsNumberedRenewal}
+use Rattle.pq_delta.proofs.TurningLemmas.{renewal-groups}
 use Rattle.pq_compile.specs.Compiled.{IsInstalled}
 use Rattle.pq_compile.specs.Documents.{DocumentTree}
 use Rattle.pq_turning.proofs.Turned.{FilledFor, Renews, renews}
 
-groups_added-groups : (gs : List GroupValue) → AllByRecursion (λ g. g.command ≡ AddGroup) gs → groups_added (map Group gs) ≡ map (λ g. g.buckets) gs
-groups_added-groups [] all = refl
-groups_added-groups (g ∷ gs) (is, all) = rw (ap (λ c. group_by c g) is) (ap (λ l. g.buckets ∷ l) (groups_added-groups gs all))
-
-groups_added-flows : (fs : List FlowValue) → groups_added (map Flow fs) ≡ []
-groups_added-flows [] = refl
-groups_added-flows (f ∷ fs) = groups_added-flows fs
-
--- a renewal adds its groups
-groups_added-renewal : (r : Renewal) → IsRenewing r → groups_added (renewal_messages r) ≡ map (λ g. g.buckets) r.groups
-groups_added-renewal r h =
-    rw (ap (λ c. group_by c r.groups_away) h.groups_away.0)
-    (filter_map-append group_added (map Group r.groups) (Barrier r.grouped ∷ (map Flow r.entries ++ Barrier r.filled ∷ []))
-    ∙ ap (λ l. groups_added (map Group r.groups) ++ l) (filter_map-append group_added (map Flow r.entries) (Barrier r.filled ∷ []) ∙ append-nil (groups_added (map Flow r.entries)) ∙ groups_added-flows r.entries)
-    ∙ append-nil (groups_added (map Group r.groups))
-    ∙ groups_added-groups r.groups h.groups)
-
 numbered-few : (r : Renewal) → IsNumberedRenewal r → HasFewGroups (renewal_messages r)
 numbered-few r h =
-    let added = ap length (groups_added-renewal r h.renewing) in
+    let added = ap length (renewal-groups r h.renewing) in
     let long = length-map r.groups (λ g. g.buckets) in
     let few = h.few in
     omega (arith, added, long, few)

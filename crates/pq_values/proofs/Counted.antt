@@ -4,6 +4,7 @@ use Rattle.std.specs.List.{filter, list_any}
 use Rattle.std.proofs.lemmas.Bool.Decides.{eqb_tells, nat_tests}
 use Rattle.std.proofs.lemmas.List.{length-append, map-append}
 use Rattle.std.proofs.lemmas.List.Elements.{filter-append}
+use Rattle.pq_model.proofs.CommutingFlows.{equal-comm}
 use Rattle.pq_fields.specs.declared.field.Field.{Field}
 use Rattle.pq_fields.specs.Packet.{rank}
 use Rattle.pq_query.specs.Labels.{ascending}
@@ -89,12 +90,6 @@ all_counted (n ∷ ns) ks all = all_counted ns (with_number n ks) (number_counts
 
 -- Numbers of a field.
 
-pub turned : (n m : ℕ) → (n == m) ≡ (m == n)
-turned n m = elim (eqb_tells n m) [
-  | inl same ↦ (let back : (m == n) ≡ true = grind (arith, nat_tests, same.1) in same.0 ∙ sym back)
-  | inr other ↦ (let back : (m == n) ≡ false = grind (arith, nat_tests, other.0) in other.0 ∙ sym back)
-]
-
 pub itself : (n : ℕ) → (n == n) ≡ true
 itself n = grind (arith, nat_tests)
 
@@ -108,7 +103,7 @@ same_known f n (s ∷ known) = by (is_field f s.0) (same_known f n known)
   where
     by : (b : Bool) → list_any (is_same (f, n)) known ≡ has (numbers_for f known) n
         → ((b && (n == s.1)) || list_any (is_same (f, n)) known) ≡ has (map (λ t. t.1) (if b then s ∷ filter (λ t. is_field f t.0) known else filter (λ t. is_field f t.0) known)) n
-    by true later = rw (turned n s.1, later) refl
+    by true later = rw (equal-comm n s.1, later) refl
     by false later = later
 
 own_number : (f : Field) (n : ℕ) (known : List Stated) → numbers_for f (with_one (f, n) known) ≡ with_number n (numbers_for f known)

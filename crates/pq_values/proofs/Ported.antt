@@ -2,7 +2,7 @@
 use Rattle.std.proofs.Common.{◌≡◌, ◌⊎◌, ◌≤◌, ℕ, zero, suc, ◌==◌, Bool, true, false, ◌||◌, ◌&&◌, cond, List, []}
 use Rattle.std.proofs.Common.{◌∷◌, All, Option, Some, None, IfSome, nat_le, refl, sym, ap, subst, ◌∙◌, arith, inl, inr}
 use Rattle.std.specs.List.{Contains, filter}
-use Rattle.std.proofs.lemmas.Bool.{true≢false}
+use Rattle.std.proofs.lemmas.Bool.{true≢false, and_parts}
 use Rattle.std.proofs.lemmas.Bool.Decides.{eqb_tells, nat_tests}
 use Rattle.std.proofs.lemmas.List.Elements.{All-contains_itself, All-weaker}
 use Rattle.pq_fields.specs.declared.field.Field.{Field}
@@ -133,13 +133,9 @@ module _ (keep : ℕ → Bool) where
 abbrev is_port : ℕ → Bool
 is_port n = nat_le 1 n && nat_le n 0xffffff00
 
-both : (a b : Bool) → (a && b) ≡ true → (a ≡ true) × (b ≡ true)
-both true b h = (refl, h)
-both false b h = absurd (true≢false (sym h))
-
 port_told : (n : ℕ) → is_port n ≡ true → IsPortNumber n
 port_told n is =
-    let parts = both (nat_le 1 n) (nat_le n 0xffffff00) is in
+    let parts = and_parts (nat_le 1 n) (nat_le n 0xffffff00) is in
     let least : nat_le 1 n ≡ true = parts.0 in
     let most : nat_le n 0xffffff00 ≡ true = parts.1 in
     (grind (arith, nat_tests, least), grind (arith, nat_tests, most))

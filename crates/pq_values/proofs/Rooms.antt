@@ -1,10 +1,12 @@
 -- Where no field is above its limit, there is room for all numbers of a document.
-use Rattle.std.proofs.Common.{◌≡◌, ◌≤◌, ℕ, zero, suc, ◌==◌, Bool, true, false, ◌||◌, List, [], ◌∷◌, ◌++◌, map, length, All, Option, Some, None, refl, sym, ap, subst, ◌∙◌, arith}
+use Rattle.std.proofs.Common.{◌≡◌, ◌≤◌, ℕ, zero, suc, ◌==◌, true, ◌||◌, List, [], ◌∷◌, ◌++◌, map, length, All, Option, Some, None, refl, sym, ap, subst, ◌∙◌, arith}
 use Rattle.std.specs.List.{AllByRecursion, Any, flat_map, list_any}
 use Rattle.std.proofs.lemmas.Bool.{true≢false}
 use Rattle.std.proofs.lemmas.List.{length-map}
 use Rattle.std.proofs.lemmas.List.Concat.{flat_map-cons}
 use Rattle.std.proofs.lemmas.List.Elements.{All-nil, All-cons, All-head, All-tail, All-append, All-weaker, recursion_from_All}
+use Rattle.std.proofs.Math.Bool.{or-true}
+use Rattle.pq_lists.proofs.Holding.{all_back, all_front}
 use Rattle.pq_fields.specs.declared.field.Field.{Field}
 use Rattle.pq_fields.specs.declared.field.Field.TheVariants.{Switch, Port, EthType, IpProto, EthSrc, EthDst, Ipv4Src, Ipv4Dst, TcpSrc, TcpDst, UdpSrc, UdpDst, Ipv6Src, Ipv6Dst}
 use Rattle.pq_fields.specs.Packet.{rank}
@@ -14,6 +16,7 @@ use Rattle.pq_fields.specs.Pred.Preds.{none as no_preds, put as add_pred}
 use Rattle.pq_model.specs.Install.{IsLawfulSwitch}
 use Rattle.pq_model.specs.MatchFields.{IsPortNumber}
 use Rattle.pq_model.specs.Topology.{Switch as SwitchValue, Topology}
+use Rattle.pq_model.proofs.CommutingFlows.{equal-comm}
 use Rattle.pq_topo.specs.Named.{IsNamedTopology}
 use Rattle.pq_pred.specs.Named.{MayStand}
 use Rattle.pq_policy.specs.Policy.{PolicyTop, Pass, Discard, Spread, Only, Write, Forward, Choose, Either}
@@ -35,20 +38,13 @@ use Rattle.pq_classes.specs.Room.{IsGroupWithin, IsQueryWithin}
 use Rattle.pq_values.specs.Limits.{Limit, count_for, limits, numbers_for}
 use Rattle.pq_values.specs.Room.{AreFewStated, AreOver, AreWithin, HaveRoom}
 use Rattle.pq_values.specs.Stated.{Stated, in_group, in_groups, in_policies, in_policy, in_policy_top, in_pred, in_pred_top, in_preds, in_queries, in_query, in_query_top, stated, stated_for}
-use Rattle.pq_values.proofs.Counted.{itself, numbers_append, turned}
+use Rattle.pq_values.proofs.Counted.{itself, numbers_append}
 
 -- Lists of numbers.
 
-or_right : (b : Bool) → (b || true) ≡ true
-or_right true = refl
-or_right false = refl
-
-or_left : (b : Bool) → (true || b) ≡ true
-or_left b = refl
-
 found_turned : (ks : List ℕ) (n : ℕ) → list_any (λ k. n == k) ks ≡ has ks n
 found_turned [] n = refl
-found_turned (k ∷ ks) n = rw (turned n k, found_turned ks n) refl
+found_turned (k ∷ ks) n = rw (equal-comm n k, found_turned ks n) refl
 
 -- a number that the list has is among its numbers
 pub among : (ks : List ℕ) (n : ℕ) → has ks n ≡ true → IsAmong n ks
@@ -56,7 +52,7 @@ among ks n found = found_among n ks (found_turned ks n ∙ found)
 
 -- what the list has it still has behind one more
 pub behind : (k : ℕ) (ks : List ℕ) (n : ℕ) → has ks n ≡ true → has (k ∷ ks) n ≡ true
-behind k ks n found = ap (λ b. (k == n) || b) found ∙ or_right (k == n)
+behind k ks n found = ap (λ b. (k == n) || b) found ∙ or-true (k == n)
 
 pub first : (k : ℕ) (ks : List ℕ) → has (k ∷ ks) k ≡ true
 first k ks = ap (λ b. b || has ks k) (itself k)
@@ -67,15 +63,6 @@ all_had [] = All-nil (λ n. has [] n ≡ true)
 all_had (k ∷ ks) =
     All-cons (λ n. has (k ∷ ks) n ≡ true) k ks (first k ks)
     (All-weaker (λ n. has ks n ≡ true) (λ n. has (k ∷ ks) n ≡ true) (λ n found. behind k ks n found) ks (all_had ks))
-
--- what all of two lists are, all of the first are, and all of the second
-All-front : {X : Type 0} (P : X → Type 0) (xs ys : List X) → All P (xs ++ ys) → All P xs
-All-front P [] ys all = All-nil P
-All-front P (x ∷ xs) ys all = All-cons P x xs (All-head P x (xs ++ ys) all) (All-front P xs ys (All-tail P x (xs ++ ys) all))
-
-All-back : {X : Type 0} (P : X → Type 0) (xs ys : List X) → All P (xs ++ ys) → All P ys
-All-back P [] ys all = all
-All-back P (x ∷ xs) ys all = All-back P xs ys (All-tail P x (xs ++ ys) all)
 
 -- Stated numbers.
 
@@ -89,7 +76,7 @@ states_left ss ts f n found = ap (λ ks. has ks n) (numbers_append f ss ts) ∙ 
 states_right : (ss ts : List Stated) (f : Field) (n : ℕ) → States ts f n → States (ss ++ ts) f n
 states_right ss ts f n found =
     ap (λ ks. has ks n) (numbers_append f ss ts)
-    ∙ (either_has (numbers_for f ss) (numbers_for f ts) n ∙ (ap (λ b. has (numbers_for f ss) n || b) found ∙ or_right (has (numbers_for f ss) n)))
+    ∙ (either_has (numbers_for f ss) (numbers_for f ts) n ∙ (ap (λ b. has (numbers_for f ss) n || b) found ∙ or-true (has (numbers_for f ss) n)))
 
 numbers_one : (f : Field) (n : ℕ) (ss : List Stated) → numbers_for f ((f, n) ∷ ss) ≡ n ∷ numbers_for f ss
 numbers_one f n ss = let own : is_field f f ≡ true = itself (rank f) in rw own refl
@@ -309,8 +296,8 @@ module _ (T : Topology) (ns : Field → List ℕ) where
       let AtPort : ℕ → Type 0 = λ p. IsAmong p (ns Port) in
       let whole : All AtPort (s.ports ++ flat_map (λ t. t.ports) ss) = subst (All AtPort) (flat_map-cons (λ t. t.ports) s ss) ports in
       All-cons IsSwitchWithin s ss
-      (All-head AtSwitch s.datapath (map (λ t. t.datapath) ss) datapaths, All-front AtPort s.ports (flat_map (λ t. t.ports) ss) whole)
-      (switches_within ss (All-tail AtSwitch s.datapath (map (λ t. t.datapath) ss) datapaths) (All-back AtPort s.ports (flat_map (λ t. t.ports) ss) whole))
+      (All-head AtSwitch s.datapath (map (λ t. t.datapath) ss) datapaths, all_front AtPort s.ports (flat_map (λ t. t.ports) ss) whole)
+      (switches_within ss (All-tail AtSwitch s.datapath (map (λ t. t.datapath) ss) datapaths) (all_back AtPort s.ports (flat_map (λ t. t.ports) ss) whole))
 
 -- The numbers of a document, few enough.
 

@@ -1,4 +1,4 @@
-use Rattle.automaton_sizes.proofs.Distinct.{range_differs}
+use Rattle.pq_lists.proofs.Ranges.{range_differs}
 use Rattle.automaton_sizes.proofs.queries.labels.Goals as goal
 
 pub group-requires : goal.group-requires

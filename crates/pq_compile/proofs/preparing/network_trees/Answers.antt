@@ -1,8 +1,8 @@
 use Rattle.pq_compile.specs.Documents.{document_tree}
-use Rattle.pq_emit.proofs.Located.{here_at}
 use Rattle.pq_compile.specs.Prepared.{parts_in}
 use Rattle.pq_compile.proofs.Joined.{all_sound, fits_as_switch, idle_free_at}
 use Rattle.pq_compile.proofs.Values.{lawful_parts}
+use Rattle.pq_lists.proofs.Places.{at_place}
 use Rattle.pq_compile.proofs.preparing.network_trees.Goals as goal
 
 pub all_trees-requires-clause-idle_free : goal.all_trees-requires-clause-idle_free
@@ -23,7 +23,7 @@ returns c = record {
       let told = c.requires.told.told in
       let of = c.args.told.now in
       let lettered = c.count.ensures.lettered in
-      let letters = here_at of.letters.trees of.letters.root lettered.root in
+      let letters = at_place of.letters.trees of.letters.root lettered.root in
       all_sound d c.requires.compilable of.letters of.classes
       (record { lawful = c.switches.ensures.lawful.lawful; lettered = lettered; letters = told.classes.letters; machine = c.is_lawful.ensures.machine; few = c.requires.told.tags })
       c.args.forward.now c.args.policy policy (c.has_diagrams.ensures.diagrams c.args.policy policy.0 policy.1)

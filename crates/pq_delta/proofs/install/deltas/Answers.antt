@@ -1,18 +1,18 @@
 use Rattle.std.proofs.Common.{◌++◌, ◌<◌, ◌≤◌, [], drop, length, map, sym, ap, ◌∙◌, append-nil, arith}
 use Rattle.std.proofs.lemmas.List.{length-map}
+use Rattle.pq_lists.proofs.Holding.{all_map_read}
 use Rattle.pq_model.specs.Install.{IsLawfulList}
-use Rattle.pq_flowmod.proofs.BucketSteps.{All-map_read}
 use Rattle.pq_delta.specs.Delta.{switch_delta, with_switch}
 use Rattle.pq_delta.proofs.AssemblyLemmas.{delta_end, delta_step, one_short_more, read_mapped}
 use Rattle.pq_delta.proofs.install.deltas.Goals as goal
 
 pub switch_delta-requires-clause-old : goal.switch_delta-requires-clause-old
 switch_delta-requires-clause-old c =
-    rw c.deref.ensures.value (All-map_read c.args.olds.now (λ ms. ms.items) IsLawfulList _ c.index-olds-index.result c.requires.olds (omega (arith, c.requires.old_listed, c.loop-index-test.true)) c.index-olds-index.is)
+    rw c.deref.ensures.value (all_map_read c.args.olds.now (λ ms. ms.items) IsLawfulList _ c.index-olds-index.result c.requires.olds (omega (arith, c.requires.old_listed, c.loop-index-test.true)) c.index-olds-index.is)
 
 pub switch_delta-requires-clause-new : goal.switch_delta-requires-clause-new
 switch_delta-requires-clause-new c =
-    rw c.deref-in-loop-index.ensures.value (All-map_read c.args.news.now (λ ms. ms.items) IsLawfulList _ c.index-news-index.result c.requires.news (omega (arith, c.requires.new_listed, c.loop-index-test.true)) c.index-news-index.is)
+    rw c.deref-in-loop-index.ensures.value (all_map_read c.args.news.now (λ ms. ms.items) IsLawfulList _ c.index-news-index.result c.requires.news (omega (arith, c.requires.new_listed, c.loop-index-test.true)) c.index-news-index.is)
 
 pub loop-index-preserved : goal.loop-index-preserved
 loop-index-preserved c =

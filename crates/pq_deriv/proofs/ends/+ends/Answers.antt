@@ -1,10 +1,11 @@
 use Rattle.std.proofs.Common.{◌≡◌, ◌+◌, ◌-◌, [], ◌∷◌, length, drop, refl, sym, ◌∙◌, arith}
+use Rattle.pq_lists.proofs.Places.{from_place}
 use Rattle.pq_expr.specs.Expr.{expr_tree, expr_trees}
 use Rattle.pq_expr.proofs.Trees.{tree_Cat, tree_Or, tree_And}
 use Rattle.pq_expr.specs.Language.{holds, languages}
 use Rattle.pq_deriv.specs.Parts.{members, spread, first_set, behind_set}
 use Rattle.pq_deriv.specs.Left.{left, lefts, turn_left}
-use Rattle.pq_deriv.proofs.Reading.{item_first, parts_more}
+use Rattle.pq_deriv.proofs.Reading.{parts_more}
 use Rattle.pq_deriv.proofs.Idle.{ends_idle, ends_over, turn_is}
 use Rattle.pq_deriv.proofs.Spread.{spread_gap}
 use Rattle.pq_deriv.proofs.Turns.{turn_passed}
@@ -45,7 +46,7 @@ turn_ends-operands-preserved t c =
     let later = expr_trees (drop (i + 1) es) in
     let less : c.saturating_sub.result ≡ c.operands.gap - skip = c.saturating_sub.ensures in
     let r = c.saturating_sub.result ∷ c.operands.left.now in
-    let first = item_first es i e (omega (arith, c.if-place-exprs.false)) c.index-exprs-place.is in
+    let first = from_place es i e (omega (arith, c.if-place-exprs.false)) c.index-exprs-place.is in
     let passed = ends_idle c.operands.begins c.operands.place skip c.operands.gap c.operands.left.now es (omega (arith, c.idle-skip.ensures.few)) c.idle-skip.ensures.begins c.idle-skip.ensures.empty in
     let before = rw (← less, first) at (passed ∙ c.operands.invariant) in
     let passes = rw c.split_set-next_gap.ensures.set at c.passes-begins.ensures in

@@ -1,10 +1,10 @@
 use Rattle.std.proofs.Common.{◌≡◌, ◌+◌, [], ◌∷◌, ◌++◌, length, drop, refl, IfOk, append_assoc, arith, sym, subst}
 use Rattle.std.proofs.lemmas.List.{append-nil, drop_all}
 use Rattle.std.proofs.lemmas.Result.{IfOk-weaker}
+use Rattle.pq_lists.proofs.Places.{from_place}
 use Rattle.pq_expr.specs.Expr.{InTurn, Repeated, exprs, expr_tree, expr_trees}
 use Rattle.pq_expr.proofs.Trees.{tree_Or, tree_And, tree_Star}
 use Rattle.pq_deriv.specs.Stepped.{AreStarts}
-use Rattle.pq_deriv.proofs.Reading.{item_first}
 use Rattle.pq_deriv.proofs.Beginnings.{turn_begun, start_more, either_starts, both_start}
 use Rattle.pq_deriv.specs.Choices.{IsOneOf}
 use Rattle.pq_deriv.specs.Rests.{in_parts, top_rests, rests, all_rests}
@@ -16,7 +16,7 @@ start_each-loop-expr-preserved t c =
     let es = c.args.exprs.now in
     let i = c.loop-expr.expr-index in
     let e = c.expr-item.result in
-    let first = item_first es i e c.loop-expr-test.true c.expr-item.is in
+    let first = from_place es i e c.loop-expr-test.true c.expr-item.is in
     let r = c.in_ok-rest.rest.items in
     let pushed = rw c.deref.ensures.value at c.in_ok-push_part.ensures in (
       λ more starts. subst (AreStarts (expr_trees es)) (sym (rw pushed (append_assoc c.loop-expr.out.items (length r ∷ r) more)))

@@ -1,6 +1,7 @@
 use Rattle.std.proofs.Common.{◌≡◌, ℕ, Vec, Global, List, ◌≤◌, ◌+◌, ◌-◌, [], ◌∷◌, ◌++◌, length, map, drop, refl, false, append_assoc, arith, sym, subst, ◌∙◌}
 use Rattle.std.proofs.lemmas.List.{append-nil, drop_all}
 use Rattle.std.proofs.lemmas.Result.{IfOk-weaker}
+use Rattle.pq_lists.proofs.Places.{from_place}
 use Rattle.pq_expr.specs.Word.{HalfStep}
 use Rattle.pq_expr.specs.Expr.{InTurn, Repeated, expr_tree, expr_trees}
 use Rattle.pq_expr.proofs.Trees.{tree_Cat, tree_Or, tree_And, tree_Star}
@@ -8,7 +9,7 @@ use Rattle.pq_deriv.specs.Parts.{parts, members, set_of, first_part, behind_part
 use Rattle.pq_deriv.proofs.Spread.{wide_none}
 use Rattle.pq_deriv.specs.Left.{left}
 use Rattle.pq_deriv.specs.Stepped.{AreStepped, AreSetsStepped}
-use Rattle.pq_deriv.proofs.Reading.{item_first, parts_more, members_front}
+use Rattle.pq_deriv.proofs.Reading.{parts_more, members_front}
 use Rattle.pq_deriv.proofs.Letters.{member_more, set_kept, set_begun, turn_more, turn_over, turn_whole, sets_whole, idle_left, rest_more, either_steps, both_step, repetition_steps}
 use Rattle.pq_deriv.specs.Choices.{IsOneOf}
 use Rattle.pq_deriv.specs.Rests.{sets, in_parts, in_sets, top_rests, rests, all_rests}
@@ -22,7 +23,7 @@ step_each-loop-expr-preserved t c =
     let i = c.loop-expr.expr-index in
     let e = c.expr-item.result in
     let l : HalfStep = record { side = c.args.side; truth = c.args.signature.now } in
-    let first = item_first es i e c.loop-expr-test.true c.expr-item.is in
+    let first = from_place es i e c.loop-expr-test.true c.expr-item.is in
     let r = c.in_ok-stepped.stepped.items in
     let pushed = rw c.deref.ensures.value at c.in_ok-push_part.ensures in
     let steps = rw c.split_part.ensures.part at c.in_ok-stepped.ensures.left in (
@@ -83,7 +84,7 @@ step_sets-operands-preserved t c =
     let l : HalfStep = record { side = c.args.side; truth = c.args.signature.now } in
     let W : List ℕ → Type 0 = AreSetsStepped l (expr_trees es) false c.args.rest.now in
     let V : List ℕ → Type 0 = IsOneOf (in_sets (map sets (rests (expr_trees es)))) in
-    let first = item_first es i e (omega (arith, c.if-place-exprs.false)) c.index-exprs-place.is in
+    let first = from_place es i e (omega (arith, c.if-place-exprs.false)) c.index-exprs-place.is in
     let set = c.in_ok-stepped.stepped.items in
     let pushed = rw c.deref.ensures.value at c.in_ok-empties.ensures.set in
     let steps = rw c.split_set-next_gap.ensures.set at c.in_ok-stepped.ensures.left in

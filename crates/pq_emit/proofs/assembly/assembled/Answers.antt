@@ -1,11 +1,12 @@
 use Rattle.std.proofs.Common.{map, sym, subst, ◌∙◌}
 use Rattle.std.specs.List.{AllZip}
 use Rattle.std.proofs.lemmas.List.{length-map}
+use Rattle.std.proofs.lemmas.Slice.Zip.{AllZip-long}
 use Rattle.pq_join.specs.Tags.{tagging_of}
 use Rattle.pq_layout.specs.Emission.{AreMessages}
 use Rattle.pq_lookup.specs.Sent.{AreFilled}
 use Rattle.pq_emit.specs.Switches.{IsFilledBy, trees_at, trees_of}
-use Rattle.pq_emit.proofs.Concluded.{all_filled, all_messages_of, as_many, fault_told, no_fault}
+use Rattle.pq_emit.proofs.Concluded.{all_filled, all_messages_of, fault_told, no_fault}
 use Rattle.pq_emit.proofs.Located.{all_located}
 use Rattle.pq_emit.proofs.assembly.assembled.Goals as goal
 
@@ -19,7 +20,7 @@ returns-in-Err-clause-cause c = λ a writes at.
 pub install_of-requires-clause-listed : goal.install_of-requires-clause-listed
 install_of-requires-clause-listed c =
     let all = trees_of c.args.first.now c.args.second.now c.args.trees.now in
-    sym (length-map c.in-Ok.messages.items (λ ms. ms.items)) ∙ as_many IsFilledBy all (map (λ ms. ms.items) c.in-Ok.messages.items) c.in-Ok.ensures.messages
+    sym (length-map c.in-Ok.messages.items (λ ms. ms.items)) ∙ AllZip-long IsFilledBy all (map (λ ms. ms.items) c.in-Ok.messages.items) c.in-Ok.ensures.messages
     ∙ length-map c.args.trees.now (trees_at c.args.first.now c.args.second.now) ∙ c.requires.listed
 
 pub returns-in-Ok-install_of-clause-ok : goal.returns-in-Ok-install_of-clause-ok

@@ -1,5 +1,7 @@
 use Rattle.std.proofs.Common.{length, ap, sym, subst, inl, ◌∙◌}
 use Rattle.std.specs.Prelude.{All}
+use Rattle.std.proofs.lemmas.Slice.Zip.{AllZip-long}
+use Rattle.pq_lists.proofs.Places.{at_place}
 use Rattle.pq_join.specs.Sound.{HasTags}
 use Rattle.pq_join.specs.Switch.{TestPortsAt}
 use Rattle.pq_join.specs.Tags.{tagging_of}
@@ -7,8 +9,6 @@ use Rattle.pq_layout.specs.Leaves.{departing}
 use Rattle.pq_store.specs.Tree.{value}
 use Rattle.pq_emit.specs.Network.{StandBelowAll}
 use Rattle.pq_emit.specs.Switches.{IsSoundAt, IsSwitchAt}
-use Rattle.pq_emit.proofs.Concluded.{as_many}
-use Rattle.pq_emit.proofs.Located.{here_at}
 use Rattle.pq_emit.proofs.SoundAtIds.{sound_all}
 use Rattle.pq_emit.proofs.SoundLayouts.{sound_layout}
 use Rattle.pq_emit.proofs.emission.emit.Goals as goal
@@ -18,9 +18,9 @@ pub assembled-requires-clause-listed : goal.assembled-requires-clause-listed
 assembled-requires-clause-listed c =
     let T = c.args.topology.now in
     let g = tagging_of c.args.letters.now c.args.classes.now in
-    let p = here_at c.args.forward.now c.args.policy c.requires.policy in
+    let p = at_place c.args.forward.now c.args.policy c.requires.policy in
     ap length c.deref.ensures.value
-    ∙ as_many (IsSwitchAt T g (departing T (value p.0)) c.all_trees-made.new.first c.all_trees-made.new.second) T.switches c.in-Ok.trees.items (c.in-Ok.ensures.trees p.0 p.1)
+    ∙ AllZip-long (IsSwitchAt T g (departing T (value p.0)) c.all_trees-made.new.first c.all_trees-made.new.second) T.switches c.in-Ok.trees.items (c.in-Ok.ensures.trees p.0 p.1)
 
 -- and entries can stand for them
 pub assembled-requires-clause-sound : goal.assembled-requires-clause-sound
@@ -30,8 +30,8 @@ assembled-requires-clause-sound c =
     let m = c.args.classes.now in
     let lawful = c.switches.ensures.lawful.lawful in
     let lettered = c.count.ensures.lettered in
-    let p = here_at c.args.forward.now c.args.policy c.requires.policy in
-    let letters = here_at a.trees a.root lettered.root in
+    let p = at_place c.args.forward.now c.args.policy c.requires.policy in
+    let letters = at_place a.trees a.root lettered.root in
     let idle_free = c.requires.idle_free p.0 p.1 in
     let tags : HasTags T a m = record { lawful = lawful; lettered = lettered; letters = c.requires.letters; machine = c.is_lawful.ensures.machine; few = c.requires.classes } in
     let ignores = c.requires.letters_ignore letters.0 letters.1 in

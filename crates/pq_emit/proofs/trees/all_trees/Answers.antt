@@ -1,9 +1,10 @@
 use Rattle.std.proofs.Common.{subst}
+use Rattle.pq_lists.proofs.Places.{at_place}
 use Rattle.pq_join.specs.Tags.{tagging_of}
 use Rattle.pq_layout.specs.Leaves.{departing}
 use Rattle.pq_layout.specs.Trees.{AreArriving, AreLeaving}
 use Rattle.pq_store.specs.Tree.{value}
-use Rattle.pq_emit.proofs.Located.{here_at, one_more}
+use Rattle.pq_emit.proofs.Located.{one_more}
 use Rattle.pq_emit.proofs.PortsAtIds.{one_more_ports, placed_ports}
 use Rattle.pq_emit.proofs.trees.all_trees.Goals as goal
 
@@ -24,7 +25,7 @@ loop-switch-preserved c =
           (subst (λ s. AreLeaving T g (departing T (value p)) s.datapath c.switch_trees.new.second trees.leaving.items) c.switch.view_is (c.in_ok-trees.ensures.leaving p at))
           (c.loop-switch.invariant.trees p at);
       ports = λ policy letters.
-          let p = here_at c.args.forward.now c.args.policy c.requires.policy in
+          let p = at_place c.args.forward.now c.args.policy c.requires.policy in
           one_more_ports c.loop-switch.first c.switch_trees.new.first c.loop-switch.second c.switch_trees.new.second left right c.loop-switch.all.items c.push.new.self.items trees
           c.in_ok-push.ensures.items (placed_ports T g (departing T (value p.0)) c.switch_trees.new.first c.switch_trees.new.second c.switch.inside.datapath trees
           c.in_ok-trees.ensures.arriving (c.in_ok-trees.ensures.leaving p.0 p.1) (c.in_ok-trees.ensures.ports policy letters))

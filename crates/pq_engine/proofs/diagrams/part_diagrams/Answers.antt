@@ -1,8 +1,9 @@
 use Rattle.std.proofs.Common.{◌<◌, ◌+◌, length, take, sym, subst, arith}
 use Rattle.pq_sum.specs.Sum.{AreParts}
+use Rattle.pq_sum.proofs.Filling.{parts_still}
 use Rattle.pq_compile.specs.Documents.{document_tree}
 use Rattle.pq_compile.specs.Prepared.{parts_in}
-use Rattle.pq_engine.proofs.SumsLemmas.{parts_long, parts_more, parts_still}
+use Rattle.pq_engine.proofs.SumsLemmas.{parts_long, parts_more}
 use Rattle.pq_engine.proofs.diagrams.part_diagrams.Goals as goal
 
 pub loop-place-preserved : goal.loop-place-preserved

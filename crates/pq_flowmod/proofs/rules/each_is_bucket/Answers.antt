@@ -1,7 +1,7 @@
 use Rattle.std.proofs.Common.{◌∙◌, sym, subst, refl, arith}
 use Rattle.std.proofs.lemmas.Bool.{false≢true}
+use Rattle.pq_lists.proofs.Holding.{all_map_read}
 use Rattle.pq_model.specs.Lawful.{IsLawfulBucket}
-use Rattle.pq_flowmod.proofs.BucketSteps.{All-map_read}
 use Rattle.pq_flowmod.proofs.RuleLaws.{all_more, all_done, all_inside}
 use Rattle.pq_flowmod.proofs.rules.each_is_bucket.Goals as goal
 
@@ -9,7 +9,7 @@ use Rattle.pq_flowmod.proofs.rules.each_is_bucket.Goals as goal
 pub returns-then-not-is_bucket : goal.returns-then-not-is_bucket
 returns-then-not-is_bucket c = (
   (λ t. absurd (false≢true t)),
-  λ all. sym c.if-not-is_bucket.true ∙ c.is_bucket.ensures.1 (rw c.deref.ensures.value (All-map_read c.args.buckets.now (λ b. b.items) IsLawfulBucket _ c.bucket-item.result all c.loop-bucket-test.true c.bucket-item.is)),
+  λ all. sym c.if-not-is_bucket.true ∙ c.is_bucket.ensures.1 (rw c.deref.ensures.value (all_map_read c.args.buckets.now (λ b. b.items) IsLawfulBucket _ c.bucket-item.result all c.loop-bucket-test.true c.bucket-item.is)),
 )
 
 -- one more bucket is lawful

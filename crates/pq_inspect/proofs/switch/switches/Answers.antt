@@ -1,15 +1,15 @@
 use Rattle.std.proofs.Common.{◌∙◌, arith, rules, ap, map, zip}
 use Rattle.std.proofs.lemmas.List.{take_all}
 use Rattle.std.proofs.lemmas.Slice.Zip.{length-zip}
+use Rattle.pq_lists.proofs.Holding.{all_map_read}
 use Rattle.serde_json.specs.declared.value.Value.{the_lemmas}
 use Rattle.pq_model.specs.Install.{IsLawfulList}
-use Rattle.pq_flowmod.proofs.BucketSteps.{All-map_read}
 use Rattle.pq_inspect.specs.Inspection.{switch_data}
 use Rattle.pq_inspect.proofs.Lists.{shown_beside_more}
 use Rattle.pq_inspect.proofs.switch.switches.Goals as goal
 
 pub switch-requires : goal.switch-requires
-switch-requires c = rw c.deref.ensures.value (All-map_read c.args.lists.now (λ ms. ms.items) IsLawfulList _ c.index-lists-index.result c.requires.lawful (omega (arith, c.requires.listed, c.loop-index-test.true)) c.index-lists-index.is)
+switch-requires c = rw c.deref.ensures.value (all_map_read c.args.lists.now (λ ms. ms.items) IsLawfulList _ c.index-lists-index.result c.requires.lawful (omega (arith, c.requires.listed, c.loop-index-test.true)) c.index-lists-index.is)
 
 pub loop-index-preserved : goal.loop-index-preserved
 loop-index-preserved c =

@@ -1,7 +1,7 @@
 use Rattle.std.proofs.Common.{◌<◌, length, map, sym, ap, subst, arith}
-use Rattle.pq_emit.proofs.Located.{here_at}
+use Rattle.pq_lists.proofs.Places.{at_place, image_place}
 use Rattle.pq_local.specs.Local.{IsServedAt}
-use Rattle.pq_local.proofs.Zipped.{image_there, there_is, zip_at, zip_more}
+use Rattle.pq_local.proofs.Zipped.{there_is, zip_at, zip_more}
 use Rattle.pq_local.proofs.switches.all_served.Goals as goal
 
 pub served-requires-clause-old : goal.served-requires-clause-old
@@ -14,7 +14,7 @@ served-requires-clause-old c s there =
     let below : k < length c.args.old.now = omega (arith, long, c.requires.listed, c.loop-index-test.true) in
     subst (IsServedAt T c.args.forward.now c.args.before told.letters told.classes s) (sym c.deref.ensures.value)
     (zip_at (IsServedAt T c.args.forward.now c.args.before told.letters told.classes) T.switches (map (λ ms. ms.items) c.args.old.now) c.requires.old k s r.items there
-    (image_there (λ ms. ms.items) c.args.old.now k r (there_is c.args.old.now k r below c.index-old-index.is)))
+    (image_place (λ ms. ms.items) c.args.old.now k r (there_is c.args.old.now k r below c.index-old-index.is)))
 
 -- one switch more
 pub loop-index-preserved : goal.loop-index-preserved
@@ -24,6 +24,6 @@ loop-index-preserved c =
     let k = c.loop-index.index in
     let long = ap length c.switches-switches.ensures.switches in
     let below : k < length T.switches = omega (arith, long, c.loop-index-test.true) in
-    let here = here_at T.switches k below in
+    let here = at_place T.switches k below in
     zip_more (IsServedAt T c.args.forward.now c.args.policy told.letters told.classes) (λ ms. ms.items) T.switches k here.0 c.loop-index.all.items c.push.new.self.items c.in-Ok.messages here.1
     c.in-Ok-push.ensures.items (c.in-Ok.ensures here.0 here.1) c.loop-index.invariant

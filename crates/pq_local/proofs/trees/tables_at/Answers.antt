@@ -1,4 +1,5 @@
 use Rattle.std.proofs.Common.{◌∙◌, subst}
+use Rattle.pq_lists.proofs.Places.{at_place}
 use Rattle.pq_layout.specs.Leaves.{departing}
 use Rattle.pq_layout.specs.Trees.{AreArriving, AreLeaving}
 use Rattle.pq_model.specs.Install.{IsLawfulSwitch}
@@ -7,7 +8,6 @@ use Rattle.pq_store.specs.Tree.{value}
 use Rattle.pq_join.specs.Tags.{tagging_of}
 use Rattle.pq_meaning.specs.Parts.{IsUnionOfParts}
 use Rattle.pq_emit.specs.Switches.{IsSwitchAt}
-use Rattle.pq_emit.proofs.Located.{here_at}
 use Rattle.pq_compile.specs.Documents.{document_tree}
 use Rattle.pq_compile.specs.Prepared.{parts_in}
 use Rattle.pq_compile.proofs.Joined.{fits_as_switch, idle_free_at, of_at}
@@ -45,7 +45,7 @@ returns c s there p at =
       subst (λ z. AreLeaving T g (departing T (value p)) z.datapath seconds made.trees.leaving.items) same (made.ensures.leaving p at),
     ) in
     let lettered = c.count.ensures.lettered in
-    let letters = here_at of.letters.trees of.letters.root lettered.root in
+    let letters = at_place of.letters.trees of.letters.root lettered.root in
     record {
       trees = are;
       sound = one_sound d c.requires.compilable of.letters of.classes

@@ -3,7 +3,7 @@ use Rattle.std.proofs.lemmas.Option.{slice_get_within}
 use Rattle.pq_fields.proofs.Places.{same_writes}
 use Rattle.pq_store.specs.Store.{HasAt, Keeps}
 use Rattle.pq_store.specs.Tree.Tree.{Fork}
-use Rattle.pq_store.proofs.Elements.{at_place}
+use Rattle.pq_lists.proofs.Places.{at_place}
 use Rattle.pq_apply.proofs.Kept.{keeps_on}
 use Rattle.pq_rewrite.specs.Sequence.{FitInTurn, IsFollowedAt, IsInTurn}
 use Rattle.pq_rewrite.proofs.Following.{IsSideReached, both_fit, chosen_followed, followed_still, itself_followed, leaf_fits, leaf_followed, moved_more, no_side_fits, reached, reached_followed, side_fits, yes_side_fits}

@@ -1,7 +1,7 @@
 use Rattle.std.proofs.lemmas.Option.{slice_get_within}
 use Rattle.pq_store.specs.Store.{HasAt}
 use Rattle.pq_apply.proofs.Kept.{within_still}
-use Rattle.pq_store.proofs.Elements.{at_place}
+use Rattle.pq_lists.proofs.Places.{at_place}
 use Rattle.pq_rewrite.specs.Choices.{ChoosesByAt, change_needs}
 use Rattle.pq_rewrite.proofs.Changed.{choice_fits, chooses_changed, equal_condition, equal_tree, equal_within, fit_swapped, has_number}
 use Rattle.pq_rewrite.proofs.Choosing.{IsCondition, chooses_by, fit_by, fits_node}

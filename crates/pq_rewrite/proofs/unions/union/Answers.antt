@@ -1,5 +1,5 @@
 use Rattle.std.proofs.lemmas.Option.{slice_get_within}
-use Rattle.pq_store.proofs.Elements.{at_place}
+use Rattle.pq_lists.proofs.Places.{at_place}
 use Rattle.pq_rewrite.proofs.Merging.{merges_unite}
 use Rattle.pq_rewrite.proofs.unions.union.Goals as goal
 

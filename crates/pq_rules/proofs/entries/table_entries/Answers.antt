@@ -1,8 +1,8 @@
 use Rattle.std.proofs.Common.{◌∙◌, subst, sym}
 use Rattle.std.proofs.lemmas.List.{drop_all}
-use Rattle.std.proofs.lemmas.Option.{slice_get_within}
+use Rattle.std.proofs.lemmas.Option.{slice_get_within, same_Some}
 use Rattle.pq_layout.specs.Sound.{IsMatchable}
-use Rattle.pq_rules.proofs.FoundLemmas.{Completes, all_complete, none_completes, one_there, one_completes, root_at}
+use Rattle.pq_rules.proofs.FoundLemmas.{Completes, all_complete, none_completes, one_completes, root_at}
 use Rattle.pq_rules.proofs.entries.table_entries.Goals as goal
 
 pub loop-root-init : goal.loop-root-init
@@ -16,7 +16,7 @@ push_tree-requires-clause-node g c =
 pub push_tree-requires-clause-matchable : goal.push_tree-requires-clause-matchable
 push_tree-requires-clause-matchable g c = λ t is.
     let root = root_at c.args.store.now c.args.roots.now c.loop-root.root-index c.root-item.result c.requires c.loop-root-test.true c.root-item.is in
-    subst IsMatchable (one_there root.1.0 t (sym root.1.1 ∙ is)) root.1.2
+    subst IsMatchable (same_Some root.1.0 t (sym root.1.1 ∙ is)) root.1.2
 
 pub loop-root-preserved : goal.loop-root-preserved
 loop-root-preserved g c =

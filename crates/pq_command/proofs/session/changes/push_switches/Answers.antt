@@ -1,5 +1,6 @@
 use Rattle.std.proofs.Common.{ℕ, List, ◌++◌, ap, ◌∙◌}
-use Rattle.pq_flowmod.proofs.BucketSteps.{All-map_read, flat_map-map_more}
+use Rattle.pq_lists.proofs.Holding.{all_map_read}
+use Rattle.pq_flowmod.proofs.BucketSteps.{flat_map-map_more}
 use Rattle.pq_model.specs.declared.message.Message.{Message}
 use Rattle.pq_model.specs.Install.{IsLawfulList}
 use Rattle.pq_command.specs.Frames.{change_bytes}
@@ -7,7 +8,7 @@ use Rattle.pq_command.proofs.session.changes.push_switches.Goals as goal
 
 pub push_switch-requires : goal.push_switch-requires
 push_switch-requires c =
-    All-map_read c.args.changed.now (λ p. (p.0, p.1.items)) (λ (m : ℕ × List Message). IsLawfulList m.1) c.loop-change.change-index c.change-item.result c.requires c.loop-change-test.true c.change-item.is
+    all_map_read c.args.changed.now (λ p. (p.0, p.1.items)) (λ (m : ℕ × List Message). IsLawfulList m.1) c.loop-change.change-index c.change-item.result c.requires c.loop-change-test.true c.change-item.is
 
 pub loop-change-preserved : goal.loop-change-preserved
 loop-change-preserved c =

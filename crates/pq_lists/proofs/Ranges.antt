@@ -1,5 +1,5 @@
--- Numbers one after another differ.
-use Rattle.std.proofs.Common.{ℕ, zero, suc, ◌+◌, ◌<◌, ◌≡◌, false, inl, inr, arith}
+-- Numbers one after another.
+use Rattle.std.proofs.Common.{ℕ, zero, suc, ◌+◌, ◌<◌, ◌≡◌, ◌∙◌, false, [], ◌∷◌, ◌++◌, ap, inl, inr, arith}
 use Rattle.std.specs.Prelude.{nat_eq}
 use Rattle.std.specs.List.{AllByRecursion, IsDistinct, range_with_len}
 use Rattle.std.proofs.lemmas.Bool.Decides.{eqb_tells}
@@ -14,3 +14,8 @@ pub range_differs : (a n : ℕ) → IsDistinct nat_eq (range_with_len a n)
 unfolding IsDistinct
 range_differs a zero = tt
 range_differs a (suc n) = (beyond a (a + 1) n (omega arith), range_differs (a + 1) n)
+
+-- the next number stands last
+pub range_push : (a n : ℕ) → range_with_len a (suc n) ≡ range_with_len a n ++ (a + n) ∷ []
+range_push a zero = ap (λ m. m ∷ []) (omega arith)
+range_push a (suc n) = ap (λ l. a ∷ l) (range_push (a + 1) n ∙ ap (λ m. range_with_len (a + 1) n ++ m ∷ []) (omega arith))

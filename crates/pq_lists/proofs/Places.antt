@@ -1,6 +1,7 @@
 -- What stands at the places of lists.
-use Rattle.std.proofs.Common.{◌≡◌, ℕ, zero, suc, ◌<◌, List, [], ◌∷◌, ◌++◌, length, Some, inl, inr, refl, ap, arith}
+use Rattle.std.proofs.Common.{◌≡◌, ℕ, zero, suc, ◌+◌, ◌<◌, ◌∙◌, List, [], ◌∷◌, ◌++◌, Some, length, map, drop, get_or, inl, inr, refl, sym, ap, arith}
 use Rattle.std.specs.Prelude.{◌⊎◌, slice_get}
+use Rattle.std.proofs.lemmas.Option.{same_Some}
 
 module _ {X : Type 0} where
   -- elements keep their places where a list grows at its end
@@ -26,3 +27,20 @@ module _ {X : Type 0} where
   at_place [] k h = absurd (omega arith)
   at_place (a ∷ xs) zero h = (a, refl)
   at_place (a ∷ xs) (suc k) h = at_place xs k (omega arith)
+
+  -- the list from a place on
+  pub from_place : (xs : List X) (i : ℕ) (x : X) → i < length xs → x ≡ get_or xs i x → drop i xs ≡ x ∷ drop (i + 1) xs
+  from_place [] i x less is = absurd (omega (arith, less))
+  from_place (y ∷ ys) zero x less is = ap (λ z. z ∷ ys) (sym is)
+  from_place (y ∷ ys) (suc i) x less is =
+      let next : suc i + 1 ≡ suc (i + 1) = omega arith in
+      from_place ys i x (omega (arith, less)) is ∙ ap (λ k. x ∷ drop k (y ∷ ys)) (sym next)
+
+-- the image of an element stands at its place among the images
+pub image_place : {A B : Type 0} (f : A → B) (xs : List A) (k : ℕ) (x : A) → slice_get xs k ≡ Some x → slice_get (map f xs) k ≡ Some (f x)
+image_place {A} f [] k x there = absurd (none there)
+  where
+    none : slice_get {X = A} [] k ≡ Some x → ⊥
+    none e = cc
+image_place f (y ∷ ys) zero x there = ap (λ z. Some (f z)) (same_Some y x there)
+image_place f (y ∷ ys) (suc k) x there = image_place f ys k x there

@@ -1,9 +1,13 @@
 -- Lists of numbers in order: the first that differs decides.
-use Rattle.std.proofs.Common.{◌≡◌, ◌<◌, ◌⊎◌, ◌==◌, ◌&&◌, ◌||◌, ℕ, true, false, List, [], ◌∷◌, ◌++◌, length, refl, sym, ap, subst, ◌∙◌, inl, inr, arith, true≢false, lt-ltb, ltb-true, eqb-true}
+use Rattle.std.proofs.Common.{◌≡◌, ◌<◌, ◌⊎◌, ◌==◌, ◌&&◌, ◌||◌, ℕ, true, false, List, [], ◌∷◌, ◌++◌, length, refl, sym, ap, ap₂, subst, ◌∙◌, inl, inr, arith, true≢false, lt-ltb, ltb-true, eqb-true}
+use Rattle.std.specs.declared.cmp.Ordering.TheVariants.{Less, Equal, Greater}
+use Rattle.std.specs.Cmp.Lexicographic.{slice_cmp, nat_list_cmp_total}
+use Rattle.std.specs.Ordering.{nat_cmp, is_lt}
 use Rattle.std.specs.Prelude.{nat_lt}
 use Rattle.std.proofs.lemmas.Bool.{and_parts, cases_order, or_cases}
 use Rattle.std.proofs.lemmas.Bool.Decides.{nat_tests}
 use Rattle.pq_fields.specs.Packet.{is_before}
+use Rattle.pq_model.proofs.Sorted.{before-cmp}
 
 -- where one list stands before another, its first number is the smaller, or it is the same and the rest stands before the rest
 pub first_or_rest : (m n : ℕ) (xs ys : List ℕ) → is_before (m ∷ xs) (n ∷ ys) ≡ true → (m < n) ⊎ ((m ≡ n) × (is_before xs ys ≡ true))
@@ -67,4 +71,29 @@ not_by_piece xs ys us vs long first rest = elim (compared xs ys long) [
     | inl less ↦ absurd (true≢false (sym less ∙ first))
     | inr more ↦ not_back (ys ++ vs) (xs ++ us) (by_piece ys xs vs us (sym long) more)
   ]
+]
+
+-- an order that is below is Less
+less_from : (o : _) → is_lt o ≡ true → o ≡ Less
+less_from Less is = refl
+less_from Equal is = absurd (true≢false (sym is))
+less_from Greater is = absurd (true≢false (sym is))
+
+-- the order of lists is transitive
+pub before_trans : (xs ys zs : List ℕ) → is_before xs ys ≡ true → is_before ys zs ≡ true → is_before xs zs ≡ true
+before_trans xs ys zs h k =
+    let first = less_from (slice_cmp nat_cmp xs ys) (before-cmp xs ys ∙ h) in
+    let second = less_from (slice_cmp nat_cmp ys zs) (before-cmp ys zs ∙ k) in
+    sym (before-cmp xs zs) ∙ ap is_lt (nat_list_cmp_total.trans xs ys zs first second)
+
+-- lists of which neither stands before the other are one
+pub same_list : (xs ys : List ℕ) → is_before xs ys ≡ false → is_before ys xs ≡ false → xs ≡ ys
+same_list [] [] h k = refl
+same_list [] (y ∷ ys) h k = absurd (true≢false h)
+same_list (x ∷ xs) [] h k = absurd (true≢false k)
+same_list (x ∷ xs) (y ∷ ys) h k = elim (cases_order x y) [
+  | inl same ↦ ap₂ (λ z zs. z ∷ zs) same (same_list xs ys
+      (sym (same_first y xs ys) ∙ subst (λ z. is_before (z ∷ xs) (y ∷ ys) ≡ false) same h)
+      (sym (same_first y ys xs) ∙ subst (λ z. is_before (y ∷ ys) (z ∷ xs) ≡ false) same k))
+  | inr other ↦ elim other [ inl less ↦ absurd (true≢false (sym (by_first x y xs ys less) ∙ h)) | inr more ↦ absurd (true≢false (sym (by_first y x ys xs more) ∙ k)) ]
 ]

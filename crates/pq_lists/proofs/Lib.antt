@@ -1,0 +1,4 @@
+pub mod Holding
+pub mod Paired
+pub mod Places
+pub mod Ranges
