@@ -68,7 +68,7 @@ fn first_step<L: Leaf>(
     }
 }
 
-/// The choice between two nodes, made once for each three.
+/// The choice between two nodes, made once for each three. It recurs as deep as the paths of the three diagrams together.
 fn chosen<L: Leaf>(
     tests: &Store<bool>,
     cond: NodeId,

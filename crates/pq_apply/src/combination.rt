@@ -32,7 +32,7 @@ pub fn combine<L: Leaf, F: Fn(&L, &L) -> Result<L, AllocError>>(
     Ok(id)
 }
 
-/// The combination of two nodes, made once for each two.
+/// The combination of two nodes, made once for each two. It recurs as deep as the paths of both diagrams together.
 fn combined<L: Leaf, F: Fn(&L, &L) -> Result<L, AllocError>>(
     store: &mut Store<L>,
     x: NodeId,

@@ -8,7 +8,7 @@ use crate::choice::ite;
 use pq_store::{NodeId, Store};
 use std::alloc::AllocError;
 
-/// The diagram that holds where all of these do (`every`), or where one of them does.
+/// The diagram that holds where all of these do (`every`), or where one of them does. It recurs as deep as the list halves.
 pub(crate) fn junction(
     store: &mut Store<bool>,
     scratch: &mut Store<bool>,

@@ -26,6 +26,7 @@ pub fn pred_node(store: &mut Store<bool>, pred: &Pred) -> Result<NodeId, AllocEr
 }
 
 /// The diagram of a predicate. Conditions are built in the other store, since a choice reads one store and writes to another.
+/// It recurs as deep as the predicate nests, in a document at most 100.
 #[cycle(build)]
 fn build(
     store: &mut Store<bool>,

@@ -64,7 +64,7 @@ pub(crate) fn begin_with<'a, A: Leaf, B: Leaf>(
     }
 }
 
-/// The product of two nodes, made once for each two.
+/// The product of two nodes, made once for each two. It recurs as deep as the paths of both diagrams together.
 fn paired<A: Leaf, B: Leaf, C: Leaf, F: Fn(&A, &B) -> Result<C, AllocError>>(
     left: &Store<A>,
     x: NodeId,

@@ -81,7 +81,7 @@ pub fn decided(test: Test, value: u64) -> bool
     }
 }
 
-/// The restriction of a diagram, made once for each node.
+/// The restriction of a diagram, made once for each node. It recurs as deep as a path of the diagram.
 fn restricted<L: Leaf>(
     store: &mut Store<L>,
     node: NodeId,

@@ -11,6 +11,7 @@ use crate::parts::{first_number, split_part};
 use pq_expr::Expr;
 
 /// Whether the rest shows that it accepts no word. Rests of which this is false may accept none as well.
+/// It recurs as deep as the expression nests.
 #[cycle(dead)]
 pub(crate) fn is_dead(expr: &Expr, rest: &[u64]) -> bool
     ensures { result ≡ true → (w : Word) → left (expr_tree expr.now) rest.now w ≡ false }

@@ -6,7 +6,7 @@ ghost use Rattle.pq_expr.specs.Language.{holds, languages};
 
 use pq_expr::Expr;
 
-/// Whether the expression holds the empty word.
+/// Whether the expression holds the empty word. It recurs as deep as the expression nests.
 #[cycle(empties)]
 pub(crate) fn holds_empty(expr: &Expr) -> bool
     ensures { result ≡ holds (expr_tree expr.now) [] }

@@ -11,7 +11,7 @@ use crate::empties::holds_empty;
 use crate::parts::{first_number, idle, split_gap, split_part, split_set};
 use pq_expr::Expr;
 
-/// Whether the rest of the expression accepts the empty word.
+/// Whether the rest of the expression accepts the empty word. It recurs as deep as the expression nests.
 #[cycle(ends)]
 pub(crate) fn ends(expr: &Expr, rest: &[u64]) -> bool
     ensures { result ≡ left (expr_tree expr.now) rest.now [] }

@@ -12,7 +12,7 @@ use crate::parts::{one_number, push_part};
 use pq_expr::Expr;
 use std::alloc::{AllocError, Global};
 
-/// The rest that accepts the words of the expression.
+/// The rest that accepts the words of the expression. It recurs as deep as the expression nests.
 #[cycle(starts)]
 pub(crate) fn start_rest(alloc: Global, expr: &Expr) -> Result<Vec<u64>, AllocError>
     ensures left { IfOk result (λ r. (w : Word) → left (expr_tree expr.now) r.items w ≡ holds (expr_tree expr.now) w) }

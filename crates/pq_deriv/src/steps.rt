@@ -17,7 +17,7 @@ use crate::starts::start_rest;
 use pq_expr::{Expr, Side};
 use std::alloc::{AllocError, Global};
 
-/// The rest after the half step.
+/// The rest after the half step. It recurs as deep as the expression nests.
 #[cycle(steps)]
 pub(crate) fn step_rest(
     alloc: Global,

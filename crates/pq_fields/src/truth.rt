@@ -10,7 +10,7 @@ use crate::pred::Pred;
 use crate::presence::has;
 use crate::widths::width;
 
-/// Whether the predicate holds of the packet.
+/// Whether the predicate holds of the packet. It recurs as deep as the predicate nests, in a document at most 100.
 #[cycle(holds)]
 pub fn holds(pred: &Pred, x: &Packet) -> bool
     ensures { result ≡ holds (pred_tree pred.now) x.now }

@@ -62,7 +62,7 @@ pub fn forward<L: Ledger>(
     Ok(id)
 }
 
-/// The diagram of a policy.
+/// The diagram of a policy. It recurs as deep as the policy nests, and its lists halve on the way.
 #[cycle(built)]
 fn built<L: Ledger>(
     tests: &mut Store<bool>,
@@ -97,7 +97,7 @@ fn built<L: Ledger>(
 }
 
 /// The diagram of policies one after another (`in_turn`), or of any of them. They are joined by halves, so that each is met a
-/// few times only.
+/// few times only. It recurs as deep as the policy nests, and its lists halve on the way.
 #[cycle(built)]
 fn joined<L: Ledger>(
     tests: &mut Store<bool>,

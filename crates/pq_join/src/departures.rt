@@ -29,7 +29,7 @@ use pq_store::{NodeId, Store, View};
 use std::alloc::{AllocError, Global};
 
 /// The diagram of the departures of packets: those writes of a policy's diagram that take a packet to a port of the switch,
-/// with what is seen of the packet written. Made once for each node.
+/// with what is seen of the packet written. Made once for each node. It recurs as deep as a path of the diagram.
 pub(crate) fn departures(
     seen: &mut Store<Seen>,
     root: NodeId,
@@ -71,7 +71,7 @@ pub(crate) fn departures(
     }
 }
 
-/// The diagram of the departures by any of these writes, in their order.
+/// The diagram of the departures by any of these writes, in their order. It recurs as deep as the list halves.
 fn departures_of_each(
     seen: &mut Store<Seen>,
     root: NodeId,

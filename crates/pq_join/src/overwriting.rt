@@ -50,6 +50,7 @@ pub(crate) fn overwritten<L: Leaf>(
 }
 
 /// The diagram that gives on each packet what another gives on the packet with the numbers of these fields written.
+/// It recurs once for each field, of which there are at most nine.
 fn with_headers<L: Leaf>(
     store: &mut Store<L>,
     node: NodeId,

@@ -39,7 +39,7 @@ pub fn partition(store: &mut Store<bool>, preds: &[NodeId]) -> Result<Letters, A
 }
 
 /// The diagram that says of each packet which of the predicates hold. They are joined by halves, so that each is met a few
-/// times only.
+/// times only. It recurs as deep as the list of predicates halves.
 fn signed_node(
     store: &Store<bool>,
     preds: &[NodeId],

@@ -19,7 +19,7 @@ use pq_query::Query;
 use std::alloc::{AllocError, Global};
 
 /// The expression of a query under the label from a place on; its predicates are added to those from `base` on, the first of
-/// which holds of every packet.
+/// which holds of every packet. It recurs as deep as the query nests, in a document at most 100.
 #[cycle(queries)]
 pub(crate) fn lower_query(
     alloc: Global,

@@ -6,6 +6,7 @@ use pq_fields::Pred;
 use std::alloc::{AllocError, Global};
 
 /// An equal predicate; it fails only where there is no memory for it.
+/// It recurs as deep as the predicate nests, in a document at most 100.
 #[cycle(copy)]
 pub(crate) fn copy_of(alloc: Global, pred: &Pred) -> Result<Pred, AllocError>
     ensures { IfOk result (λ p. pred_tree p ≡ pred_tree pred.now) }

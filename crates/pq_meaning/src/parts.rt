@@ -18,7 +18,7 @@ use std::sync::ledger::Ledger;
 ///
 /// The parts are lawful, and there is room for the numbers that they and the topology state, and those in prerequisites. The
 /// diagram tests and writes no others. It takes the steps of the parts, and one less than there are parts for their union.
-/// Conditions are built in `tests`.
+/// Conditions are built in `tests`. It recurs as deep as the list halves.
 pub fn parts_forward<L: Ledger>(
     tests: &mut Store<bool>,
     store: &mut Store<WriteSet>,

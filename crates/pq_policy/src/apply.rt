@@ -40,7 +40,7 @@ pub fn apply_plain(
     listed(alloc, given)
 }
 
-/// Adds what the policy gives on the packet.
+/// Adds what the policy gives on the packet. It recurs as deep as the policy nests, in a document at most 100.
 #[cycle(apply)]
 fn add(
     alloc: Global,

@@ -15,6 +15,7 @@ use pq_tree::{Term, class_in_text, text_in};
 use std::alloc::Global;
 
 /// The predicate that the tree of a predicate stands for; the first faulty token where there is one.
+/// It recurs as deep as the text nests, at most 100.
 #[cycle(resolve)]
 pub fn resolve_pred(
     alloc: Global,

@@ -39,6 +39,7 @@ pub(crate) fn count_labels(query: &Query, sizes: Sizes) -> u32
 }
 
 /// So many labels, each with each value of the groups of the query.
+/// It recurs as deep as the query nests, in a document at most 100.
 #[cycle(counted)]
 fn times_query(query: &Query, sizes: Sizes, count: u32) -> u32
     ensures { result ≡ on_query (times sizes) (query_tree query.now) count }

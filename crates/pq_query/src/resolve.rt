@@ -15,6 +15,7 @@ use pq_tree::{Term, class_in_text};
 use std::alloc::Global;
 
 /// The query that the tree of a query stands for; the first faulty token where there is one.
+/// It recurs as deep as the text nests, at most 100.
 #[cycle(resolve)]
 pub fn resolve_query(
     alloc: Global,

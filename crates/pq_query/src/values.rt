@@ -120,7 +120,7 @@ pub(crate) fn value_lists(
     Ok(lists)
 }
 
-/// Appends the values of the groups of the query.
+/// Appends the values of the groups of the query. It recurs as deep as the query nests, in a document at most 100.
 #[cycle(listed)]
 fn push_query(
     alloc: Global,

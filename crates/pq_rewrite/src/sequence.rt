@@ -65,7 +65,7 @@ pub fn then<L: Ledger>(
     Ok(id)
 }
 
-/// The diagram of a node and then the second, made once for each node.
+/// The diagram of a node and then the second, made once for each node. It recurs as deep as a path of the diagram.
 fn sequenced(
     store: &mut Store<WriteSet>,
     tests: &mut Store<bool>,
@@ -105,6 +105,7 @@ fn sequenced(
 }
 
 /// The diagram that gives what the node gives of the packet written by any of these, where each changes the packet.
+/// It recurs as deep as the list halves.
 fn followed_by_each(
     store: &mut Store<WriteSet>,
     tests: &mut Store<bool>,
@@ -139,6 +140,7 @@ fn followed_by_each(
 }
 
 /// The diagram that gives what the node gives of the packet written, where that changes it; made once for each writes and node.
+/// It recurs as deep as a path of the diagram.
 fn followed(
     store: &mut Store<WriteSet>,
     tests: &mut Store<bool>,
@@ -182,6 +184,7 @@ fn followed(
 }
 
 /// The diagram that gives the packet written by the first and then by any of the others, where each changes it.
+/// It recurs as deep as the list halves.
 fn written_in_turn(
     store: &mut Store<WriteSet>,
     tests: &mut Store<bool>,

@@ -59,6 +59,7 @@ fn settled(
 }
 
 /// The diagram that gives each packet with these of the fields written, and with what is to be written besides.
+/// It recurs once for each field, of which there are at most nine.
 pub(crate) fn settled_from(
     store: &mut Store<WriteSet>,
     tests: &mut Store<bool>,

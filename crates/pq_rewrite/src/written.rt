@@ -95,7 +95,7 @@ fn passing(tests: &mut Store<bool>, test: Test) -> Result<NodeId, AllocError>
     Ok(id)
 }
 
-/// The diagram on packets that are written first, made once for each node.
+/// The diagram on packets that are written first, made once for each node. It recurs as deep as a path of the diagram.
 fn told<M: Leaf + Clone>(
     by: &Writes,
     from: &Store<M>,

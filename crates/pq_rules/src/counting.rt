@@ -26,7 +26,7 @@ pub(crate) fn count_entries<L: Leaf>(
     Ok(count)
 }
 
-/// The number of leaves on all paths of a tree, counted once for each node.
+/// The number of leaves on all paths of a tree, counted once for each node. It recurs as deep as a path of the tree.
 fn count_below<L: Leaf>(
     store: &Store<L>,
     node: NodeId,

@@ -53,7 +53,7 @@ impl<L: Leaf> Store<L> {
     /// Finds the leaves under the node, where the packet is the first that reaches it and all before it is found.
     ///
     /// Packets are met in ascending order, so the first visit of a leaf finds its least packet. A node is seen where all
-    /// leaves under it are found: it isn't entered again.
+    /// leaves under it are found: it isn't entered again. It recurs as deep as a path of the diagram.
     #[cycle(search)]
     fn visit(
         &self,

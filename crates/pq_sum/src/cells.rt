@@ -13,6 +13,7 @@ use std::sync::ledger::Ledger;
 /// Puts a leaf into a slot, and makes the unions above it anew.
 ///
 /// Where the parts are at most 2^k, before and after it, it takes at most k steps.
+/// It recurs as deep as the tree, which is balanced.
 #[cycle(setting)]
 pub(crate) fn set<L: Ledger>(
     store: &mut Store<WriteSet>,
@@ -64,7 +65,7 @@ fn set_half<L: Ledger>(
     }
 }
 
-/// Puts these leaves into the first slots of an empty tree.
+/// Puts these leaves into the first slots of an empty tree. It recurs as deep as the tree, which is balanced.
 pub(crate) fn fill<L: Ledger>(
     store: &mut Store<WriteSet>,
     cells: &mut [NodeId],
@@ -93,7 +94,7 @@ pub(crate) fn fill<L: Ledger>(
     Ok(())
 }
 
-/// The leaf in a slot in which there is a part.
+/// The leaf in a slot in which there is a part. It recurs as deep as the tree, which is balanced.
 pub(crate) fn leaf_at(cells: &[NodeId], slot: usize) -> NodeId
     requires { HasLeaf cells.now slot }
     ensures { IsLeaf cells.now slot result }

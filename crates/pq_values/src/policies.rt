@@ -13,6 +13,7 @@ use pq_term::Name;
 use std::alloc::AllocError;
 
 /// Adds the numbers that the policy tests and writes, and the ports that it sends to.
+/// It recurs as deep as the policy nests, in a document at most 100.
 #[cycle(policy)]
 fn put_policy(policy: &Policy, known: &mut IndexSet<(Field, u64)>) -> Result<(), AllocError>
     ensures { OnOk result (known.new.keys ≡ with_policy (policy_tree policy.now) known.old.keys) }

@@ -8,7 +8,7 @@ use indexmap::IndexSet;
 use pq_fields::{Field, Pred};
 use std::alloc::AllocError;
 
-/// Adds the numbers of the tests of the predicate.
+/// Adds the numbers of the tests of the predicate. It recurs as deep as the predicate nests, in a document at most 100.
 #[cycle(pred)]
 pub(crate) fn put_pred(pred: &Pred, known: &mut IndexSet<(Field, u64)>) -> Result<(), AllocError>
     ensures { OnOk result (known.new.keys ≡ with_pred (pred_tree pred.now) known.old.keys) }

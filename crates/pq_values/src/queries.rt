@@ -60,6 +60,7 @@ fn put_sides(
 }
 
 /// Adds the numbers that the query tests, and the values that it groups by.
+/// It recurs as deep as the query nests, in a document at most 100.
 #[cycle(query)]
 fn put_query(query: &Query, known: &mut IndexSet<(Field, u64)>) -> Result<(), AllocError>
     ensures { OnOk result (known.new.keys ≡ with_query (query_tree query.now) known.old.keys) }
