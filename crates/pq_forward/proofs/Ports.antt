@@ -9,14 +9,14 @@ use Rattle.std.proofs.lemmas.Bool.{ne_eqb, or_parts}
 use Rattle.std.proofs.lemmas.Bool.Decides.{eqb_tells}
 use Rattle.std.proofs.lemmas.List.{drop_all}
 use Rattle.std.proofs.lemmas.List.Elements.{All-cons, All-head, All-nil, All-tail}
-use Rattle.std.proofs.lemmas.List.Kept.{AllPairs-cons, Any-cons}
+use Rattle.std.proofs.lemmas.List.Kept.{AllPairs-cons, any_later}
 use Rattle.pq_fields.specs.Order.{writes_cmp}
 use Rattle.pq_fields.specs.Writes.{Written}
 use Rattle.pq_model.specs.Lawful.{Ascends}
 use Rattle.pq_model.specs.MatchFields.{IsPortNumber}
 use Rattle.pq_topo.proofs.Ascending.{rest_ascends}
 use Rattle.pq_rewrite.specs.Rewriting.{Ascend}
-use Rattle.pq_rewrite.proofs.Sets.{any_cases, any_first, any_none}
+use Rattle.pq_rewrite.proofs.Sets.{any_cases, any_first, any_none, any_later}
 use Rattle.pq_forward.specs.Flood.{at_others, at_port}
 
 -- Ascending lists.
@@ -99,10 +99,10 @@ others_of n ps all = by (has ps n) refl
 pub any_of_others : (P : Written → Type 0) (own : ℕ) (ps : List ℕ) → Any P (at_others own ps) → Any (λ p. (p ≢ own) × P (at_port p)) ps
 any_of_others P own [] any = absurd (any_none P any)
 any_of_others P own (p ∷ ps) any = elim (eqb_tells p own) [
-  | inl same ↦ Any-cons (λ q. (q ≢ own) × P (at_port q)) p ps (any_of_others P own ps (subst (Any P) (without same.0) any))
+  | inl same ↦ any_later (λ q. (q ≢ own) × P (at_port q)) p ps (any_of_others P own ps (subst (Any P) (without same.0) any))
   | inr other ↦ elim (any_cases P (at_port p) (at_others own ps) (subst (Any P) (with other.0) any)) [
     | inl here ↦ any_first (λ q. (q ≢ own) × P (at_port q)) p ps (other.1, here)
-    | inr later ↦ Any-cons (λ q. (q ≢ own) × P (at_port q)) p ps (any_of_others P own ps later)
+    | inr later ↦ any_later (λ q. (q ≢ own) × P (at_port q)) p ps (any_of_others P own ps later)
   ]
 ]
   where
@@ -122,7 +122,7 @@ others_of_any P own (p ∷ ps) any = elim (any_cases (λ q. (q ≢ own) × P (at
   where
     by : (b : Bool) → Any P (at_others own ps) → Any P (if b then at_others own ps else at_port p ∷ at_others own ps)
     by true more = more
-    by false more = Any-cons P (at_port p) (at_others own ps) more
+    by false more = any_later P (at_port p) (at_others own ps) more
 
 -- what holds of the writes of each port but one holds of all of these
 pub all_others : (P : Written → Type 0) (own : ℕ) (ps : List ℕ) → All (λ p. p ≢ own → P (at_port p)) ps → All P (at_others own ps)

@@ -7,7 +7,6 @@ use Rattle.std.proofs.lemmas.Bool.Decides.{eqb_tells}
 use Rattle.std.proofs.lemmas.List.{length-append}
 use Rattle.std.proofs.lemmas.List.Elements.{All-head, All-weaker}
 use Rattle.std.proofs.lemmas.Option.{slice_get_within}
-use Rattle.std.proofs.lemmas.List.Kept.{Any-cons}
 use Rattle.pq_lists.proofs.Holding.{all_back}
 use Rattle.pq_fields.specs.declared.field.Field.{Field}
 use Rattle.pq_fields.specs.declared.field.Field.TheVariants.{Port}
@@ -28,7 +27,7 @@ use Rattle.pq_apply.proofs.Kept.{sides_join}
 use Rattle.pq_apply.proofs.Choices.{one_of_same}
 use Rattle.pq_rewrite.specs.Rewriting.{ChangesAll, IsGiven, IsToWrite, IsWrittenBy}
 use Rattle.pq_rewrite.proofs.Single.{alone}
-use Rattle.pq_rewrite.proofs.Sets.{any_first, any_none}
+use Rattle.pq_rewrite.proofs.Sets.{any_first, any_none, any_later}
 use Rattle.pq_forward.specs.Flood.{AreFewPorts, IsSpread, at_others, at_port}
 use Rattle.pq_store.proofs.JoinedTrees.{join_ascends, join_first, join_lawful, join_tests, join_value}
 use Rattle.pq_forward.proofs.FewNumbers.{numbers_few, numbers_of}
@@ -70,7 +69,7 @@ module _ (p : ℕ) (met ps : List ℕ) (n : Tree (List Written)) (up : Rises (p 
   fork_tests : (s : Test) → IsTested s (Fork (Equal Port p) (Tip (at_others p ps)) n) → Any (λ q. s ≡ Equal Port q) (p ∷ met)
   fork_tests s (inl is) = any_first (λ q. s ≡ Equal Port q) p met is
   fork_tests s (inr (inl none)) = absurd none
-  fork_tests s (inr (inr tested)) = Any-cons (λ q. s ≡ Equal Port q) p met (spread.tests s tested)
+  fork_tests s (inr (inr tested)) = any_later (λ q. s ≡ Equal Port q) p met (spread.tests s tested)
 
   -- it may stand before them
   spread_joins : IsPortNumber p → length (p ∷ met) ≤ 4096 → IsJoinable (Equal Port p) (Tip (at_others p ps)) n

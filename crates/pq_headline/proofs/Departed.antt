@@ -3,7 +3,6 @@ use Rattle.std.proofs.Common.{◌≡◌, ◌∙◌, zero, suc, ℕ, true, List, 
 use Rattle.std.specs.List.{AllByRecursion, AllPairs, Any, Contains}
 use Rattle.std.specs.declared.cmp.Ordering.TheVariants.{Less}
 use Rattle.std.proofs.lemmas.Bool.{true≢false}
-use Rattle.std.proofs.lemmas.List.Kept.{Any-cons}
 use Rattle.pq_fields.specs.contracts.writes.WritesOrd.TheImpl as writes_order
 use Rattle.pq_fields.specs.Order.{writes_cmp}
 use Rattle.pq_fields.specs.Packet.{Numbers, is_before, numbers}
@@ -12,7 +11,7 @@ use Rattle.pq_model.specs.Install.{AscendsBy}
 use Rattle.pq_model.specs.Orders.{IsReordering}
 use Rattle.pq_rewrite.specs.Rewriting.{IsGiven}
 use Rattle.pq_rewrite.proofs.Diffs.{same_changes}
-use Rattle.pq_rewrite.proofs.Sets.{any_cases, any_first, any_none, never_before}
+use Rattle.pq_rewrite.proofs.Sets.{any_cases, any_first, any_none, never_before, any_later}
 use Rattle.pq_headline.proofs.Keys.{before_itself, first_ahead, rest_ascends}
 use Rattle.pq_headline.proofs.Members.{StandsIn, AreApart, among_from_contains, contains_from_among, same_members}
 
@@ -20,7 +19,7 @@ module _ {A B : Type 0} (f : A → B) where
   among_mapped : (z : B) (xs : List A) → StandsIn z (map f xs) → Any (λ x. z ≡ f x) xs
   among_mapped z [] there = absurd there
   among_mapped z (x ∷ xs) (inl is) = any_first (λ x. z ≡ f x) x xs is
-  among_mapped z (x ∷ xs) (inr there) = Any-cons (λ x. z ≡ f x) x xs (among_mapped z xs there)
+  among_mapped z (x ∷ xs) (inr there) = any_later (λ x. z ≡ f x) x xs (among_mapped z xs there)
 
   mapped_among : (z : B) (xs : List A) → Any (λ x. z ≡ f x) xs → StandsIn z (map f xs)
   mapped_among z [] some = absurd (any_none (λ x. z ≡ f x) some)

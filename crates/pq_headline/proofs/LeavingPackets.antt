@@ -5,7 +5,7 @@ use Rattle.std.specs.List.{All, AllByRecursion, Any, Contains}
 use Rattle.std.specs.declared.cmp.Ordering.TheVariants.{Less}
 use Rattle.std.proofs.lemmas.Bool.{true≢false}
 use Rattle.std.proofs.lemmas.List.Elements.{All-filter, Contains-get_or, recursion_from_All}
-use Rattle.std.proofs.lemmas.List.Kept.{AllPairs-filter, Any-cons}
+use Rattle.std.proofs.lemmas.List.Kept.{AllPairs-filter, any_later}
 use Rattle.pq_fields.specs.Order.{writes_cmp}
 use Rattle.pq_fields.specs.Packet.{Numbers, Fit}
 use Rattle.pq_fields.specs.Writes.{Written, AllFit, on}
@@ -13,7 +13,7 @@ use Rattle.pq_model.specs.Meaning.{Meaning}
 use Rattle.pq_model.specs.Topology.{Topology, is_port}
 use Rattle.pq_rewrite.specs.Rewriting.{ChangesAll, IsGiven, IsWrittenBy}
 use Rattle.pq_rewrite.proofs.InSequence.{on_fits}
-use Rattle.pq_rewrite.proofs.Sets.{any_cases, any_first, any_none}
+use Rattle.pq_rewrite.proofs.Sets.{any_cases, any_first, any_none, any_later}
 use Rattle.pq_layout.specs.Leaves.{AreDepartures, Departures, departing, departs_by}
 use Rattle.pq_headline.specs.LaidOut.{DepartsAtPorts, DepartsInOrder}
 
@@ -49,9 +49,9 @@ module _ {A : Type 0} (p : A → Bool) (P : A → Type 0) where
       by : (b : Bool) → p x ≡ b → Any P (cond b (x ∷ filter p xs) (filter p xs)) → (Any P (filter p xs) → Any (λ z. P z × (p z ≡ true)) xs) → Any (λ z. P z × (p z ≡ true)) (x ∷ xs)
       by true e some more = elim (any_cases P x (filter p xs) some) [
         | inl here ↦ any_first (λ z. P z × (p z ≡ true)) x xs (here, e)
-        | inr later ↦ Any-cons (λ z. P z × (p z ≡ true)) x xs (more later)
+        | inr later ↦ any_later (λ z. P z × (p z ≡ true)) x xs (more later)
       ]
-      by false e some more = Any-cons (λ z. P z × (p z ≡ true)) x xs (more some)
+      by false e some more = any_later (λ z. P z × (p z ≡ true)) x xs (more some)
 
   passes_any : (xs : List A) → Any (λ x. P x × (p x ≡ true)) xs → Any P (filter p xs)
   passes_any [] some = absurd (any_none (λ x. P x × (p x ≡ true)) some)
@@ -59,7 +59,7 @@ module _ {A : Type 0} (p : A → Bool) (P : A → Type 0) where
     where
       by : (b : Bool) → p x ≡ b → (P x × (p x ≡ true)) ⊎ Any (λ z. P z × (p z ≡ true)) xs → (Any (λ z. P z × (p z ≡ true)) xs → Any P (filter p xs)) → Any P (cond b (x ∷ filter p xs) (filter p xs))
       by true e (inl here) more = any_first P x (filter p xs) here.0
-      by true e (inr later) more = Any-cons P x (filter p xs) (more later)
+      by true e (inr later) more = any_later P x (filter p xs) (more later)
       by false e (inl here) more = absurd (true≢false (sym here.1 ∙ e))
       by false e (inr later) more = more later
 

@@ -6,7 +6,6 @@ use Rattle.std.proofs.lemmas.Bool.{eq-eqb, ne_eqb}
 use Rattle.std.proofs.lemmas.Bool.Decides.{eqb_tells}
 use Rattle.std.proofs.lemmas.List.Elements.{All-get_or, All-head}
 use Rattle.std.proofs.lemmas.Option.{slice_get_within}
-use Rattle.std.proofs.lemmas.List.Kept.{Any-cons}
 use Rattle.pq_lists.proofs.Holding.{all_back}
 use Rattle.pq_fields.specs.declared.field.Field.{Field}
 use Rattle.pq_fields.specs.declared.field.Field.TheVariants.{Port}
@@ -24,7 +23,7 @@ use Rattle.pq_store.specs.Room.{HasRoom, IsAmong, IsTestWithin, Within}
 use Rattle.pq_topo.proofs.Ascending.{rest_ascends}
 use Rattle.pq_apply.proofs.Few.{few_fit}
 use Rattle.pq_apply.proofs.Kept.{sides_join}
-use Rattle.pq_rewrite.proofs.Sets.{any_first}
+use Rattle.pq_rewrite.proofs.Sets.{any_first, any_later}
 use Rattle.pq_join.specs.declared.ports.PortKind.{PortKind}
 use Rattle.pq_join.specs.declared.ports.PortKind.TheVariants.{Missing}
 use Rattle.pq_join.specs.Ports.{IsPortTree, own_kind}
@@ -77,7 +76,7 @@ module _ (kind : ℕ → PortKind) (p : ℕ) (met : List ℕ) (n : Tree PortKind
   fork_tests : (s : Test) → IsTested s (Fork (Equal Port p) (Tip (kind p)) n) → Any (λ q. s ≡ Equal Port q) (p ∷ met)
   fork_tests s (inl is) = any_first (λ q. s ≡ Equal Port q) p met is
   fork_tests s (inr (inl none)) = absurd none
-  fork_tests s (inr (inr tested)) = Any-cons (λ q. s ≡ Equal Port q) p met (over.tests s tested)
+  fork_tests s (inr (inr tested)) = any_later (λ q. s ≡ Equal Port q) p met (over.tests s tested)
 
   -- it may stand before them
   over_joins : IsPortNumber p → HasRoom (λ ns. All (λ q. IsAmong q (ns Port)) (p ∷ met)) → IsJoinable (Equal Port p) (Tip (kind p)) n

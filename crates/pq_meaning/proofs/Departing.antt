@@ -5,14 +5,14 @@ use Rattle.std.specs.List.{Any, filter}
 use Rattle.std.specs.declared.cmp.Ordering.TheVariants.{Less}
 use Rattle.std.proofs.lemmas.Bool.{true≢false}
 use Rattle.std.proofs.lemmas.List.Elements.{All-filter}
-use Rattle.std.proofs.lemmas.List.Kept.{AllPairs-filter, Any-cons}
+use Rattle.std.proofs.lemmas.List.Kept.{AllPairs-filter, any_later}
 use Rattle.pq_fields.specs.Order.{writes_cmp}
 use Rattle.pq_fields.specs.Packet.{Numbers}
 use Rattle.pq_fields.specs.Writes.{Written, AllFit, on}
 use Rattle.pq_model.specs.Topology.{Topology, is_port}
 use Rattle.pq_policy.specs.Policy.{PolicyTree}
 use Rattle.pq_rewrite.specs.Rewriting.{ChangesAll, IsGiven, IsWrittenBy}
-use Rattle.pq_rewrite.proofs.Sets.{any_cases, any_first, any_none}
+use Rattle.pq_rewrite.proofs.Sets.{any_cases, any_first, any_none, any_later}
 use Rattle.pq_store.specs.Tree.{Tree, value}
 use Rattle.pq_layout.specs.Leaves.{AreDepartures, departing, departs_by}
 use Rattle.pq_meaning.specs.Meaning.{departs}
@@ -28,8 +28,8 @@ module _ {A : Type 0} (p : A → Bool) (P : A → Type 0) where
   any_passes (x ∷ xs) some = by (p x) refl some (any_passes xs)
     where
       by : (b : Bool) → p x ≡ b → Any P (cond b (x ∷ filter p xs) (filter p xs)) → (Any P (filter p xs) → Any Passes xs) → Any Passes (x ∷ xs)
-      by true e some more = elim (any_cases P x (filter p xs) some) [ inl here ↦ any_first Passes x xs (here, e) | inr later ↦ Any-cons Passes x xs (more later) ]
-      by false e some more = Any-cons Passes x xs (more some)
+      by true e some more = elim (any_cases P x (filter p xs) some) [ inl here ↦ any_first Passes x xs (here, e) | inr later ↦ any_later Passes x xs (more later) ]
+      by false e some more = any_later Passes x xs (more some)
 
   passes_any : (xs : List A) → Any Passes xs → Any P (filter p xs)
   passes_any [] some = absurd (any_none Passes some)
@@ -37,7 +37,7 @@ module _ {A : Type 0} (p : A → Bool) (P : A → Type 0) where
     where
       by : (b : Bool) → p x ≡ b → Passes x ⊎ Any Passes xs → (Any Passes xs → Any P (filter p xs)) → Any P (cond b (x ∷ filter p xs) (filter p xs))
       by true e (inl here) more = any_first P x (filter p xs) here.0
-      by true e (inr later) more = Any-cons P x (filter p xs) (more later)
+      by true e (inr later) more = any_later P x (filter p xs) (more later)
       by false e (inl here) more = absurd (true≢false (sym here.1 ∙ e))
       by false e (inr later) more = more later
 

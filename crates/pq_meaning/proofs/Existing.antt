@@ -7,7 +7,6 @@ use Rattle.std.proofs.lemmas.Bool.Decides.{nat_tests}
 use Rattle.std.proofs.lemmas.List.Elements.{All-from_recursion}
 use Rattle.std.proofs.lemmas.List.Folds.{Any-from_list_any, list_any-from_Any}
 use Rattle.std.proofs.lemmas.Slice.Eq.{bytes_eq-Decides}
-use Rattle.std.proofs.lemmas.List.Kept.{Any-cons}
 use Rattle.pq_fields.specs.Packet.{Numbers, is_before, numbers}
 use Rattle.pq_fields.specs.Writes.{Written, on}
 use Rattle.pq_model.specs.Buckets.{Instance}
@@ -22,7 +21,7 @@ use Rattle.pq_query.specs.Instances.{instances_of}
 use Rattle.pq_query.specs.Language.{lang}
 use Rattle.pq_query.specs.Query.{QueryTree}
 use Rattle.pq_rewrite.specs.Rewriting.{IsGiven, IsWrittenBy}
-use Rattle.pq_rewrite.proofs.Sets.{any_cases, any_first, any_none}
+use Rattle.pq_rewrite.proofs.Sets.{any_cases, any_first, any_none, any_later}
 use Rattle.pq_layout.specs.Leaves.{Departures}
 use Rattle.pq_layout.specs.Tagging.{Tagging, tag_of}
 use Rattle.pq_headline.proofs.Keys.{first_ahead, numbers_tell, rest_ascends}
@@ -94,7 +93,7 @@ in_given : (x z : Numbers) (ws : List Written) → StandsIn z (given_in_order x 
 in_given x z [] never = absurd never
 in_given x z (w ∷ ws) there = elim (in_put (on w x) z (given_in_order x ws) there) [
   | inl is ↦ any_first (λ v. z ≡ on v x) w ws is
-  | inr later ↦ Any-cons (λ v. z ≡ on v x) w ws (in_given x z ws later)
+  | inr later ↦ any_later (λ v. z ≡ on v x) w ws (in_given x z ws later)
 ]
 
 given_in : (x z : Numbers) (ws : List Written) → IsWrittenBy x ws z → StandsIn z (given_in_order x ws)

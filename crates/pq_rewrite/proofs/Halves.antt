@@ -4,8 +4,7 @@ use Rattle.std.specs.Prelude.{◌⊎◌, ◌↔◌}
 use Rattle.std.specs.List.{All, Any}
 use Rattle.std.proofs.lemmas.List.{take-append-drop}
 use Rattle.std.proofs.lemmas.List.Elements.{All-cons, All-head, All-nil, All-tail}
-use Rattle.std.proofs.lemmas.List.Kept.{Any-cons}
-use Rattle.pq_rewrite.proofs.Sets.{any_cases, any_first, any_none}
+use Rattle.pq_rewrite.proofs.Sets.{any_cases, any_first, any_none, any_later}
 
 module _ {X : Type 0} where
   -- a list of none
@@ -41,15 +40,15 @@ module _ {X : Type 0} where
         into [] (inr any) = any
         into (z ∷ zs) (inl any) = elim (any_cases P z zs any) [
           | inl p ↦ any_first P z (zs ++ ys) p
-          | inr later ↦ Any-cons P z (zs ++ ys) (into zs (inl later))
+          | inr later ↦ any_later P z (zs ++ ys) (into zs (inl later))
         ]
-        into (z ∷ zs) (inr any) = Any-cons P z (zs ++ ys) (into zs (inr any))
+        into (z ∷ zs) (inr any) = any_later P z (zs ++ ys) (into zs (inr any))
 
         back : (zs : List X) → Any P (zs ++ ys) → Any P zs ⊎ Any P ys
         back [] any = inr any
         back (z ∷ zs) any = elim (any_cases P z (zs ++ ys) any) [
           | inl p ↦ inl (any_first P z zs p)
-          | inr later ↦ elim (back zs later) [ inl here ↦ inl (Any-cons P z zs here) | inr there ↦ inr there ]
+          | inr later ↦ elim (back zs later) [ inl here ↦ inl (any_later P z zs here) | inr there ↦ inr there ]
         ]
 
     -- what holds of the one of a list of one holds of one

@@ -7,7 +7,6 @@ use Rattle.std.specs.Ordering.{ordering_reverse}
 use Rattle.std.specs.declared.cmp.Ordering.{Ordering}
 use Rattle.std.specs.declared.cmp.Ordering.TheVariants.{Less, Equal, Greater}
 use Rattle.std.proofs.lemmas.List.Elements.{All-cons, All-nil}
-use Rattle.std.proofs.lemmas.List.Kept.{Any-cons}
 use Rattle.pq_fields.specs.contracts.writes.WritesOrd.TheImpl as order
 use Rattle.pq_fields.specs.Order.{writes_cmp}
 use Rattle.pq_fields.specs.Packet.{Numbers}
@@ -24,6 +23,10 @@ module _ {X : Type 0} where
   -- the first is one of some
   pub any_first : (P : X → Type 0) (x : X) (xs : List X) → P x → Any P (x ∷ xs)
   any_first P x xs p = (zero, x, omega arith, refl, p)
+
+  -- and so is one of those after it
+  pub any_later : (P : X → Type 0) (x : X) (xs : List X) → Any P xs → Any P (x ∷ xs)
+  any_later P x xs (k, y, within, at, p) = (suc k, y, omega arith, at, p)
 
   -- none is one of none
   pub any_none : (P : X → Type 0) → Any P [] → ⊥
@@ -44,7 +47,7 @@ module _ {X : Type 0} where
 
     -- what stands behind the first of one list, and in another with the same first, stands behind it there
     behind : (x : X) (xs : List X) (y : X) (ys : List X) → AllPairs R (x ∷ xs) → x ≡ y → ((z : X) → IsIn z (x ∷ xs) → IsIn z (y ∷ ys)) → (z : X) → IsIn z xs → IsIn z ys
-    behind x xs y ys pairs same into z there = elim (any_cases (λ w. z ≡ w) y ys (into z (Any-cons (λ w. z ≡ w) x xs there))) [
+    behind x xs y ys pairs same into z there = elim (any_cases (λ w. z ≡ w) y ys (into z (any_later (λ w. z ≡ w) x xs there))) [
       | inl first ↦ absurd (never x (subst (R x) (first ∙ sym same) (first_before x xs z pairs there)))
       | inr later ↦ later
     ]
