@@ -9,7 +9,9 @@ regroup : (all count : ℕ) (q : QueryTree) (qs : List QueryTree) → all ≤ co
 regroup all count q qs h = omega (arith, h)
 
 -- the atoms of the first of the queries that are left are counted
-pub one_counted : (all count more i : ℕ) (qs : List Query) (q : Query) → i < length qs → q ≡ get_or qs i q → all ≤ count + atoms (queries (map query_tree (drop i qs))) → query_atoms (query_tree q) ≤ more → all ≤ (count + more) + atoms (queries (map query_tree (drop (i + 1) qs)))
+pub one_counted : (all count more i : ℕ) (qs : List Query) (q : Query) → i < length qs → q ≡ get_or qs i q
+    → all ≤ count + atoms (queries (map query_tree (drop i qs))) → query_atoms (query_tree q) ≤ more
+    → all ≤ (count + more) + atoms (queries (map query_tree (drop (i + 1) qs)))
 one_counted all count more i qs q there is so_far fits =
     let next : suc i ≡ i + 1 = omega arith in
     let first : drop i qs ≡ q ∷ drop (i + 1) qs =

@@ -32,7 +32,13 @@ few_numbers Networks count testable f whole = few_prerequisites f whole
 -- the number at a place is one of them
 pub number_among : (tested : Field) (count place : ℕ) → place < count → IsAmong (place + 1) (numbers_of (Numbers tested) count tested)
 number_among tested count place within = elim (eqb_tells (rank tested) (rank tested)) [
-  | inl same ↦ rw same.0 (place, place + 1, omega (arith, length-range_with_len 1 count), omega (arith, get_or-range_with_len 1 count place (place + 1) within), refl)
+  | inl same ↦ rw same.0 (
+    place,
+    place + 1,
+    omega (arith, length-range_with_len 1 count),
+    omega (arith, get_or-range_with_len 1 count place (place + 1) within),
+    refl,
+  )
   | inr other ↦ absurd (other.1 refl)
 ]
 

@@ -14,7 +14,8 @@ use Rattle.diagram_sizes.specs.Disjunctions.{NameOnly, NamesOnly, IsTestable, nu
 use Rattle.diagram_sizes.proofs.Numbers.{number_among, needs_none}
 
 -- the test of a number is lawful and names that number
-pub number_operand : (f : Field) (count place : ℕ) → IsTestable (Numbers f) count → place < count → NamesOnly (numbers_of (Numbers f) count) (pred_tree (pred.Equal f (place + 1)))
+pub number_operand : (f : Field) (count place : ℕ) → IsTestable (Numbers f) count → place < count
+    → NamesOnly (numbers_of (Numbers f) count) (pred_tree (pred.Equal f (place + 1)))
 number_operand f count place testable within = subst (NamesOnly (numbers_of (Numbers f) count)) (sym is) (record {
   lawful = (omega (arith, testable.0, within), tt, tt);
   within = ((λ whole. number_among f count place within, needs_none (numbers_of (Numbers f) count) f testable.1 testable.2), tt, tt);
@@ -24,7 +25,8 @@ number_operand f count place testable within = subst (NamesOnly (numbers_of (Num
     is = ap pred_tree (sym (pred.rolls-Equal f (place + 1))) ∙ fold-roll-Pred PredTree pred_step (Pred-F.Equal f (place + 1))
 
 -- lawful operands with one more at the end are lawful, and name what all of them name
-pub one_more : (ns : Field → List ℕ) (ps : List Pred) (p : Pred) → NameOnly ns (pred_trees ps) → NamesOnly ns (pred_tree p) → NameOnly ns (pred_trees (ps ++ p ∷ []))
+pub one_more : (ns : Field → List ℕ) (ps : List Pred) (p : Pred) → NameOnly ns (pred_trees ps) → NamesOnly ns (pred_tree p)
+    → NameOnly ns (pred_trees (ps ++ p ∷ []))
 one_more ns [] p operands last = record { lawful = last.lawful; within = last.within }
 one_more ns (first ∷ ps) p operands last =
     let lawful = operands.lawful in
@@ -43,7 +45,8 @@ some_are [] some is = absurd (omega arith)
 some_are (p ∷ ps) some is = let e : suc (number_of (pred_trees ps)) ≡ 0 = ap number_of is in absurd (omega (arith, e))
 
 -- the disjunction of lawful operands is lawful and names what they name
-pub disjunction_is : (ns : Field → List ℕ) (ps : List Pred) → NameOnly ns (pred_trees ps) → 0 < length ps → NamesOnly ns (record { top = AnyOf; below = pred_trees ps })
+pub disjunction_is : (ns : Field → List ℕ) (ps : List Pred) → NameOnly ns (pred_trees ps) → 0 < length ps
+    → NamesOnly ns (record { top = AnyOf; below = pred_trees ps })
 disjunction_is ns ps operands some = record {
   lawful = (some_are ps some, operands.lawful, tt);
   within = (tt, operands.within, tt);

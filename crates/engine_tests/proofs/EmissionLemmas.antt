@@ -43,7 +43,8 @@ module _ (depart : PartsDepart) (tag : ClassesTag) (exists : HasMeaning) (lay : 
   ascending : AscendsBy instance_numbers (instances_of d.topology (queries_in d))
   ascending =
       let found = exists d.topology (parts_in d) (queries_in d) (tagging_of a m) (departing d.topology (value unites.0)) laid in
-      let out = lay d.topology (parts_in d) (queries_in d) found.0 (tagging_of a m) (departing d.topology (value unites.0)) can.lawful.topology.lawful found.1 laid in
+      let out = lay d.topology (parts_in d) (queries_in d) found.0 (tagging_of a m)
+      (departing d.topology (value unites.0)) can.lawful.topology.lawful found.1 laid in
       subst (AscendsBy instance_numbers) found.1.instances out.instances
 
   -- the instances are those that reports need
@@ -54,5 +55,6 @@ module _ (depart : PartsDepart) (tag : ClassesTag) (exists : HasMeaning) (lay : 
         few = classified.told.few;
         ascend = subst (AscendsBy instance_numbers) (sym same) ascending;
         lawful = subst (λ n. All (IsLawfulPair n) all) (sym (names_long d names named))
-            (subst (All (IsLawfulPair (length (queries_in d)))) (sym same) (lawful_instances d.topology (queries_in d) can.lawful.topology (lawful_queries d can) can.atoms));
+            (subst (All (IsLawfulPair (length (queries_in d)))) (sym same)
+            (lawful_instances d.topology (queries_in d) can.lawful.topology (lawful_queries d can) can.atoms));
       }

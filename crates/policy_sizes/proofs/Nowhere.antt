@@ -35,4 +35,6 @@ nowhere_is_named = record {
 -- it states no numbers
 pub fits_nowhere : (p : PolicyTree) → IsExamplePolicy p → FitAsForward nowhere p
 fits_nowhere p example =
-    room_for (λ ns (topology, within). (All-nil (λ (s : Switch). IsAmong s.datapath (ns SwitchField) × All (λ q. IsAmong q (ns Port)) s.ports), within)) (example_fits p example)
+    room_for (λ ns (topology, within).
+    (All-nil (λ (s : Switch). IsAmong s.datapath (ns SwitchField) × All (λ q. IsAmong q (ns Port)) s.ports), within))
+    (example_fits p example)

@@ -14,7 +14,8 @@ use Rattle.pq_forward.specs.Forward.{ArePoliciesWithin, number_of}
 use Rattle.policy_sizes.specs.Routes.{any_of, first_routes, network, route}
 
 -- the trees of some policies and one more
-pub one_more : (ps all : List Policy) (p : Policy) (ts : List PolicyTree) (t : PolicyTree) → all ≡ ps ++ p ∷ [] → map policy_tree ps ≡ ts → policy_tree p ≡ t → map policy_tree all ≡ ts ++ t ∷ []
+pub one_more : (ps all : List Policy) (p : Policy) (ts : List PolicyTree) (t : PolicyTree) → all ≡ ps ++ p ∷ [] → map policy_tree ps ≡ ts
+    → policy_tree p ≡ t → map policy_tree all ≡ ts ++ t ∷ []
 one_more ps all p ts t pushed before last = ap (map policy_tree) pushed ∙ (map-append policy_tree ps (p ∷ []) ∙ ap₂ (λ us u. us ++ u ∷ []) before last)
 
 -- a policy and others are not none

@@ -1,5 +1,6 @@
 -- A switch with many ports keeps the rules, and broadcasts there have a diagram.
-use Rattle.std.proofs.Common.{ℕ, zero, suc, ◌-◌, ◌/◌, ◌^◌, ◌<◌, ◌≤◌, ◌≡◌, ◌++◌, ◌==◌, List, [], ◌∷◌, if◌then◌else◌, length, length-append, refl, inl, inr, sym, ap, subst, arith}
+use Rattle.std.proofs.Common.{ℕ, zero, suc, ◌-◌, ◌/◌, ◌^◌, ◌<◌, ◌≤◌, ◌≡◌, ◌++◌, ◌==◌, List, [], ◌∷◌, if◌then◌else◌, length, length-append}
+use Rattle.std.proofs.Common.{refl, inl, inr, sym, ap, subst, arith}
 use Rattle.std.specs.Prelude.{◌≢◌, All}
 use Rattle.std.specs.List.{IsDistinct}
 use Rattle.std.proofs.lemmas.Bool.Decides.{eqb_tells}

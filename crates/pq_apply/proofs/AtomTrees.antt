@@ -1,9 +1,11 @@
 -- The trees of single tests: where they may stand, what they say, and what they test.
-use Rattle.std.proofs.Common.{ℕ, zero, suc, ◌+◌, ◌^◌, ◌<◌, ◌≤◌, ◌≡◌, ◌∙◌, Bool, true, false, List, [], ◌∷◌, Some, refl, ap, sym, inl, inr, eq-eqb, ne_eqb, if◌then◌else◌, arith}
+use Rattle.std.proofs.Common.{ℕ, zero, suc, ◌+◌, ◌^◌, ◌<◌, ◌≤◌, ◌≡◌, ◌∙◌, Bool, true, false, List, [], ◌∷◌, Some, refl, ap, sym, inl, inr}
+use Rattle.std.proofs.Common.{eq-eqb, ne_eqb, if◌then◌else◌, arith}
 use Rattle.std.specs.Prelude.{◌==◌, ◌&&◌, ◌||◌, slice_get}
 use Rattle.std.proofs.lemmas.Bool.{true≢false}
 use Rattle.pq_fields.specs.declared.field.Field.{Field}
-use Rattle.pq_fields.specs.declared.field.Field.TheVariants.{Switch, Port, EthType, IpProto, EthSrc, EthDst, Ipv4Src, Ipv4Dst, TcpSrc, TcpDst, UdpSrc, UdpDst, Ipv6Src, Ipv6Dst}
+use Rattle.pq_fields.specs.declared.field.Field.TheVariants.{Switch, Port, EthType, IpProto, EthSrc, EthDst, Ipv4Src, Ipv4Dst, TcpSrc}
+use Rattle.pq_fields.specs.declared.field.Field.TheVariants.{TcpDst, UdpSrc, UdpDst, Ipv6Src, Ipv6Dst}
 use Rattle.pq_fields.specs.Packet.{Numbers, Fit, rank, width_of, number_in, bit_in, has_field, is_ipv4, is_ipv6}
 use Rattle.pq_fields.specs.Pred.{leading}
 use Rattle.pq_store.specs.declared.test.Test.{Test}
@@ -121,7 +123,8 @@ from_lower from lower many more t below few inner = record {
 }
 
 -- a test of an earlier field before them
-pub equal_inner : (f : Field) (n from many : ℕ) (t : Tree Bool) → rank f < from → IsInner from many t → IsInner (rank f) (suc many) (Fork (Equal f n) t (Tip false))
+pub equal_inner : (f : Field) (n from many : ℕ) (t : Tree Bool) → rank f < from → IsInner from many t
+    → IsInner (rank f) (suc many) (Fork (Equal f n) t (Tip false))
 equal_inner f n from many t below inner = record {
   first = λ s less. inl less;
   skips = λ g less. ((λ e. omega arith), inner.skips g (omega arith), tt);
@@ -141,7 +144,8 @@ equal_joins f v from many t n lawful below inner few before small = record {
 }
 
 -- what a fork on a bit says
-fork_says : (b : Bool) (f : Field) (i : ℕ) (t : Tree Bool) (x : Numbers) → value (bit_fork b f i t) x ≡ (if bit_in f i x then (if b then value t x else false) else (if b then false else value t x))
+fork_says : (b : Bool) (f : Field) (i : ℕ) (t : Tree Bool) (x : Numbers)
+    → value (bit_fork b f i t) x ≡ (if bit_in f i x then (if b then value t x else false) else (if b then false else value t x))
 fork_says true f i t x = refl
 fork_says false f i t x = refl
 
@@ -163,7 +167,8 @@ bits_say f n i (suc m) x fits same =
     on : suc i + m ≡ i + suc m
     on = omega arith
 
-    agree : SayBehind f n (suc i) m x → bit_in f i x ≡ bit_at f n i → value (bits_tree f n (suc i) m) x ≡ (leading f (i + suc m) (number_in f x) == leading f (i + suc m) n)
+    agree : SayBehind f n (suc i) m x → bit_in f i x ≡ bit_at f n i
+        → value (bits_tree f n (suc i) m) x ≡ (leading f (i + suc m) (number_in f x) == leading f (i + suc m) n)
     agree behind bit =
         behind (bit_joins f (number_in f x) n i (omega arith) same bit)
         ∙ ap (λ k. leading f k (number_in f x) == leading f k n) on

@@ -38,7 +38,8 @@ IsTestedInThree c y n s = IsTested s c ⊎ (IsTested s y ⊎ IsTested s n)
 
 module _ {L : Type 0} where
   -- between a node and itself it is chosen
-  pub chosen_same : (cs : List (Tree Bool)) (k : ℕ) (ts : List (Tree L)) (i j : ℕ) → k < length cs → i < length ts → AreDiagrams ts → i ≡ j → IsChosenAt cs k ts i j i
+  pub chosen_same : (cs : List (Tree Bool)) (k : ℕ) (ts : List (Tree L)) (i j : ℕ) → k < length cs → i < length ts → AreDiagrams ts → i ≡ j
+      → IsChosenAt cs k ts i j i
   chosen_same cs k ts i j within_cond within diagrams same =
       let c = at_place cs k within_cond in
       let t = at_place ts i within in
@@ -58,7 +59,8 @@ module _ {L : Type 0} where
       }
 
   -- by a leaf that holds the first is chosen
-  pub chosen_first : (cs : List (Tree Bool)) (k : ℕ) (ts : List (Tree L)) (i j : ℕ) → i < length ts → j < length ts → AreDiagrams ts → slice_get cs k ≡ Some (Tip true) → IsChosenAt cs k ts i j i
+  pub chosen_first : (cs : List (Tree Bool)) (k : ℕ) (ts : List (Tree L)) (i j : ℕ) → i < length ts → j < length ts → AreDiagrams ts
+      → slice_get cs k ≡ Some (Tip true) → IsChosenAt cs k ts i j i
   chosen_first cs k ts i j within_yes within_no diagrams leaf =
       let y = at_place ts i within_yes in
       let n = at_place ts j within_no in
@@ -75,7 +77,8 @@ module _ {L : Type 0} where
       }
 
   -- and by one that doesn't the second
-  pub chosen_second : (cs : List (Tree Bool)) (k : ℕ) (ts : List (Tree L)) (i j : ℕ) → i < length ts → j < length ts → AreDiagrams ts → slice_get cs k ≡ Some (Tip false) → IsChosenAt cs k ts i j j
+  pub chosen_second : (cs : List (Tree Bool)) (k : ℕ) (ts : List (Tree L)) (i j : ℕ) → i < length ts → j < length ts → AreDiagrams ts
+      → slice_get cs k ≡ Some (Tip false) → IsChosenAt cs k ts i j j
   chosen_second cs k ts i j within_yes within_no diagrams leaf =
       let y = at_place ts i within_yes in
       let n = at_place ts j within_no in
@@ -139,7 +142,8 @@ module _ {L : Type 0} where
 
   -- as they are by splits
   pub choice_stage : (cs : List (Tree Bool)) (k : ℕ) (ts : List (Tree L)) (i j : ℕ) (s : Test) (cy cn ly ln ry rn : ℕ) → AreDiagrams cs → AreDiagrams ts
-      → FitAsChoiceAt cs k ts i j → IsFirstOfThree cs k ts i j s → SplitsAt cs s k cy cn → SplitsAt ts s i ly ln → SplitsAt ts s j ry rn → IsChoiceStage cs k ts i j s cy cn ly ln ry rn
+      → FitAsChoiceAt cs k ts i j → IsFirstOfThree cs k ts i j s → SplitsAt cs s k cy cn → SplitsAt ts s i ly ln → SplitsAt ts s j ry rn
+      → IsChoiceStage cs k ts i j s cy cn ly ln ry rn
   choice_stage cs k ts i j s cy cn ly ln ry rn conditions diagrams fit first condition left right = record {
     condition = first.condition;
     left = first.left;
@@ -174,7 +178,8 @@ module _ {L : Type 0} where
   }
 
   -- parts of three trees may come together where the trees may
-  parts_fit : (c d : Tree Bool) (y n z m : Tree L) → ((s : Test) → IsTested s d → IsTested s c) → ((s : Test) → IsTested s z → IsTested s y) → ((s : Test) → IsTested s m → IsTested s n)
+  parts_fit : (c d : Tree Bool) (y n z m : Tree L) → ((s : Test) → IsTested s d → IsTested s c) → ((s : Test) → IsTested s z → IsTested s y)
+      → ((s : Test) → IsTested s m → IsTested s n)
       → FitAsChoice c y n → FitAsChoice d z m
   parts_fit c d y n z m in_c in_y in_n = room_for (λ ns within. (
     λ f v tested. within.0 f v (in_c (Equal f v) tested),
@@ -186,25 +191,36 @@ module _ {L : Type 0} where
   fit_there : (cs : List (Tree Bool)) (k : ℕ) (ts : List (Tree L)) (i j : ℕ) (c : Tree Bool) (y n : Tree L)
       → slice_get cs k ≡ Some c → slice_get ts i ≡ Some y → slice_get ts j ≡ Some n → FitAsChoice c y n → FitAsChoiceAt cs k ts i j
   fit_there cs k ts i j c y n c_is y_is n_is fit d z m d_is z_is m_is =
-      subst (FitAsChoice d z) (same_tree ts j n m n_is m_is) (subst (λ v. FitAsChoice d v n) (same_tree ts i y z y_is z_is) (subst (λ v. FitAsChoice v y n) (same_tree cs k c d c_is d_is) fit))
+      subst (FitAsChoice d z) (same_tree ts j n m n_is m_is)
+      (subst (λ v. FitAsChoice d v n) (same_tree ts i y z y_is z_is)
+      (subst (λ v. FitAsChoice v y n) (same_tree cs k c d c_is d_is) fit))
 
-  module _ {cs : List (Tree Bool)} {k : ℕ} {ts : List (Tree L)} {i j : ℕ} {s : Test} {cy cn ly ln ry rn : ℕ} (st : IsChoiceStage cs k ts i j s cy cn ly ln ry rn) where
+  module _ {cs : List (Tree Bool)} {k : ℕ} {ts : List (Tree L)} {i j : ℕ} {s : Test} {cy cn ly ln ry rn : ℕ}
+      (st : IsChoiceStage cs k ts i j s cy cn ly ln ry rn) where
     -- the yes sides together are smaller
     pub passed_falls : size_at cs cy + size_at ts ly + size_at ts ry < size_at cs k + size_at ts i + size_at ts j
-    passed_falls = (together (together (yes_small k st.condition_is st.condition_sides) (yes_small i st.left_is st.left_sides)) (yes_small j st.right_is st.right_sides)).smaller st.root
+    passed_falls = (together (together (yes_small k st.condition_is st.condition_sides) (yes_small i st.left_is st.left_sides))
+        (yes_small j st.right_is st.right_sides)).smaller st.root
 
     -- and so are the no sides, also in a store that has grown
     pub failed_falls : (vs : List (Tree L)) → Keeps ts vs → size_at cs cn + size_at vs ln + size_at vs rn < size_at cs k + size_at ts i + size_at ts j
     failed_falls vs keeps =
         let left = st.left_sides in
         let right = st.right_sides in
-        let falls = (together (together (no_small k st.condition_is st.condition_sides) (no_small i st.left_is left)) (no_small j st.right_is right)).smaller st.root in
-        omega (arith, falls, size_still ts vs ln left.no left.no_is (keeps ln left.no left.no_is), size_still ts vs rn right.no right.no_is (keeps rn right.no right.no_is))
+        let falls = (together (together (no_small k st.condition_is st.condition_sides) (no_small i st.left_is left))
+        (no_small j st.right_is right)).smaller st.root in
+        omega (
+          arith,
+          falls,
+          size_still ts vs ln left.no left.no_is (keeps ln left.no left.no_is),
+          size_still ts vs rn right.no right.no_is (keeps rn right.no right.no_is),
+        )
 
     -- what the yes sides test may come together
     pub passed_fit : FitAsChoiceAt cs cy ts ly ry
     passed_fit =
-        fit_there cs cy ts ly ry st.condition_sides.yes st.left_sides.yes st.right_sides.yes st.condition_sides.yes_is st.left_sides.yes_is st.right_sides.yes_is
+        fit_there cs cy ts ly ry st.condition_sides.yes st.left_sides.yes st.right_sides.yes st.condition_sides.yes_is st.left_sides.yes_is
+        st.right_sides.yes_is
         (parts_fit st.condition st.condition_sides.yes st.left st.right st.left_sides.yes st.right_sides.yes
         st.condition_sides.yes_side.tested st.left_sides.yes_side.tested st.right_sides.yes_side.tested st.fit)
 
@@ -240,7 +256,8 @@ module _ {L : Type 0} where
 
   -- a table remembers one more choice, while the store grows
   pub remembers_choice : {S : Type 0} {cs : List (Tree Bool)} {k : ℕ} {ts vs : List (Tree L)} {i j id : ℕ} (done new : IndexMap (ℕ × ℕ × ℕ) ℕ S)
-      → Keeps ts vs → Remembers same_triple (λ key id. IsChosenAt cs key.0 ts key.1 key.2 id) done → IsChosenAt cs k vs i j id → Updates same_triple done new (k, i, j) (Some id)
+      → Keeps ts vs → Remembers same_triple (λ key id. IsChosenAt cs key.0 ts key.1 key.2 id) done → IsChosenAt cs k vs i j id
+      → Updates same_triple done new (k, i, j) (Some id)
       → Remembers same_triple (λ key id. IsChosenAt cs key.0 vs key.1 key.2 id) new
   remembers_choice {cs = cs} {k = k} {ts = ts} {vs = vs} {i = i} {j = j} {id = id} done new keeps remembers made updates =
       remembers_more same_triple (λ key x. IsChosenAt cs key.0 vs key.1 key.2 x) done new (k, i, j) id triple_exact
@@ -288,7 +305,8 @@ module _ {L : Type 0} where
       by p true pass = joined.gives_yes p pass ∙ (passed.choice.gives p ∙ (λ i. if c_yes.gives p pass i then y_yes.gives p pass i else n_yes.gives p pass i))
       by p false fail = joined.gives_no p fail ∙ (failed.choice.gives p ∙ (λ i. if c_no.gives p fail i then y_no.gives p fail i else n_no.gives p fail i))
 
-  module _ {cs : List (Tree Bool)} {k : ℕ} {ts : List (Tree L)} {i j : ℕ} {s : Test} {cy cn ly ln ry rn : ℕ} (st : IsChoiceStage cs k ts i j s cy cn ly ln ry rn) {p q : ℕ}
+  module _ {cs : List (Tree Bool)} {k : ℕ} {ts : List (Tree L)} {i j : ℕ} {s : Test} {cy cn ly ln ry rn : ℕ}
+      (st : IsChoiceStage cs k ts i j s cy cn ly ln ry rn) {p q : ℕ}
       (passed : IsChosenAt cs cy ts ly ry p) (failed : IsChosenAt cs cn ts ln rn q) where
     -- what stands at the first place is chosen between the yes sides
     passed_there : (a : Tree L) → slice_get ts p ≡ Some a → IsChosen st.condition_sides.yes st.left_sides.yes st.right_sides.yes a
@@ -301,8 +319,10 @@ module _ {L : Type 0} where
     -- so they are to be the sides of the first test
     sides_there : (a b : Tree L) → slice_get ts p ≡ Some a → slice_get ts q ≡ Some b → AreSides (IsTestedInThree st.condition st.left st.right) s a b
     sides_there a b a_is b_is =
-        chosen_sides s st.condition st.condition_sides.yes st.condition_sides.no st.left st.left_sides.yes st.left_sides.no st.right st.right_sides.yes st.right_sides.no a b
-        st.lawful st.root st.condition_sides.yes_side st.condition_sides.no_side st.left_sides.yes_side st.left_sides.no_side st.right_sides.yes_side st.right_sides.no_side
+        chosen_sides s st.condition st.condition_sides.yes st.condition_sides.no st.left st.left_sides.yes st.left_sides.no st.right
+        st.right_sides.yes st.right_sides.no a b
+        st.lawful st.root st.condition_sides.yes_side st.condition_sides.no_side st.left_sides.yes_side st.left_sides.no_side
+        st.right_sides.yes_side st.right_sides.no_side
         (passed_there a a_is) (failed_there b b_is)
 
     -- and may be
@@ -329,13 +349,16 @@ module _ {L : Type 0} where
           left_is = keeps i st.left st.left_is;
           right_is = keeps j st.right st.right_is;
           is = w.1;
-          chooses = chosen_joined s st.condition st.condition_sides.yes st.condition_sides.no st.left st.left_sides.yes st.left_sides.no st.right st.right_sides.yes st.right_sides.no a b w.0
+          chooses = chosen_joined s st.condition st.condition_sides.yes st.condition_sides.no st.left st.left_sides.yes st.left_sides.no
+              st.right st.right_sides.yes st.right_sides.no a b w.0
               st.condition_sides.yes_side st.condition_sides.no_side st.left_sides.yes_side st.left_sides.no_side st.right_sides.yes_side st.right_sides.no_side
               (passed_there a passed.is) (failed_there b failed.is)
-              (joined_is (IsTestedInThree st.condition st.left st.right) s a b w.0 (chosen_joinable a b passed.is failed.is) (sides_there a b passed.is failed.is) w.2);
+              (joined_is (IsTestedInThree st.condition st.left st.right) s a b w.0 (chosen_joinable a b passed.is failed.is)
+              (sides_there a b passed.is failed.is) w.2);
         }
 
   -- what is chosen in a store that has grown is the choice between the old trees
-  pub chosen_choice : {cs : List (Tree Bool)} {k : ℕ} (old : List (Tree L)) {new : List (Tree L)} {i j id : ℕ} → Keeps old new → IsChosenAt cs k new i j id → ChoosesAt cs k old i j new id
+  pub chosen_choice : {cs : List (Tree Bool)} {k : ℕ} (old : List (Tree L)) {new : List (Tree L)} {i j id : ℕ} → Keeps old new
+      → IsChosenAt cs k new i j id → ChoosesAt cs k old i j new id
   chosen_choice old {i = i} {j = j} keeps made c y n c_is y_is n_is =
       (made.chosen, made.is, (chosen_there made c_is (keeps i y y_is) (keeps j n n_is) made.is).choice)

@@ -17,10 +17,12 @@ use Rattle.pq_apply.proofs.Remembered.{pair_exact, remembers_more, remembers_sti
 module _ {L : Type 0} where
   -- trees that may come together may still do so
   pub fit_still : (ts vs : List (Tree L)) (x y : ℕ) → Keeps ts vs → x < length ts → y < length ts → FitTogetherAt ts x ts y → FitTogetherAt vs x vs y
-  fit_still ts vs x y keeps x_within y_within fit t u t_is u_is = fit t u (tree_before ts vs x t keeps x_within t_is) (tree_before ts vs y u keeps y_within u_is)
+  fit_still ts vs x y keeps x_within y_within fit t u t_is u_is =
+      fit t u (tree_before ts vs x t keeps x_within t_is) (tree_before ts vs y u keeps y_within u_is)
 
   -- two nodes of the store stay split by the first of their tests
-  pub stage_still : {ts vs : List (Tree L)} {x y : ℕ} {s : Test} {xy xn yy yn : ℕ} → Keeps ts vs → IsStage ts x ts y s xy xn yy yn → IsStage vs x vs y s xy xn yy yn
+  pub stage_still : {ts vs : List (Tree L)} {x y : ℕ} {s : Test} {xy xn yy yn : ℕ} → Keeps ts vs → IsStage ts x ts y s xy xn yy yn
+      → IsStage vs x vs y s xy xn yy yn
   stage_still {x = x} {y = y} keeps st = record {
     first = record {
       left = st.first.left;
@@ -43,7 +45,12 @@ module _ {L : Type 0} where
       let left = st.left in
       let right = st.right in
       let falls = (together (no_small x st.first.left_is left) (no_small y st.first.right_is right)).smaller st.first.root in
-      omega (arith, falls, size_still ts vs xn left.no left.no_is (keeps xn left.no left.no_is), size_still ts vs yn right.no right.no_is (keeps yn right.no right.no_is))
+      omega (
+        arith,
+        falls,
+        size_still ts vs xn left.no left.no_is (keeps xn left.no left.no_is),
+        size_still ts vs yn right.no right.no_is (keeps yn right.no right.no_is),
+      )
 
 module _ {L : Type 0} (R : L → L → L → Type 0) where
   -- what is made of two trees stays while the store grows
@@ -60,7 +67,8 @@ module _ {L : Type 0} (R : L → L → L → Type 0) where
 
   -- a table remembers one more, while the store grows
   pub remembers_combined : {S : Type 0} {us vs : List (Tree L)} {x y k : ℕ} (done new : IndexMap (ℕ × ℕ) ℕ S)
-      → Keeps us vs → Remembers same_pair (λ key id. IsPairedAt R us key.0 us key.1 us id) done → IsPairedAt R vs x vs y vs k → Updates same_pair done new (x, y) (Some k)
+      → Keeps us vs → Remembers same_pair (λ key id. IsPairedAt R us key.0 us key.1 us id) done → IsPairedAt R vs x vs y vs k
+      → Updates same_pair done new (x, y) (Some k)
       → Remembers same_pair (λ key id. IsPairedAt R vs key.0 vs key.1 vs id) new
   remembers_combined {us = us} {vs = vs} {x = x} {y = y} {k = k} done new keeps remembers made updates =
       remembers_more same_pair (λ key id. IsPairedAt R vs key.0 vs key.1 vs id) done new (x, y) k pair_exact
@@ -73,7 +81,8 @@ module _ {L : Type 0} (R : L → L → L → Type 0) where
   combined_leaves {x = x} {y = y} {a = a} {b = b} us keeps a_is b_is c_is made = paired_leaves R (keeps x (Tip a) a_is) (keeps y (Tip b) b_is) c_is made
 
   -- the node with what is made of the sides of two trees is made of the trees, in a store that has grown by it
-  pub combined_node : {ts : List (Tree L)} (vs : List (Tree L)) {x y : ℕ} {s : Test} {xy xn yy yn : ℕ} → IsStage ts x ts y s xy xn yy yn → {i j k : ℕ} → FitTogetherAt ts x ts y
+  pub combined_node : {ts : List (Tree L)} (vs : List (Tree L)) {x y : ℕ} {s : Test} {xy xn yy yn : ℕ} → IsStage ts x ts y s xy xn yy yn
+      → {i j k : ℕ} → FitTogetherAt ts x ts y
       → IsPairedAt R ts xy ts yy ts i → IsPairedAt R ts xn ts yn ts j → Keeps ts vs → JoinsAt ts s i j vs k → IsPairedAt R vs x vs y vs k
   combined_node {ts} vs {x} {y} st {k = k} fit yes_made no_made keeps joins =
       let made = paired_node R st fit yes_made no_made vs k joins in

@@ -28,14 +28,16 @@ pub made_within : (made : Tree Bool → Tree Bool) (old new : List (Tree Bool)) 
 made_within made old new i k within makes = let t = at_place old i within in slice_get_within new k (made t.0) (makes t.0 t.1)
 
 -- a test may stand before a diagram of later fields and a leaf
-pub gate_joins : (ts : List (Tree Bool)) (f : Field) (v from many i j : ℕ) → IsLawful (Equal f v) → rank f < from → many ≤ 4 → IsInnerAt ts from many i → slice_get ts j ≡ Some (Tip false)
+pub gate_joins : (ts : List (Tree Bool)) (f : Field) (v from many i j : ℕ) → IsLawful (Equal f v) → rank f < from → many ≤ 4
+    → IsInnerAt ts from many i → slice_get ts j ≡ Some (Tip false)
     → (y n : Tree Bool) → slice_get ts i ≡ Some y → slice_get ts j ≡ Some n → IsJoinable (Equal f v) y n
 gate_joins ts f v from many i j lawful below few inner no_is y n y_at n_at =
     let e : Tip false ≡ n = cc in
     subst (λ u. IsJoinable (Equal f v) y u) e (equal_joins f v from many y (Tip false) lawful below (inner.1 y y_at) few tt (λ g. omega arith))
 
 -- it is put there
-pub gate_makes : (old ts new : List (Tree Bool)) (f : Field) (v from many i j k : ℕ) → Keeps old ts → IsInnerAt old from many i → slice_get ts j ≡ Some (Tip false)
+pub gate_makes : (old ts new : List (Tree Bool)) (f : Field) (v from many i j k : ℕ) → Keeps old ts → IsInnerAt old from many i
+    → slice_get ts j ≡ Some (Tip false)
     → JoinsAt ts (Equal f v) i j new k → MakesAt (λ t. Fork (Equal f v) t (Tip false)) old i new k
 gate_makes old ts new f v from many i j k keeps inner no_is joins t is =
     forked ts new (Equal f v) i j k t (Tip false) joins (keeps i t is) no_is (inner.1 t is).some

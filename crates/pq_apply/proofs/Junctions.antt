@@ -1,5 +1,6 @@
 -- Diagrams made of those of operands.
-use Rattle.std.proofs.Common.{ℕ, ◌<◌, ◌≤◌, ◌≡◌, ◌∙◌, Bool, true, false, not, List, [], ◌∷◌, ◌++◌, map, take, drop, get_or, length, Some, if◌then◌else◌, refl, sym, ap, subst, inl, inr, arith}
+use Rattle.std.proofs.Common.{ℕ, ◌<◌, ◌≤◌, ◌≡◌, ◌∙◌, Bool, true, false, not, List, [], ◌∷◌, ◌++◌, map, take, drop, get_or, length, Some}
+use Rattle.std.proofs.Common.{if◌then◌else◌, refl, sym, ap, subst, inl, inr, arith}
 use Rattle.std.specs.Prelude.{◌&&◌, ◌||◌, slice_get, All}
 use Rattle.std.specs.List.{list_all, list_any}
 use Rattle.std.proofs.lemmas.List.{take-append-drop, take-map, drop-map}
@@ -19,11 +20,13 @@ use Rattle.pq_store.proofs.RoomLemmas.{room_for, tip_within}
 use Rattle.pq_apply.proofs.Kept.{within_still, tree_before}
 
 -- what a tree within numbers tests is within them
-within_part : {A B : Type 0} (ns : Field → List ℕ) (t : Tree A) (u : Tree B) → ((f : Field) (v : ℕ) → IsTested (Equal f v) u → IsTested (Equal f v) t) → Within ns t → Within ns u
+within_part : {A B : Type 0} (ns : Field → List ℕ) (t : Tree A) (u : Tree B)
+    → ((f : Field) (v : ℕ) → IsTested (Equal f v) u → IsTested (Equal f v) t) → Within ns t → Within ns u
 within_part ns t u tests within f v tested = within f v (tests f v tested)
 
 -- one tree may come together with two leaves
-pub leaves_fit : {L : Type 0} (cs : List (Tree Bool)) (ts : List (Tree L)) (k i j : ℕ) (a b : L) → ((t : Tree Bool) → slice_get cs k ≡ Some t → FitTogetherAll (t ∷ []))
+pub leaves_fit : {L : Type 0} (cs : List (Tree Bool)) (ts : List (Tree L)) (k i j : ℕ) (a b : L)
+    → ((t : Tree Bool) → slice_get cs k ≡ Some t → FitTogetherAll (t ∷ []))
     → slice_get ts i ≡ Some (Tip a) → slice_get ts j ≡ Some (Tip b) → FitAsChoiceAt cs k ts i j
 leaves_fit cs ts k i j a b fit yes_is no_is c y n c_is y_is n_is =
     let e : Tip a ≡ y = cc in
@@ -108,7 +111,8 @@ one_joined every u = record { gives = λ x. by every (value u x); tests = λ ns 
     by false false = refl
 
 -- the junction of the tree at one place
-pub one_at : (every : Bool) (ts : List (Tree Bool)) (ids : List ℕ) (i : ℕ) → length ids < 2 → 1 ≤ length ids → i ≡ get_or ids 0 i → All (λ id. id < length ts) ids → JunctionAt every (trees_at ts ids) ts i
+pub one_at : (every : Bool) (ts : List (Tree Bool)) (ids : List ℕ) (i : ℕ) → length ids < 2 → 1 ≤ length ids → i ≡ get_or ids 0 i
+    → All (λ id. id < length ts) ids → JunctionAt every (trees_at ts ids) ts i
 one_at every ts [] i short long is within = absurd (omega arith)
 one_at every ts (id ∷ []) i short long is within = (
   get_or ts id (Tip false),
@@ -156,7 +160,8 @@ pub back_fits : (m : ℕ) (us : List (Tree Bool)) → FitTogetherAll us → FitT
 back_fits m us = room_for (λ ns within. All-drop (Within ns) m us within)
 
 -- and so may the junctions of both halves
-pub halves_fit : (every : Bool) (m : ℕ) (us : List (Tree Bool)) (t u : Tree Bool) → FitTogetherAll us → IsJunction every (take m us) t → IsJunction every (drop m us) u → FitTogetherAll (t ∷ u ∷ [])
+pub halves_fit : (every : Bool) (m : ℕ) (us : List (Tree Bool)) (t u : Tree Bool) → FitTogetherAll us → IsJunction every (take m us) t
+    → IsJunction every (drop m us) u → FitTogetherAll (t ∷ u ∷ [])
 halves_fit every m us t u fit front back =
     room_for (λ ns within.
     All-cons (Within ns) t (u ∷ []) (front.tests ns (All-take (Within ns) m us within))
@@ -183,7 +188,8 @@ later_within : (old new : List (Tree Bool)) (ids : List ℕ) → Keeps old new �
 later_within old new ids keeps within = All-weaker (λ id. id < length old) (λ id. id < length new) (λ id here. within_still old new id keeps here) ids within
 
 -- and then that of the back half
-pub back_ready : (old new : List (Tree Bool)) (ids part : List ℕ) (m : ℕ) → part ≡ drop m ids → Keeps old new → All (λ id. id < length old) ids → FitTogetherAll (trees_at old ids)
+pub back_ready : (old new : List (Tree Bool)) (ids part : List ℕ) (m : ℕ) → part ≡ drop m ids → Keeps old new
+    → All (λ id. id < length old) ids → FitTogetherAll (trees_at old ids)
     → All (λ id. id < length new) part × FitTogetherAll (trees_at new part)
 back_ready old new ids part m is keeps within fit =
     let part_in : All (λ id. id < length old) part = subst (All (λ id. id < length old)) (sym is) (All-drop (λ id. id < length old) m ids within) in (
@@ -201,8 +207,10 @@ pub record HaveHalves (every : Bool) (m : ℕ) (us ts : List (Tree Bool)) (x y :
   pub back : IsJunction every (drop m us) y_tree
 
 -- stand where they were made one after the other
-pub have_halves : (every : Bool) (old between new : List (Tree Bool)) (ids front back : List ℕ) (m x y : ℕ) → front ≡ take m ids → back ≡ drop m ids → All (λ id. id < length old) ids
-    → Keeps old between → Keeps between new → JunctionAt every (trees_at old front) between x → JunctionAt every (trees_at between back) new y → HaveHalves every m (trees_at old ids) new x y
+pub have_halves : (every : Bool) (old between new : List (Tree Bool)) (ids front back : List ℕ) (m x y : ℕ) → front ≡ take m ids
+    → back ≡ drop m ids → All (λ id. id < length old) ids
+    → Keeps old between → Keeps between new → JunctionAt every (trees_at old front) between x
+    → JunctionAt every (trees_at between back) new y → HaveHalves every m (trees_at old ids) new x y
 have_halves every old between new ids front back m x y front_is back_is within first second in_front in_back =
     let back_in : All (λ id. id < length old) back = subst (All (λ id. id < length old)) (sym back_is) (All-drop (λ id. id < length old) m ids within) in
     record {
@@ -222,10 +230,13 @@ halves_meet every m us ts x y fit halves t u t_is u_is =
     let y_is = halves.y_is in
     let e : halves.x_tree ≡ t = cc in
     let f : halves.y_tree ≡ u = cc in
-    subst (λ v. FitTogetherAll (v ∷ u ∷ [])) e (subst (λ v. FitTogetherAll (halves.x_tree ∷ v ∷ [])) f (halves_fit every m us halves.x_tree halves.y_tree fit halves.front halves.back))
+    subst (λ v. FitTogetherAll (v ∷ u ∷ [])) e
+    (subst (λ v. FitTogetherAll (halves.x_tree ∷ v ∷ [])) f
+    (halves_fit every m us halves.x_tree halves.y_tree fit halves.front halves.back))
 
 -- the first of two trees that may come together may do so alone
-pub first_fits : (ts : List (Tree Bool)) (x y : ℕ) → y < length ts → ((t u : Tree Bool) → slice_get ts x ≡ Some t → slice_get ts y ≡ Some u → FitTogetherAll (t ∷ u ∷ []))
+pub first_fits : (ts : List (Tree Bool)) (x y : ℕ) → y < length ts
+    → ((t u : Tree Bool) → slice_get ts x ≡ Some t → slice_get ts y ≡ Some u → FitTogetherAll (t ∷ u ∷ []))
     → (t : Tree Bool) → slice_get ts x ≡ Some t → FitTogetherAll (t ∷ [])
 first_fits ts x y y_in fit t t_is =
     let u = at_place ts y y_in in
@@ -264,7 +275,8 @@ pair_ready cs old ts x y condition leaf l x_in y_in fit recodes keeps leaf_is =
         pair_fits c t.0 u n (fit t.0 u t.1 (tree_before old ts y u keeps y_in u_is)) (subst (IsRecoding true false t.0) e r.2) l f
 
 -- a choice where both are to hold
-pub every_chosen : (every : Bool) (cs old ts new : List (Tree Bool)) (x y condition leaf id : ℕ) → every ≡ true → RecodesAt true false old x cs condition → Keeps old ts
+pub every_chosen : (every : Bool) (cs old ts new : List (Tree Bool)) (x y condition leaf id : ℕ) → every ≡ true
+    → RecodesAt true false old x cs condition → Keeps old ts
     → slice_get ts leaf ≡ Some (Tip (not every)) → ChoosesAt cs condition ts y leaf new id
     → (t u : Tree Bool) → slice_get old x ≡ Some t → slice_get old y ≡ Some u → JunctionAt every (t ∷ u ∷ []) new id
 every_chosen every cs old ts new x y condition leaf id is recodes keeps leaf_is chooses t u t_is u_is =
@@ -273,7 +285,8 @@ every_chosen every cs old ts new x y condition leaf id is recodes keeps leaf_is 
     (w.0, w.1, subst (λ b. IsJunction b (t ∷ u ∷ []) w.0) (sym is) (both_hold t u r.0 w.0 r.2 w.2))
 
 -- a choice where one of them is to hold
-pub some_chosen : (every : Bool) (cs old ts new : List (Tree Bool)) (x y condition leaf id : ℕ) → every ≡ false → RecodesAt true false old x cs condition → Keeps old ts
+pub some_chosen : (every : Bool) (cs old ts new : List (Tree Bool)) (x y condition leaf id : ℕ) → every ≡ false
+    → RecodesAt true false old x cs condition → Keeps old ts
     → slice_get ts leaf ≡ Some (Tip (not every)) → ChoosesAt cs condition ts leaf y new id
     → (t u : Tree Bool) → slice_get old x ≡ Some t → slice_get old y ≡ Some u → JunctionAt every (t ∷ u ∷ []) new id
 some_chosen every cs old ts new x y condition leaf id is recodes keeps leaf_is chooses t u t_is u_is =

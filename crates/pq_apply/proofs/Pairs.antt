@@ -32,7 +32,8 @@ module _ {A B : Type 0} where
         right = u.0;
         left_is = shows.is;
         right_is = u.1;
-        lawful = earlier_lawful r other s (left_diagrams x (Fork r shows.yes_tree shows.no_tree) shows.is).lawful.0 (lawful_at rs y other right_diagrams within has) earlier;
+        lawful = earlier_lawful r other s (left_diagrams x (Fork r shows.yes_tree shows.no_tree) shows.is).lawful.0
+            (lawful_at rs y other right_diagrams within has) earlier;
         leads_left = earlier.leads_first;
         leads_right = subst (LeadsRoot s) (sym other_is) earlier.leads_other;
         root = root u.0 other_is earlier.is;
@@ -72,12 +73,19 @@ module _ {A B : Type 0} where
   }
 
   -- parts of two trees may come together where the trees may
-  parts_fit : (t v : Tree A) (u w : Tree B) → ((s : Test) → IsTested s v → IsTested s t) → ((s : Test) → IsTested s w → IsTested s u) → FitTogether t u → FitTogether v w
-  parts_fit t v u w in_left in_right = room_for (λ ns within. (λ f v tested. within.0 f v (in_left (Equal f v) tested), λ f v tested. within.1 f v (in_right (Equal f v) tested)))
+  parts_fit : (t v : Tree A) (u w : Tree B) → ((s : Test) → IsTested s v → IsTested s t) → ((s : Test) → IsTested s w → IsTested s u)
+      → FitTogether t u → FitTogether v w
+  parts_fit t v u w in_left in_right =
+      room_for (λ ns within. (
+        λ f v tested. within.0 f v (in_left (Equal f v) tested),
+        λ f v tested. within.1 f v (in_right (Equal f v) tested),
+      ))
 
   -- trees that may come together may do so at their places
-  pub fit_there : (ls : List (Tree A)) (x : ℕ) (rs : List (Tree B)) (y : ℕ) (t : Tree A) (u : Tree B) → slice_get ls x ≡ Some t → slice_get rs y ≡ Some u → FitTogether t u → FitTogetherAt ls x rs y
-  fit_there ls x rs y t u t_is u_is fit v w v_is w_is = subst (FitTogether v) (same_tree rs y u w u_is w_is) (subst (λ r. FitTogether r u) (same_tree ls x t v t_is v_is) fit)
+  pub fit_there : (ls : List (Tree A)) (x : ℕ) (rs : List (Tree B)) (y : ℕ) (t : Tree A) (u : Tree B) → slice_get ls x ≡ Some t
+      → slice_get rs y ≡ Some u → FitTogether t u → FitTogetherAt ls x rs y
+  fit_there ls x rs y t u t_is u_is fit v w v_is w_is =
+      subst (FitTogether v) (same_tree rs y u w u_is w_is) (subst (λ r. FitTogether r u) (same_tree ls x t v t_is v_is) fit)
 
   module _ {ls : List (Tree A)} {x : ℕ} {rs : List (Tree B)} {y : ℕ} {s : Test} {xy xn yy yn : ℕ} (st : IsStage ls x rs y s xy xn yy yn) where
     -- the yes sides together are smaller
@@ -92,13 +100,15 @@ module _ {A B : Type 0} where
     pub yes_fit : FitTogetherAt ls x rs y → FitTogetherAt ls xy rs yy
     yes_fit fit =
         fit_there ls xy rs yy st.left.yes st.right.yes st.left.yes_is st.right.yes_is
-        (parts_fit st.first.left st.left.yes st.first.right st.right.yes st.left.yes_side.tested st.right.yes_side.tested (fit st.first.left st.first.right st.first.left_is st.first.right_is))
+        (parts_fit st.first.left st.left.yes st.first.right st.right.yes st.left.yes_side.tested st.right.yes_side.tested
+        (fit st.first.left st.first.right st.first.left_is st.first.right_is))
 
     -- and so may what the no sides test
     pub no_fit : FitTogetherAt ls x rs y → FitTogetherAt ls xn rs yn
     no_fit fit =
         fit_there ls xn rs yn st.left.no st.right.no st.left.no_is st.right.no_is
-        (parts_fit st.first.left st.left.no st.first.right st.right.no st.left.no_side.tested st.right.no_side.tested (fit st.first.left st.first.right st.first.left_is st.first.right_is))
+        (parts_fit st.first.left st.left.no st.first.right st.right.no st.left.no_side.tested st.right.no_side.tested
+        (fit st.first.left st.first.right st.first.left_is st.first.right_is))
 
 -- one of two trees tests it
 abbrev pub IsTestedIn : {A B : Type 0} → Tree A → Tree B → Test → Type 0
@@ -127,7 +137,8 @@ module _ {A B C : Type 0} (R : A → B → C → Type 0) where
   }
 
   -- it stays while the store grows
-  pub paired_still : {ls : List (Tree A)} {x : ℕ} {rs : List (Tree B)} {y : ℕ} {us vs : List (Tree C)} {k : ℕ} → Keeps us vs → IsPairedAt R ls x rs y us k → IsPairedAt R ls x rs y vs k
+  pub paired_still : {ls : List (Tree A)} {x : ℕ} {rs : List (Tree B)} {y : ℕ} {us vs : List (Tree C)} {k : ℕ} → Keeps us vs
+      → IsPairedAt R ls x rs y us k → IsPairedAt R ls x rs y vs k
   paired_still {k = k} keeps made = record {
     left = made.left;
     right = made.right;
@@ -140,7 +151,8 @@ module _ {A B C : Type 0} (R : A → B → C → Type 0) where
 
   -- a table remembers one more product, while the store grows
   pub remembers_pair : {S : Type 0} {ls : List (Tree A)} {x : ℕ} {rs : List (Tree B)} {y : ℕ} {us vs : List (Tree C)} {k : ℕ} (done new : IndexMap (ℕ × ℕ) ℕ S)
-      → Keeps us vs → Remembers same_pair (λ key id. IsPairedAt R ls key.0 rs key.1 us id) done → IsPairedAt R ls x rs y vs k → Updates same_pair done new (x, y) (Some k)
+      → Keeps us vs → Remembers same_pair (λ key id. IsPairedAt R ls key.0 rs key.1 us id) done → IsPairedAt R ls x rs y vs k
+      → Updates same_pair done new (x, y) (Some k)
       → Remembers same_pair (λ key id. IsPairedAt R ls key.0 rs key.1 vs id) new
   remembers_pair {ls = ls} {x = x} {rs = rs} {y = y} {us = us} {vs = vs} {k = k} done new keeps remembers made updates =
       remembers_more same_pair (λ key id. IsPairedAt R ls key.0 rs key.1 vs id) done new (x, y) k pair_exact
@@ -149,7 +161,8 @@ module _ {A B C : Type 0} (R : A → B → C → Type 0) where
 
   -- what is made of the sides of two trees may be the sides of the first test
   pub paired_sides : (s : Test) (t ty tn : Tree A) (u uy un : Tree B) (a b : Tree C) → IsLawful s → IsRoot s t ⊎ IsRoot s u
-      → IsSide true s t ty → IsSide false s t tn → IsSide true s u uy → IsSide false s u un → IsPaired R ty uy a → IsPaired R tn un b → AreSides (IsTestedIn t u) s a b
+      → IsSide true s t ty → IsSide false s t tn → IsSide true s u uy → IsSide false s u un → IsPaired R ty uy a → IsPaired R tn un b
+      → AreSides (IsTestedIn t u) s a b
   paired_sides s t ty tn u uy un a b lawful root t_yes t_no u_yes u_no yes_made no_made = record {
     lawful = lawful;
     own = elim root [ inl is ↦ inl (root_tested s t is) | inr is ↦ inr (root_tested s u is) ];
@@ -167,7 +180,8 @@ module _ {A B C : Type 0} (R : A → B → C → Type 0) where
 
   -- and what is joined of them is made of the two trees
   pub paired_joined : (s : Test) (t ty tn : Tree A) (u uy un : Tree B) (a b w : Tree C)
-      → IsSide true s t ty → IsSide false s t tn → IsSide true s u uy → IsSide false s u un → IsPaired R ty uy a → IsPaired R tn un b → IsJoined (IsTestedIn t u) s a b w → IsPaired R t u w
+      → IsSide true s t ty → IsSide false s t tn → IsSide true s u uy → IsSide false s u un → IsPaired R ty uy a → IsPaired R tn un b
+      → IsJoined (IsTestedIn t u) s a b w → IsPaired R t u w
   paired_joined s t ty tn u uy un a b w t_yes t_no u_yes u_no yes_made no_made joined = record {
     diagram = joined.diagram;
     gives = λ p. by p (passes s p) refl;
@@ -180,7 +194,8 @@ module _ {A B C : Type 0} (R : A → B → C → Type 0) where
       by p false fail = subst (R (value t p) (value u p)) (sym (joined.gives_no p fail))
           (subst (λ l. R (value t p) l (value b p)) (u_no.gives p fail) (subst (λ l. R l (value un p) (value b p)) (t_no.gives p fail) (no_made.gives p)))
 
-  module _ {ls : List (Tree A)} {x : ℕ} {rs : List (Tree B)} {y : ℕ} {s : Test} {xy xn yy yn : ℕ} (st : IsStage ls x rs y s xy xn yy yn) {us : List (Tree C)} {i j : ℕ}
+  module _ {ls : List (Tree A)} {x : ℕ} {rs : List (Tree B)} {y : ℕ} {s : Test} {xy xn yy yn : ℕ}
+      (st : IsStage ls x rs y s xy xn yy yn) {us : List (Tree C)} {i j : ℕ}
       (fit : FitTogetherAt ls x rs y) (yes_made : IsPairedAt R ls xy rs yy us i) (no_made : IsPairedAt R ls xn rs yn us j) where
     -- the same of the trees at their places
     sides_there : (a b : Tree C) → slice_get us i ≡ Some a → slice_get us j ≡ Some b → AreSides (IsTestedIn st.first.left st.first.right) s a b
@@ -214,11 +229,13 @@ module _ {A B C : Type 0} (R : A → B → C → Type 0) where
               st.left.yes_side st.left.no_side st.right.yes_side st.right.no_side
               (paired_there yes_made st.left.yes_is st.right.yes_is yes_made.is)
               (paired_there no_made st.left.no_is st.right.no_is no_made.is)
-              (joined_is (IsTestedIn st.first.left st.first.right) s a b w.0 (paired_joinable a b yes_made.is no_made.is) (sides_there a b yes_made.is no_made.is) w.2);
+              (joined_is (IsTestedIn st.first.left st.first.right) s a b w.0 (paired_joinable a b yes_made.is no_made.is)
+              (sides_there a b yes_made.is no_made.is) w.2);
         }
 
   -- what is made of two trees is their product
-  pub paired_product : {ls : List (Tree A)} {x : ℕ} {rs : List (Tree B)} {y : ℕ} {us : List (Tree C)} {k : ℕ} → IsPairedAt R ls x rs y us k → IsProduct R ls x rs y us k
+  pub paired_product : {ls : List (Tree A)} {x : ℕ} {rs : List (Tree B)} {y : ℕ} {us : List (Tree C)} {k : ℕ} → IsPairedAt R ls x rs y us k
+      → IsProduct R ls x rs y us k
   paired_product made = record {
     product = made.paired;
     is = made.is;

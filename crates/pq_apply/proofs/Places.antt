@@ -16,7 +16,10 @@ use Rattle.pq_apply.proofs.Splits.{IsRoot, IsSide, root_lawful, split_no, split_
 -- the first of a lawful test and a lawful root is lawful
 pub earlier_lawful : (r : Test) (other : Option Test) (s : Test) → IsLawful r → IsLawfulRoot other → IsEarlier r other s → IsLawful s
 earlier_lawful r None s lawful root earlier = elim earlier.is [ inl is ↦ subst IsLawful (sym is) lawful | inr is ↦ absurd cc ]
-earlier_lawful r (Some t) s lawful root earlier = elim earlier.is [ inl is ↦ subst IsLawful (sym is) lawful | inr is ↦ (let same : t ≡ s = cc in subst IsLawful same root) ]
+earlier_lawful r (Some t) s lawful root earlier = elim earlier.is [
+  | inl is ↦ subst IsLawful (sym is) lawful
+  | inr is ↦ (let same : t ≡ s = cc in subst IsLawful same root)
+]
 
 -- a number is no larger than another, and smaller where this holds
 pub record IsSmaller (Where : Type 0) (less more : ℕ) : Type 0 where
@@ -38,7 +41,8 @@ module _ {L : Type 0} where
 
   -- a node whose root is the test splits into its sides
   pub splits_root : (ts : List (Tree L)) (s r : Test) (k i j : ℕ) → ShowsBranch ts k r i j → LeadsAt s ts k → (Precedes s r → ⊥) → SplitsAt ts s k i j
-  splits_root ts s r k i j shows leads not t t_is = (shows.yes_tree, shows.no_tree, shows.yes_is, shows.no_is, inl (own (leads (Fork r shows.yes_tree shows.no_tree) shows.is)))
+  splits_root ts s r k i j shows leads not t t_is =
+      (shows.yes_tree, shows.no_tree, shows.yes_is, shows.no_is, inl (own (leads (Fork r shows.yes_tree shows.no_tree) shows.is)))
     where
       own : IsAtOrBefore s r → t ≡ Fork s shows.yes_tree shows.no_tree
       own (inl is) = same_tree ts k t (Fork r shows.yes_tree shows.no_tree) t_is shows.is ∙ ap (λ x. Fork x shows.yes_tree shows.no_tree) (sym is)
@@ -73,7 +77,8 @@ module _ {L : Type 0} where
     pub no_side : IsSide false s t no
 
   -- so they are, in a store of diagrams
-  pub sides_at : (ts : List (Tree L)) (s : Test) (t : Tree L) (k i j : ℕ) → IsLawful s → AreDiagrams ts → slice_get ts k ≡ Some t → SplitsAt ts s k i j → SidesAt ts s t i j
+  pub sides_at : (ts : List (Tree L)) (s : Test) (t : Tree L) (k i j : ℕ) → IsLawful s → AreDiagrams ts → slice_get ts k ≡ Some t
+      → SplitsAt ts s k i j → SidesAt ts s t i j
   sides_at ts s t k i j lawful diagrams t_is splits =
       let p = splits t t_is in
       let d = diagrams k t t_is in
@@ -95,11 +100,13 @@ module _ {L : Type 0} where
   no_within {ts} {s} {t} {i} {j} sides = slice_get_within ts j sides.no sides.no_is
 
   -- the yes side is no larger, and smaller where the test is the root
-  pub yes_small : {ts : List (Tree L)} {s : Test} {t : Tree L} {i j : ℕ} (k : ℕ) → slice_get ts k ≡ Some t → SidesAt ts s t i j → IsSmaller (IsRoot s t) (size_at ts i) (size_at ts k)
+  pub yes_small : {ts : List (Tree L)} {s : Test} {t : Tree L} {i j : ℕ} (k : ℕ) → slice_get ts k ≡ Some t → SidesAt ts s t i j
+      → IsSmaller (IsRoot s t) (size_at ts i) (size_at ts k)
   yes_small k t_is sides = rw (sides.yes_is, t_is) (record { small = sides.yes_side.small; smaller = sides.yes_side.smaller })
 
   -- and so is the no side
-  pub no_small : {ts : List (Tree L)} {s : Test} {t : Tree L} {i j : ℕ} (k : ℕ) → slice_get ts k ≡ Some t → SidesAt ts s t i j → IsSmaller (IsRoot s t) (size_at ts j) (size_at ts k)
+  pub no_small : {ts : List (Tree L)} {s : Test} {t : Tree L} {i j : ℕ} (k : ℕ) → slice_get ts k ≡ Some t → SidesAt ts s t i j
+      → IsSmaller (IsRoot s t) (size_at ts j) (size_at ts k)
   no_small k t_is sides = rw (sides.no_is, t_is) (record { small = sides.no_side.small; smaller = sides.no_side.smaller })
 
   -- sides keep their places while the store grows

@@ -1,5 +1,6 @@
 -- The diagrams of predicates, from those of their parts.
-use Rattle.std.proofs.Common.{ℕ, ◌+◌, ◌<◌, ◌≤◌, ◌≡◌, ◌∙◌, Bool, true, false, not, List, [], ◌∷◌, map, drop, get_or, length, suc, Some, if◌then◌else◌, refl, sym, ap, subst, add-one}
+use Rattle.std.proofs.Common.{ℕ, ◌+◌, ◌<◌, ◌≤◌, ◌≡◌, ◌∙◌, Bool, true, false, not, List, [], ◌∷◌, map, drop, get_or, length, suc, Some}
+use Rattle.std.proofs.Common.{if◌then◌else◌, refl, sym, ap, subst, add-one}
 use Rattle.std.specs.Prelude.{slice_get, All}
 use Rattle.std.specs.List.{list_any}
 use Rattle.std.proofs.Math.Seq.{drop-cons}
@@ -30,7 +31,8 @@ pub rest_fit : (top : PredTop) (below rest : Preds) → FitAsNodes (put top belo
 rest_fit top below rest = room_for (λ ns within. within.2)
 
 -- predicates from an index on are the one there and those from the next on
-pub one_of : (ps : List Pred) (i : ℕ) (p : Pred) → i < length ps → p ≡ get_or ps i p → pred_trees (drop i ps) ≡ put (pred_tree p).top (pred_tree p).below (pred_trees (drop (i + 1) ps))
+pub one_of : (ps : List Pred) (i : ℕ) (p : Pred) → i < length ps → p ≡ get_or ps i p
+    → pred_trees (drop i ps) ≡ put (pred_tree p).top (pred_tree p).below (pred_trees (drop (i + 1) ps))
 one_of ps i p within is =
     ap pred_trees (drop-cons ps i p within)
     ∙ (ap (λ q. put (pred_tree q).top (pred_tree q).below (pred_trees (drop (suc i) ps))) (sym is)
@@ -54,7 +56,8 @@ pub tree_is : (ts : List (Tree Bool)) (id : ℕ) (t : Tree Bool) → slice_get t
 tree_is ts id t is = get_or_from_slice_get ts id t (Tip false) is
 
 -- they say whether the operands hold
-pub hold_values : (ps : Preds) (ts : List (Tree Bool)) (ids : List ℕ) (x : Numbers) → Fit x → HoldAt ps ts ids → map (λ u. value u x) (trees_at ts ids) ≡ truths ps x
+pub hold_values : (ps : Preds) (ts : List (Tree Bool)) (ids : List ℕ) (x : Numbers) → Fit x → HoldAt ps ts ids
+    → map (λ u. value u x) (trees_at ts ids) ≡ truths ps x
 hold_values none ts [] x fit h = refl
 hold_values none ts (id ∷ ids) x fit h = absurd h
 hold_values (put top below rest) ts [] x fit h = absurd h
@@ -66,7 +69,8 @@ hold_values (put top below rest) ts (id ∷ ids) x fit h =
     ap (λ b. b ∷ map (λ u. value u x) (trees_at ts ids)) one ∙ ap (λ bs. holds (first_of_all top below) x ∷ bs) more
 
 -- they test only the operands' numbers
-pub hold_tests : (ns : Field → List ℕ) (ps : Preds) (ts : List (Tree Bool)) (ids : List ℕ) → ArePredsWithin ns ps → HoldAt ps ts ids → All (Within ns) (trees_at ts ids)
+pub hold_tests : (ns : Field → List ℕ) (ps : Preds) (ts : List (Tree Bool)) (ids : List ℕ) → ArePredsWithin ns ps → HoldAt ps ts ids
+    → All (Within ns) (trees_at ts ids)
 hold_tests ns none ts [] within h = All-nil (Within ns)
 hold_tests ns none ts (id ∷ ids) within h = absurd h
 hold_tests ns (put top below rest) ts [] within h = absurd h
@@ -74,14 +78,16 @@ hold_tests ns (put top below rest) ts (id ∷ ids) within h =
     let first = h.0 in
     let told = first.2 in
     let own : Within ns first.0 = told.tests ns (within.0, within.1, tt) in
-    All-cons (Within ns) (get_or ts id (Tip false)) (trees_at ts ids) (subst (Within ns) (sym (tree_is ts id first.0 first.1)) own) (hold_tests ns rest ts ids within.2 h.1)
+    All-cons (Within ns) (get_or ts id (Tip false)) (trees_at ts ids) (subst (Within ns) (sym (tree_is ts id first.0 first.1)) own)
+    (hold_tests ns rest ts ids within.2 h.1)
 
 -- so they may come together
 pub hold_fit : (ps : Preds) (ts : List (Tree Bool)) (ids : List ℕ) → FitAsNodes ps → HoldAt ps ts ids → FitTogetherAll (trees_at ts ids)
 hold_fit ps ts ids fit h = room_for (λ ns within. hold_tests ns ps ts ids within h) fit
 
 -- and their junction is that of the operands
-pub hold_joined : (every : Bool) (ps : Preds) (ts us : List (Tree Bool)) (ids : List ℕ) (id : ℕ) → HoldAt ps ts ids → JunctionAt every (trees_at ts ids) us id → JoinedAt every ps us id
+pub hold_joined : (every : Bool) (ps : Preds) (ts us : List (Tree Bool)) (ids : List ℕ) (id : ℕ) → HoldAt ps ts ids
+    → JunctionAt every (trees_at ts ids) us id → JoinedAt every ps us id
 hold_joined every ps ts us ids id h junction =
     let made = junction.2 in (
       junction.0,
@@ -93,7 +99,8 @@ hold_joined every ps ts us ids id h junction =
     )
 
 -- a recoded diagram is that of the negation
-pub negated_node : (p : PredTree) (ts us : List (Tree Bool)) (inner id : ℕ) → HoldsAt p ts inner → RecodesAt false true ts inner us id → HoldsAt (first_of_all Negated (preds (p ∷ []))) us id
+pub negated_node : (p : PredTree) (ts us : List (Tree Bool)) (inner id : ℕ) → HoldsAt p ts inner → RecodesAt false true ts inner us id
+    → HoldsAt (first_of_all Negated (preds (p ∷ []))) us id
 negated_node p ts us inner id h recodes =
     let told = h.2 in
     let made = recodes h.0 h.1 in

@@ -24,7 +24,8 @@ triple_exact p q h =
 
 module _ {K S : Type 0} (eq : K → K → Bool) where
   -- what is made stays remembered where it stays made
-  pub remembers_still : (Made Still : K → ℕ → Type 0) (done : IndexMap K ℕ S) → ((key : K) (id : ℕ) → Made key id → Still key id) → Remembers eq Made done → Remembers eq Still done
+  pub remembers_still : (Made Still : K → ℕ → Type 0) (done : IndexMap K ℕ S) → ((key : K) (id : ℕ) → Made key id → Still key id)
+      → Remembers eq Made done → Remembers eq Still done
   remembers_still Made Still done still remembers key id h = still key id (remembers key id h)
 
   -- and one more is remembered

@@ -1,7 +1,8 @@
 -- The numbers in prerequisites among others.
 use Rattle.std.proofs.Common.{ℕ, zero, suc, ◌∙◌, List, [], ◌∷◌, sym, subst, arith}
 use Rattle.pq_fields.specs.declared.field.Field.{Field}
-use Rattle.pq_fields.specs.declared.field.Field.TheVariants.{Switch, Port, EthType, IpProto, EthSrc, EthDst, Ipv4Src, Ipv4Dst, TcpSrc, TcpDst, UdpSrc, UdpDst, Ipv6Src, Ipv6Dst}
+use Rattle.pq_fields.specs.declared.field.Field.TheVariants.{Switch, Port, EthType, IpProto, EthSrc, EthDst, Ipv4Src, Ipv4Dst, TcpSrc}
+use Rattle.pq_fields.specs.declared.field.Field.TheVariants.{TcpDst, UdpSrc, UdpDst, Ipv6Src, Ipv6Dst}
 use Rattle.pq_apply.specs.Predicates.{NeedsAmong}
 use Rattle.pq_store.specs.Room.{IsAmong}
 
@@ -23,7 +24,8 @@ one_among : (n : ℕ) (ms : List ℕ) → IsAmong n ms → AreAmong (n ∷ []) m
 one_among n ms first = more_among n [] ms first (none_among ms)
 
 -- with the EtherTypes and protocols of IP the numbers in each field's prerequisites are among some
-module _ (ns : Field → List ℕ) (ipv4 : IsAmong 0x0800 (ns EthType)) (ipv6 : IsAmong 0x86dd (ns EthType)) (tcp : IsAmong 6 (ns IpProto)) (udp : IsAmong 17 (ns IpProto)) where
+module _ (ns : Field → List ℕ) (ipv4 : IsAmong 0x0800 (ns EthType)) (ipv6 : IsAmong 0x86dd (ns EthType)) (tcp : IsAmong 6 (ns IpProto))
+    (udp : IsAmong 17 (ns IpProto)) where
   -- of fields without prerequisites
   always : (f : Field) → AreAmong [] (ns f)
   always f = none_among (ns f)

@@ -93,17 +93,28 @@ module _ {L : Type 0} where
       by false = refl
 
   -- what a side tests the fork tests, and it tests no more numbers on a path
-  pub side_part : (b : Bool) (s : Test) (y n u : Tree L) → u ≡ (if b then y else n) → ((r : Test) → IsTested r u → IsTested r (Fork s y n)) × ((g : Field) → most g u ≤ most g (Fork s y n))
-  side_part true s y n u is = ((λ r tested. inr (inl (subst (IsTested r) is tested))), λ g. let e = ap (most g) is in omega (arith, le-max_left (most g y) (most g n)))
-  side_part false s y n u is = ((λ r tested. inr (inr (subst (IsTested r) is tested))), λ g. let e = ap (most g) is in omega (arith, le-max_right (most g y) (most g n)))
+  pub side_part : (b : Bool) (s : Test) (y n u : Tree L) → u ≡ (if b then y else n)
+      → ((r : Test) → IsTested r u → IsTested r (Fork s y n)) × ((g : Field) → most g u ≤ most g (Fork s y n))
+  side_part true s y n u is = (
+    (λ r tested. inr (inl (subst (IsTested r) is tested))),
+    λ g. let e = ap (most g) is in
+        omega (arith, le-max_left (most g y) (most g n)),
+  )
+  side_part false s y n u is = (
+    (λ r tested. inr (inr (subst (IsTested r) is tested))),
+    λ g. let e = ap (most g) is in
+        omega (arith, le-max_right (most g y) (most g n)),
+  )
 
   -- the tree at the place of a side
-  pub side_at : (b : Bool) (ts : List (Tree L)) (i j next : ℕ) (y n u : Tree L) → slice_get ts i ≡ Some y → slice_get ts j ≡ Some n → next ≡ (if b then i else j) → slice_get ts next ≡ Some u → u ≡ (if b then y else n)
+  pub side_at : (b : Bool) (ts : List (Tree L)) (i j next : ℕ) (y n u : Tree L) → slice_get ts i ≡ Some y → slice_get ts j ≡ Some n
+      → next ≡ (if b then i else j) → slice_get ts next ≡ Some u → u ≡ (if b then y else n)
   side_at true ts i j next y n u y_is n_is is at = let e = ap (slice_get ts) is in cc
   side_at false ts i j next y n u y_is n_is is at = let e = ap (slice_get ts) is in cc
 
   -- where a test of the field is the root, the restriction of the side is that of the whole
-  pub side_restricted : (f : Field) (v : ℕ) (old new : List (Tree L)) (k next id : ℕ) → Keeps old new → StepsAt f v old k (Side next) → IsRestrictedAt f v new next id → IsRestrictedAt f v new k id
+  pub side_restricted : (f : Field) (v : ℕ) (old new : List (Tree L)) (k next id : ℕ) → Keeps old new → StepsAt f v old k (Side next)
+      → IsRestrictedAt f v new next id → IsRestrictedAt f v new k id
   side_restricted f v old new k next id keeps step done =
       let s = step.0 in
       let shows = step.3 in
@@ -163,8 +174,10 @@ module _ {L : Type 0} where
     pub right_few : (g : Field) → most g b ≤ most g n
 
   -- the trees at places are such
-  pub sides_restricted : (f : Field) (v : ℕ) (old mid : List (Tree L)) (k i j a b : ℕ) (s : Test) (u w : Tree L) → AreDiagrams old → Keeps old mid → (step : StepsAt f v old k (Both s i j))
-      → IsRestrictedAt f v mid i a → IsRestrictedAt f v mid j b → slice_get mid a ≡ Some u → slice_get mid b ≡ Some w → AreSidesRestricted f v s step.0.yes_tree step.0.no_tree u w
+  pub sides_restricted : (f : Field) (v : ℕ) (old mid : List (Tree L)) (k i j a b : ℕ) (s : Test) (u w : Tree L) → AreDiagrams old
+      → Keeps old mid → (step : StepsAt f v old k (Both s i j))
+      → IsRestrictedAt f v mid i a → IsRestrictedAt f v mid j b → slice_get mid a ≡ Some u → slice_get mid b ≡ Some w
+      → AreSidesRestricted f v s step.0.yes_tree step.0.no_tree u w
   sides_restricted f v old mid k i j a b s u w diagrams keeps step left right u_is w_is =
       let shows = step.0 in
       let y = shows.yes_tree in
@@ -204,7 +217,8 @@ module _ {L : Type 0} where
 
   -- what is joined of them is the restriction of the whole
   pub sides_join_restricted : (f : Field) (v : ℕ) (s : Test) (y n a b r : Tree L) → AreSidesRestricted f v s y n a b → IsJoin s a b r
-      → ((x : Numbers) → value r x ≡ (if passes s x then value a x else value b x)) → IsRestriction f v (Fork s y n) r × ((g : Field) → most g r ≤ most g (Fork s y n))
+      → ((x : Numbers) → value r x ≡ (if passes s x then value a x else value b x))
+      → IsRestriction f v (Fork s y n) r × ((g : Field) → most g r ≤ most g (Fork s y n))
   sides_join_restricted f v s y n a b r sides join says = (record { gives = gives; tests = tests join; untested = untested join }, few join)
     where
       gives : (x : Numbers) → value r x ≡ value (Fork s y n) (with_number f v x)
@@ -213,7 +227,8 @@ module _ {L : Type 0} where
           let right = sides.right in
           let earlier = sides.earlier in
           let test = passes_kept s f v x (λ e. omega arith) in
-          says x ∙ ((λ k. if passes s x then left.gives x k else right.gives x k) ∙ ap (λ c. if c then value y (with_number f v x) else value n (with_number f v x)) (sym test))
+          says x ∙ ((λ k. if passes s x then left.gives x k else right.gives x k)
+          ∙ ap (λ c. if c then value y (with_number f v x) else value n (with_number f v x)) (sym test))
 
       tests : IsJoin s a b r → (q : Test) → IsTested q r → IsTested q (Fork s y n)
       tests (inl same) q tested = let right = sides.right in inr (inr (right.tests q (subst (IsTested q) same.1 tested)))
@@ -243,7 +258,8 @@ module _ {L : Type 0} where
   chosen_value false o p q r u w o_is p_is q_is same = cc
 
   -- the node over restrictions of the sides has the restriction of the whole
-  pub both_restricted : (f : Field) (v : ℕ) (old mid new : List (Tree L)) (k i j a b id : ℕ) (s : Test) → AreDiagrams old → Keeps old mid → StepsAt f v old k (Both s i j)
+  pub both_restricted : (f : Field) (v : ℕ) (old mid new : List (Tree L)) (k i j a b id : ℕ) (s : Test) → AreDiagrams old → Keeps old mid
+      → StepsAt f v old k (Both s i j)
       → IsRestrictedAt f v mid i a → IsRestrictedAt f v mid j b → JoinsAt mid s a b new id
       → ((x : Numbers) → value_at new id x ≡ (if passes s x then value_at mid a x else value_at mid b x)) → Keeps mid new → IsRestrictedAt f v new k id
   both_restricted f v old mid new k i j a b id s diagrams keeps step left right joins says grows =
@@ -267,7 +283,8 @@ module _ {L : Type 0} where
 
   -- what is remembered of restrictions stays true, and one more is remembered
   pub remembers_restricted : {S : Type 0} (f : Field) (v : ℕ) (mid new : List (Tree L)) (k id : ℕ) (old_done new_done : IndexMap ℕ ℕ S) → Keeps mid new
-      → Remembers (λ x y. x == y) (λ key i. IsRestrictedAt f v mid key i) old_done → IsRestrictedAt f v new k id → Updates (λ x y. x == y) old_done new_done k (Some id)
+      → Remembers (λ x y. x == y) (λ key i. IsRestrictedAt f v mid key i) old_done → IsRestrictedAt f v new k id
+      → Updates (λ x y. x == y) old_done new_done k (Some id)
       → Remembers (λ x y. x == y) (λ key i. IsRestrictedAt f v new key i) new_done
   remembers_restricted f v mid new k id old_done new_done keeps remembers made updates =
       remembers_more (λ x y. x == y) (λ key i. IsRestrictedAt f v new key i) old_done new_done k id (λ x y same. eqb-true x y same)

@@ -187,7 +187,8 @@ module _ {L : Type 0} where
     pub no_tested : (r : Test) → IsTested r n → Tested r × Precedes s r
 
   -- where the numbers of all tests are few they may be sides
-  pub joinable : (Tested : Test → Type 0) (ns : Field → List ℕ) (s : Test) (y n : Tree L) → AreFew ns → HaveNumbers ns Tested → AreSides Tested s y n → IsJoinable s y n
+  pub joinable : (Tested : Test → Type 0) (ns : Field → List ℕ) (s : Test) (y n : Tree L) → AreFew ns → HaveNumbers ns Tested
+      → AreSides Tested s y n → IsJoinable s y n
   joinable Tested ns s y n few among are =
       let before_y : IsBefore s y = tests_before s y (λ r tested. (are.yes_tested r tested).1) in
       let before_n : IsBefore s n = tests_before s n (λ r tested. (are.no_tested r tested).1) in
@@ -196,7 +197,12 @@ module _ {L : Type 0} where
         before_yes = before_y;
         before_no = before_n;
         once = others_skip s y (λ r tested. (are.yes_tested r tested).2);
-        fits = few_fit ns (Fork s y n) few within (are.lawful, are.yes_diagram.lawful, are.no_diagram.lawful) (before_y, before_n, are.yes_diagram.ascends, are.no_diagram.ascends);
+        fits = few_fit ns (Fork s y n) few within (are.lawful, are.yes_diagram.lawful, are.no_diagram.lawful) (
+          before_y,
+          before_n,
+          are.yes_diagram.ascends,
+          are.no_diagram.ascends,
+        );
       }
     where
       within : Within ns (Fork s y n)
@@ -212,7 +218,8 @@ module _ {L : Type 0} where
     pub gives_no : (x : Numbers) → passes s x ≡ false → value joined x ≡ value n x
 
   -- so is what `node` makes of them
-  pub joined_is : (Tested : Test → Type 0) (s : Test) (y n joined : Tree L) → IsJoinable s y n → AreSides Tested s y n → IsJoin s y n joined → IsJoined Tested s y n joined
+  pub joined_is : (Tested : Test → Type 0) (s : Test) (y n joined : Tree L) → IsJoinable s y n → AreSides Tested s y n → IsJoin s y n joined
+      → IsJoined Tested s y n joined
   joined_is Tested s y n joined may are (inl equal) = subst (IsJoined Tested s y n) (sym equal.1) (record {
     diagram = are.no_diagram;
     tested = λ r tested. (are.no_tested r tested).0;

@@ -19,7 +19,8 @@ abbrev pub FitTogetherAt : {A B : Type 0} → List (Tree A) → ℕ → List (Tr
 FitTogetherAt {A} {B} ls x rs y = (t : Tree A) (u : Tree B) → slice_get ls x ≡ Some t → slice_get rs y ≡ Some u → FitTogether t u
 
 -- the tree at place k is on each packet what R makes of two trees, and tests only what they test
-pub record IsProduct {A B C : Type 0} (R : A → B → C → Type 0) (ls : List (Tree A)) (x : ℕ) (rs : List (Tree B)) (y : ℕ) (us : List (Tree C)) (k : ℕ) : Type 0 where
+pub record IsProduct {A B C : Type 0} (R : A → B → C → Type 0) (ls : List (Tree A)) (x : ℕ) (rs : List (Tree B)) (y : ℕ)
+    (us : List (Tree C)) (k : ℕ) : Type 0 where
   pub product : Tree C
   pub is : slice_get us k ≡ Some product
   pub gives : (t : Tree A) (u : Tree B) → slice_get ls x ≡ Some t → slice_get rs y ≡ Some u → (p : Numbers) → R (value t p) (value u p) (value product p)

@@ -46,4 +46,5 @@ module _ {L : Type 0} where
 
   -- two places have what the tree at a place splits into
   abbrev pub SplitsAt : List (Tree L) → Test → ℕ → ℕ → ℕ → Type 0
-  SplitsAt ts s k i j = (t : Tree L) → slice_get ts k ≡ Some t → (y : Tree L) × (n : Tree L) × (slice_get ts i ≡ Some y) × (slice_get ts j ≡ Some n) × IsSplit s t y n
+  SplitsAt ts s k i j = (t : Tree L) → slice_get ts k ≡ Some t
+      → (y : Tree L) × (n : Tree L) × (slice_get ts i ≡ Some y) × (slice_get ts j ≡ Some n) × IsSplit s t y n

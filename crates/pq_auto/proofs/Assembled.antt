@@ -22,7 +22,8 @@ no_more : (n m : ℕ) → ((s : ℕ) → s < n → s < m) → n ≤ m
 no_more zero m h = omega arith
 no_more (suc n) m h = let last : n < m = h n (omega arith) in omega (arith, last)
 
-module _ {K : Type 0} (goes : K → ℕ → K) (begin : K) (a : Machine) (keys : List K) (searched : IsSearched goes begin a.letters keys a.rows) (all : length keys ≤ length a.rows) where
+module _ {K : Type 0} (goes : K → ℕ → K) (begin : K) (a : Machine) (keys : List K) (searched : IsSearched goes begin a.letters keys a.rows)
+    (all : length keys ≤ length a.rows) where
   -- there are as many states as keys
   pub same_count : length keys ≡ length a.rows
   same_count =
@@ -43,13 +44,17 @@ module _ {K : Type 0} (goes : K → ℕ → K) (begin : K) (a : Machine) (keys :
 
     -- the parity of the state that a word leads to
     pub even_reached : (w : List ℕ) → AllBelow a.letters w → is_even_at a (reached a w) ≡ even (run goes begin w)
-    even_reached w below = ap (λ es. get_or es (reached a w) true) evens ∙ changed_at even keys (reached a w) (run goes begin w) true (key_reached goes begin a keys searched all w below)
+    even_reached w below = ap (λ es. get_or es (reached a w) true) evens
+        ∙ changed_at even keys (reached a w) (run goes begin w) true (key_reached goes begin a keys searched all w below)
 
     -- what it accepts
     pub accepted_reached : (w : List ℕ) → AllBelow a.letters w → accepted_at a (reached a w) ≡ accepted (run goes begin w)
-    accepted_reached w below = ap (λ ps. get_or ps (reached a w) []) accepts ∙ changed_at accepted keys (reached a w) (run goes begin w) [] (key_reached goes begin a keys searched all w below)
+    accepted_reached w below = ap (λ ps. get_or ps (reached a w) []) accepts
+        ∙ changed_at accepted keys (reached a w) (run goes begin w) [] (key_reached goes begin a keys searched all w below)
 
-module _ (tables : List Machine) (a : Machine) (keys : List (List ℕ)) (searched : IsSearched (steps tables) (begin tables) a.letters keys a.rows) (all : length keys ≤ length a.rows) (evens : a.even ≡ map is_even_key keys) (accepts : a.accepted ≡ map (accepting tables) keys) where
+module _ (tables : List Machine) (a : Machine) (keys : List (List ℕ))
+    (searched : IsSearched (steps tables) (begin tables) a.letters keys a.rows) (all : length keys ≤ length a.rows)
+    (evens : a.even ≡ map is_even_key keys) (accepts : a.accepted ≡ map (accepting tables) keys) where
   pub says_parity : (w : List ℕ) → AllBelow a.letters w → is_even_at a (reached a w) ≡ has_even_length w
   says_parity w below = even_reached (steps tables) (begin tables) a keys searched all is_even_key (accepting tables) evens accepts w below ∙ parity_of tables w
 

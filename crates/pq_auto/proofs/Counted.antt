@@ -21,7 +21,8 @@ pub count_within : (U rs : List (List ℕ)) → IsDistinct (pointwise nat_eq) rs
 count_within U rs distinct are = length-le_from_is_member nat_list_eq_equiv rs U distinct (λ r is. found U rs r are is)
 
 -- what is true at each place is true of all changed elements
-pub all_changed : {A B : Type 0} (P : B → Type 0) (f : A → B) (xs : List A) → ((i : ℕ) (x : A) → slice_get xs i ≡ Some x → P (f x)) → AllByRecursion P (map f xs)
+pub all_changed : {A B : Type 0} (P : B → Type 0) (f : A → B) (xs : List A) → ((i : ℕ) (x : A) → slice_get xs i ≡ Some x → P (f x))
+    → AllByRecursion P (map f xs)
 all_changed P f [] each = tt
 all_changed P f (x ∷ xs) each = (each 0 x refl, all_changed P f xs (λ i y at. each (suc i) y at))
 
@@ -35,4 +36,8 @@ one_of_all P (y ∷ xs) all (suc i) x at = one_of_all P xs all.1 i x at
 pub distinct_lists : (keys : List (Vec ℕ Global)) → IsDistinct same_list keys → IsDistinct (pointwise nat_eq) (lists keys)
 unfolding IsDistinct
 distinct_lists [] distinct = tt
-distinct_lists (x ∷ keys) distinct = (all_changed (λ ys. pointwise nat_eq x.items ys ≡ false) (λ (v : Vec ℕ Global). v.items) keys (one_of_all (λ y. same_list x y ≡ false) keys distinct.0), distinct_lists keys distinct.1)
+distinct_lists (x ∷ keys) distinct = (
+  all_changed (λ ys. pointwise nat_eq x.items ys ≡ false) (λ (v : Vec ℕ Global). v.items) keys
+      (one_of_all (λ y. same_list x y ≡ false) keys distinct.0),
+  distinct_lists keys distinct.1,
+)

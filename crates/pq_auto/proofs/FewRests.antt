@@ -1,5 +1,6 @@
 -- Words of each parity lead an expression to few states.
-use Rattle.std.proofs.Common.{◌≡◌, ℕ, zero, suc, ◌+◌, ◌*◌, ◌≤◌, Bool, true, false, not, ◌&&◌, if◌then◌else◌, nat_eq, inl, inr, List, [], ◌∷◌, length, Some, refl, sym, ap, subst, ◌∙◌, arith}
+use Rattle.std.proofs.Common.{◌≡◌, ℕ, zero, suc, ◌+◌, ◌*◌, ◌≤◌, Bool, true, false, not, ◌&&◌, if◌then◌else◌, nat_eq, inl, inr, List, []}
+use Rattle.std.proofs.Common.{◌∷◌, length, Some, refl, sym, ap, subst, ◌∙◌, arith}
 use Rattle.std.specs.List.{slice_get, AllByRecursion, IsDistinct}
 use Rattle.std.specs.Cmp.Lexicographic.{pointwise}
 use Rattle.std.specs.contracts.prelude.BoolPartialEq.TheImpl.{ghosts as bools}
@@ -33,12 +34,15 @@ same_count : (b : Bool) (i : ℕ) (ks : List (StateValue × Bool)) → length (p
 same_count b i [] = refl
 same_count b i (k ∷ ks) = by (bools.eq b k.1) (same_count b (suc i) ks)
   where
-    by : (c : Bool) → length (places b (suc i) ks) ≡ length (rests_at b ks) → length (if c then i ∷ places b (suc i) ks else places b (suc i) ks) ≡ length (if c then k.0.rest ∷ rests_at b ks else rests_at b ks)
+    by : (c : Bool) → length (places b (suc i) ks) ≡ length (rests_at b ks)
+        → length (if c then i ∷ places b (suc i) ks else places b (suc i) ks)
+        ≡ length (if c then k.0.rest ∷ rests_at b ks else rests_at b ks)
     by true same = ap suc same
     by false same = same
 
 -- what is true of the rest of each state of one parity
-all_at : (P : List ℕ → Type 0) (b : Bool) (ks : List (StateValue × Bool)) → ((j : ℕ) (m : StateValue × Bool) → slice_get ks j ≡ Some m → bools.eq b m.1 ≡ true → P m.0.rest) → AllByRecursion P (rests_at b ks)
+all_at : (P : List ℕ → Type 0) (b : Bool) (ks : List (StateValue × Bool))
+    → ((j : ℕ) (m : StateValue × Bool) → slice_get ks j ≡ Some m → bools.eq b m.1 ≡ true → P m.0.rest) → AllByRecursion P (rests_at b ks)
 all_at P b [] each = tt
 all_at P b (k ∷ ks) each = by (bools.eq b k.1) (each 0 k refl) (all_at P b ks (λ j m at. each (suc j) m at))
   where
@@ -52,14 +56,17 @@ own_bool false = refl
 
 -- states of one parity that differ have rests that differ
 differ : (k m : StateValue × Bool) → k.1 ≡ m.1 → met_eq k m ≡ false → pointwise nat_eq k.0.rest m.0.rest ≡ false
-differ k m flag fails = by (pointwise nat_eq k.0.rest m.0.rest) (sym (ap (λ b. pointwise nat_eq k.0.rest m.0.rest && b) (ap (bools.eq k.1) (sym flag) ∙ own_bool k.1)) ∙ fails)
+differ k m flag fails =
+    by (pointwise nat_eq k.0.rest m.0.rest)
+    (sym (ap (λ b. pointwise nat_eq k.0.rest m.0.rest && b) (ap (bools.eq k.1) (sym flag) ∙ own_bool k.1)) ∙ fails)
   where
     by : (c : Bool) → (c && true) ≡ false → c ≡ false
     by true is = absurd cc
     by false is = refl
 
 -- a list more, where the test passes
-distinct_more : (c : Bool) (r : List ℕ) (rs : List (List ℕ)) → (c ≡ true → AllByRecursion (λ s. pointwise nat_eq r s ≡ false) rs) → IsDistinct (pointwise nat_eq) rs → IsDistinct (pointwise nat_eq) (if c then r ∷ rs else rs)
+distinct_more : (c : Bool) (r : List ℕ) (rs : List (List ℕ)) → (c ≡ true → AllByRecursion (λ s. pointwise nat_eq r s ≡ false) rs)
+    → IsDistinct (pointwise nat_eq) rs → IsDistinct (pointwise nat_eq) (if c then r ∷ rs else rs)
 unfolding IsDistinct
 distinct_more true r rs first rest = (first refl, rest)
 distinct_more false r rs first rest = rest
@@ -70,7 +77,9 @@ unfolding IsDistinct
 distinct_at b [] alike distinct = tt
 distinct_at b (k ∷ ks) alike distinct =
     distinct_more (bools.eq b k.1) k.0.rest (rests_at b ks)
-    (λ is. all_at (λ r. pointwise nat_eq k.0.rest r ≡ false) b ks (λ j m at same. differ k m (sym (exact_bool b k.1 is) ∙ exact_bool b m.1 same) (one_of_all (λ x. met_eq k x ≡ false) ks distinct.0 j m at)))
+    (λ is. all_at (λ r. pointwise nat_eq k.0.rest r ≡ false) b ks
+    (λ j m at same. differ k m (sym (exact_bool b k.1 is) ∙ exact_bool b m.1 same)
+    (one_of_all (λ x. met_eq k x ≡ false) ks distinct.0 j m at)))
     (distinct_at b ks (λ i j x y at_i at_j. alike (suc i) (suc j) x y at_i at_j) distinct.1)
 
 -- the place of a state of the parity is one of the places
@@ -92,7 +101,8 @@ placed b (k ∷ ks) i (suc n) r at is =
     by false one = one
 
 -- the parity behind a word
-pub even_behind : (alphabet : List (List Bool)) (w : List ℕ) (r : Rest) → (run (after alphabet) r w).even ≡ (if r.even then has_even_length w else not (has_even_length w))
+pub even_behind : (alphabet : List (List Bool)) (w : List ℕ) (r : Rest)
+    → (run (after alphabet) r w).even ≡ (if r.even then has_even_length w else not (has_even_length w))
 even_behind alphabet [] r = by r.even
   where
     by : (b : Bool) → b ≡ (if b then true else false)
@@ -106,11 +116,14 @@ even_behind alphabet (l ∷ w) r = even_behind alphabet w (after alphabet r l) �
     by false false = refl
 
 -- there are at most so many states of one parity as the expression has rests
-few_at : (e : ExprTree) (keys : List (StateValue × Bool)) → AreAlike keys → AreRestsOf e keys → IsDistinct met_eq keys → IsLawful e → (b : Bool) → length (rests_at b keys) ≤ most e
-few_at e keys alike are distinct lawful b = count_distinct e lawful (rests_at b keys) (distinct_at b keys alike distinct) (all_at (IsRest e) b keys (λ j m at same. subst (λ x. IsRest x m.0.rest) (are j m at).0 (are j m at).1))
+few_at : (e : ExprTree) (keys : List (StateValue × Bool)) → AreAlike keys → AreRestsOf e keys → IsDistinct met_eq keys → IsLawful e
+    → (b : Bool) → length (rests_at b keys) ≤ most e
+few_at e keys alike are distinct lawful b = count_distinct e lawful (rests_at b keys) (distinct_at b keys alike distinct)
+    (all_at (IsRest e) b keys (λ j m at same. subst (λ x. IsRest x m.0.rest) (are j m at).0 (are j m at).1))
 
 -- words of each parity lead to at most so many states
-pub few_states : (alphabet : List (List Bool)) (e : ExprTree) (keys : List (StateValue × Bool)) (t : Machine) → IsSearched (after alphabet) (whole e) (length alphabet) (rests keys) t.rows → length (rests keys) ≤ length t.rows
+pub few_states : (alphabet : List (List Bool)) (e : ExprTree) (keys : List (StateValue × Bool)) (t : Machine)
+    → IsSearched (after alphabet) (whole e) (length alphabet) (rests keys) t.rows → length (rests keys) ≤ length t.rows
     → AreAlike keys → AreRestsOf e keys → IsDistinct met_eq keys → IsLawful e → HasFew (length alphabet) t (most e)
 few_states alphabet e keys t searched all alike are distinct lawful b =
     let few = few_at e keys alike are distinct lawful b in
@@ -118,7 +131,8 @@ few_states alphabet e keys t searched all alike are distinct lawful b =
       places b 0 keys,
       omega (arith, few, same_count b 0 keys),
       λ w below is. subst (IsOneOf (places b 0 keys)) (none_more (follow t.rows 0 w)) (
-          placed b keys 0 (follow t.rows 0 w) (run (after alphabet) (whole e) w) (key_reached (after alphabet) (whole e) a (rests keys) searched all w below) (even_behind alphabet w (whole e) ∙ is)),
+          placed b keys 0 (follow t.rows 0 w) (run (after alphabet) (whole e) w)
+          (key_reached (after alphabet) (whole e) a (rests keys) searched all w below) (even_behind alphabet w (whole e) ∙ is)),
     )
   where
     none_more : (n : ℕ) → 0 + n ≡ n
@@ -130,12 +144,14 @@ all_places [] = refl
 all_places (k ∷ ks) = by k.1 (all_places ks)
   where
     by : (c : Bool) → length ks ≡ length (rests_at true ks) + length (rests_at false ks)
-        → suc (length ks) ≡ length (if bools.eq true c then k.0.rest ∷ rests_at true ks else rests_at true ks) + length (if bools.eq false c then k.0.rest ∷ rests_at false ks else rests_at false ks)
+        → suc (length ks) ≡ length (if bools.eq true c then k.0.rest ∷ rests_at true ks else rests_at true ks) + length
+        (if bools.eq false c then k.0.rest ∷ rests_at false ks else rests_at false ks)
     by true rest = omega (arith, rest)
     by false rest = omega (arith, rest)
 
 -- so a lawful expression has at most twice as many states as it has rests
-pub few_both : (e : ExprTree) (keys : List (StateValue × Bool)) → AreAlike keys → AreRestsOf e keys → IsDistinct met_eq keys → IsLawful e → length keys ≤ 2 * most e
+pub few_both : (e : ExprTree) (keys : List (StateValue × Bool)) → AreAlike keys → AreRestsOf e keys → IsDistinct met_eq keys → IsLawful e
+    → length keys ≤ 2 * most e
 few_both e keys alike are distinct lawful =
     let evens : length (rests_at true keys) ≤ most e = few_at e keys alike are distinct lawful true in
     let odds : length (rests_at false keys) ≤ most e = few_at e keys alike are distinct lawful false in

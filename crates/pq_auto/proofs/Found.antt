@@ -24,21 +24,27 @@ first_key (x ∷ old) new k n none h = absurd cc
 
 module _ {K : Type 0} (goes : K → ℕ → K) (begin : K) (letters : ℕ) where
   -- the search begins
-  pub found_first : (old new : List K) (k : K) (n : ℕ) (rows : List (List ℕ)) → old ≡ [] → k ≡ begin → IsNumber old k n new → rows ≡ [] → IsSearched goes begin letters new rows
+  pub found_first : (old new : List K) (k : K) (n : ℕ) (rows : List (List ℕ)) → old ≡ [] → k ≡ begin → IsNumber old k n new → rows ≡ []
+      → IsSearched goes begin letters new rows
   found_first old new k n rows none is number no_row =
       subst (λ rs. IsSearched goes begin letters new rs) (sym no_row)
       (subst (λ ks. IsSearched goes begin letters ks []) (sym (first_key old new k n none number ∙ ap (λ x. x ∷ []) is)) (begun goes begin letters))
 
   -- the search goes on
-  pub found_next : (keys new : List K) (rows more : List (Vec ℕ Global)) (row : Vec ℕ Global) (k : K) → IsSearched goes begin letters keys (lists rows) → slice_get keys (length rows) ≡ Some k → AreNumbers keys (targets goes k 0 letters) row.items new → more ≡ rows ++ row ∷ [] → IsSearched goes begin letters new (lists more)
+  pub found_next : (keys new : List K) (rows more : List (Vec ℕ Global)) (row : Vec ℕ Global) (k : K)
+      → IsSearched goes begin letters keys (lists rows) → slice_get keys (length rows) ≡ Some k
+      → AreNumbers keys (targets goes k 0 letters) row.items new → more ≡ rows ++ row ∷ [] → IsSearched goes begin letters new (lists more)
   found_next keys new rows more row k searched at numbers grown =
       let count : length (lists rows) ≡ length rows = length-map rows (λ v. v.items) in
       subst (λ rs. IsSearched goes begin letters new rs) (sym (ap lists grown ∙ map-append (λ v. v.items) rows (row ∷ [])))
       (expanded goes begin letters keys new (lists rows) k row.items searched (ap (slice_get keys) count ∙ at) numbers)
 
 -- the search goes on at a stored state
-pub found_more : (goes : List ℕ → ℕ → List ℕ) (begin : List ℕ) (letters : ℕ) (states : List (Vec ℕ Global)) (new : List (List ℕ)) (rows more : List (Vec ℕ Global)) (row at : Vec ℕ Global) (state : List ℕ) → IsSearched goes begin letters (lists states) (lists rows)
-    → length rows < length states → at ≡ get_or states (length rows) at → state ≡ at.items → AreNumbers (lists states) (targets goes state 0 letters) row.items new → more ≡ rows ++ row ∷ [] → IsSearched goes begin letters new (lists more)
+pub found_more : (goes : List ℕ → ℕ → List ℕ) (begin : List ℕ) (letters : ℕ) (states : List (Vec ℕ Global)) (new : List (List ℕ))
+    (rows more : List (Vec ℕ Global)) (row at : Vec ℕ Global) (state : List ℕ) → IsSearched goes begin letters (lists states) (lists rows)
+    → length rows < length states → at ≡ get_or states (length rows) at → state ≡ at.items
+    → AreNumbers (lists states) (targets goes state 0 letters) row.items new → more ≡ rows ++ row ∷ []
+    → IsSearched goes begin letters new (lists more)
 found_more goes begin letters states new rows more row at state searched h is same numbers grown =
     let stored : slice_get states (length rows) ≡ Some at = slice_get-get_or states (length rows) at h ∙ ap Some (sym is) in
     found_next goes begin letters (lists states) new rows more row state searched (stored_at states (length rows) at stored ∙ ap Some (sym same)) numbers grown

@@ -26,7 +26,8 @@ module _ (m a : Machine) (letters : a.letters ≡ m.letters) (same : SaySame m a
         let ns = few b in (
           map joined.0 ns.0,
           subst (λ k. k ≤ most) (sym (length-map ns.0 joined.0)) ns.1,
-          λ w below is. subst (IsOneOf (map joined.0 ns.0)) (sym (joined.1 w (subst (λ k. AllBelow k w) (sym count) below))) (one_changed joined.0 ns.0 (follow m.rows 0 w) (ns.2 w below is)),
+          λ w below is. subst (IsOneOf (map joined.0 ns.0)) (sym (joined.1 w (subst (λ k. AllBelow k w) (sym count) below)))
+              (one_changed joined.0 ns.0 (follow m.rows 0 w) (ns.2 w below is)),
         )
 
     pub still_table : (e : ExprTree) (alphabet : List (List Bool)) → IsTable alphabet m e → IsTable alphabet a e

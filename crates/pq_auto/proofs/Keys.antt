@@ -1,5 +1,6 @@
 -- Keys that are lists of numbers, in a set.
-use Rattle.std.proofs.Common.{◌≡◌, ℕ, zero, suc, Bool, true, false, ◌&&◌, ◌||◌, if◌then◌else◌, not, ◌+◌, arith, nat_eq, cond, List, [], ◌∷◌, ◌++◌, length, Some, inl, inr, Vec, Global, refl, sym, ap, ap₂, ◌∙◌}
+use Rattle.std.proofs.Common.{◌≡◌, ℕ, zero, suc, Bool, true, false, ◌&&◌, ◌||◌, if◌then◌else◌, not, ◌+◌, arith, nat_eq, cond, List, [], ◌∷◌}
+use Rattle.std.proofs.Common.{◌++◌, length, Some, inl, inr, Vec, Global, refl, sym, ap, ap₂, ◌∙◌}
 use Rattle.std.specs.List.{slice_get, list_any, position_or_len, IsDistinct, AllByRecursion}
 use Rattle.std.specs.Cmp.Lexicographic.{pointwise}
 use Rattle.std.proofs.lemmas.Bool.{eq-eqb, eqb-true, and_parts}
@@ -35,18 +36,25 @@ pub none_found : {X : Type 0} (p : X → Bool) (xs : List X) → list_any p xs �
 none_found p [] h = refl
 none_found p (x ∷ xs) h = by (p x) h (none_found p xs)
   where
-    by : (b : Bool) → (b || list_any p xs) ≡ false → (list_any p xs ≡ false → position_or_len p xs ≡ length xs) → cond (not b) (1 + position_or_len p xs) 0 ≡ suc (length xs)
+    by : (b : Bool) → (b || list_any p xs) ≡ false → (list_any p xs ≡ false → position_or_len p xs ≡ length xs)
+        → cond (not b) (1 + position_or_len p xs) 0 ≡ suc (length xs)
     by true fails rest = absurd cc
     by false fails rest = rw (rest fails) (omega arith)
 
 -- an insertion numbers the key
-pub numbers : (old new : List (Vec ℕ Global)) (k : Vec ℕ Global) (n : ℕ) → new ≡ insert_key same_list old k → (s : Vec ℕ Global) × (slice_get new n ≡ Some s) × (same_list k s ≡ true) → n ≡ position_or_len (same_list k) old → IsNumber (lists old) k.items n (lists new)
+pub numbers : (old new : List (Vec ℕ Global)) (k : Vec ℕ Global) (n : ℕ) → new ≡ insert_key same_list old k
+    → (s : Vec ℕ Global) × (slice_get new n ≡ Some s) × (same_list k s ≡ true) → n ≡ position_or_len (same_list k) old
+    → IsNumber (lists old) k.items n (lists new)
 numbers old new k n inserted stored index = by (list_any (same_list k) old) refl
   where
     by : (b : Bool) → list_any (same_list k) old ≡ b → IsNumber (lists old) k.items n (lists new)
     by true is =
         let same : new ≡ old = inserted ∙ ap (λ b. if b then old else old ++ k ∷ []) is in
-        inl (ap lists same, ap (λ ks. slice_get (lists ks) n) (sym same) ∙ stored_at new n stored.0 stored.1 ∙ ap Some (sym (exact k.items stored.0.items stored.2)))
+        inl (
+          ap lists same,
+          ap (λ ks. slice_get (lists ks) n) (sym same) ∙ stored_at new n stored.0 stored.1
+              ∙ ap Some (sym (exact k.items stored.0.items stored.2)),
+        )
     by false is =
         let grown : new ≡ old ++ k ∷ [] = inserted ∙ ap (λ b. if b then old else old ++ k ∷ []) is in
         inr (ap lists grown ∙ map-append (λ v. v.items) old (k ∷ []), index ∙ none_found (same_list k) old is ∙ sym (length-map old (λ v. v.items)))

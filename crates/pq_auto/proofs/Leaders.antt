@@ -1,5 +1,6 @@
 -- Classes that are named by their leaders are parts of the states, round by round.
-use Rattle.std.proofs.Common.{ℕ, ◌+◌, ◌<◌, ◌≡◌, ◌∙◌, ◌⊎◌, inl, inr, true, false, Bool, List, [], ◌∷◌, ◌++◌, length, map, get_or, Some, nat_eq, refl, sym, ap, ap₂, subst, arith}
+use Rattle.std.proofs.Common.{ℕ, ◌+◌, ◌<◌, ◌≡◌, ◌∙◌, ◌⊎◌, inl, inr, true, false, Bool, List, [], ◌∷◌, ◌++◌, length, map, get_or, Some}
+use Rattle.std.proofs.Common.{nat_eq, refl, sym, ap, ap₂, subst, arith}
 use Rattle.std.specs.Prelude.{slice_get}
 use Rattle.std.specs.Cmp.Lexicographic.{pointwise, nat_list_eq_equiv}
 use Rattle.std.proofs.lemmas.Bool.{cases_lt, true≢false}
@@ -18,7 +19,8 @@ module _ (m : Machine) (leaders : List ℕ) where
     -- what was seen stays
     pub next_stays : GivesFirst seen firsts (key_in m leaders s) s first new more → (u n : ℕ) → IsNext m leaders seen firsts u n → IsNext m leaders new more u n
     next_stays gives u n (inl stays) = inl stays
-    next_stays (inl known) u n (inr moved) = let p = moved.1 in inr (moved.0, (p.0, ap (λ ks. slice_get ks p.0) known.3 ∙ p.1, p.2 ∙ ap (λ fs. get_or fs p.0 0) (sym known.4)))
+    next_stays (inl known) u n (inr moved) = let p = moved.1 in
+        inr (moved.0, (p.0, ap (λ ks. slice_get ks p.0) known.3 ∙ p.1, p.2 ∙ ap (λ fs. get_or fs p.0 0) (sym known.4)))
     next_stays (inr fresh) u n (inr moved) =
         let p = moved.1 in
         let within : p.0 < length firsts = omega (arith, are.long, slice_get_within seen p.0 (key_in m leaders u) p.1) in
@@ -32,8 +34,10 @@ module _ (m : Machine) (leaders : List ℕ) where
         )
 
     -- the state's key is among those seen
-    pub next_first : GivesFirst seen firsts (key_in m leaders s) s first new more → (row_in m leaders s ≡ row_in m leaders (leader_in leaders s) → ⊥) → IsNext m leaders new more s first
-    next_first (inl known) moves = inr (moves, (known.0, ap (λ ks. slice_get ks known.0) known.3 ∙ known.1, known.2 ∙ ap (λ fs. get_or fs known.0 0) (sym known.4)))
+    pub next_first : GivesFirst seen firsts (key_in m leaders s) s first new more
+        → (row_in m leaders s ≡ row_in m leaders (leader_in leaders s) → ⊥) → IsNext m leaders new more s first
+    next_first (inl known) moves =
+        inr (moves, (known.0, ap (λ ks. slice_get ks known.0) known.3 ∙ known.1, known.2 ∙ ap (λ fs. get_or fs known.0 0) (sym known.4)))
     next_first (inr fresh) moves = inr (
       moves,
       (
@@ -46,19 +50,23 @@ module _ (m : Machine) (leaders : List ℕ) where
     -- each key is that of its first state
     pub firsts_after : s < length m.rows → GivesFirst seen firsts (key_in m leaders s) s first new more → AreFirsts m leaders new more
     firsts_after h (inl known) = subst (λ ks. AreFirsts m leaders ks more) (sym known.3) (subst (AreFirsts m leaders seen) (sym known.4) are)
-    firsts_after h (inr fresh) = subst (λ ks. AreFirsts m leaders ks more) (sym fresh.2) (subst (AreFirsts m leaders (seen ++ key_in m leaders s ∷ [])) (sym fresh.3) (record {
-      long = omega (arith, are.long, length-append firsts (s ∷ []), length-append seen (key_in m leaders s ∷ []));
-      once = λ p q k at_p at_q. once p q k (older_or_last seen (key_in m leaders s) p k at_p) (older_or_last seen (key_in m leaders s) q k at_q);
-      keyed = λ p k at. keyed p k (older_or_last seen (key_in m leaders s) p k at);
-    }))
+    firsts_after h (inr fresh) =
+        subst (λ ks. AreFirsts m leaders ks more) (sym fresh.2) (subst (AreFirsts m leaders (seen ++ key_in m leaders s ∷ [])) (sym fresh.3)
+        (record {
+          long = omega (arith, are.long, length-append firsts (s ∷ []), length-append seen (key_in m leaders s ∷ []));
+          once = λ p q k at_p at_q. once p q k (older_or_last seen (key_in m leaders s) p k at_p) (older_or_last seen (key_in m leaders s) q k at_q);
+          keyed = λ p k at. keyed p k (older_or_last seen (key_in m leaders s) p k at);
+        }))
       where
-        once : (p q : ℕ) (k : List ℕ) → (slice_get seen p ≡ Some k) ⊎ ((p ≡ length seen) × (k ≡ key_in m leaders s)) → (slice_get seen q ≡ Some k) ⊎ ((q ≡ length seen) × (k ≡ key_in m leaders s)) → p ≡ q
+        once : (p q : ℕ) (k : List ℕ) → (slice_get seen p ≡ Some k) ⊎ ((p ≡ length seen) × (k ≡ key_in m leaders s))
+            → (slice_get seen q ≡ Some k) ⊎ ((q ≡ length seen) × (k ≡ key_in m leaders s)) → p ≡ q
         once p q k (inl old_p) (inl old_q) = are.once p q k old_p old_q
         once p q k (inl old_p) (inr own_q) = absurd (fresh.0 p (old_p ∙ ap Some own_q.1))
         once p q k (inr own_p) (inl old_q) = absurd (fresh.0 q (old_q ∙ ap Some own_p.1))
         once p q k (inr own_p) (inr own_q) = own_p.0 ∙ sym own_q.0
 
-        keyed : (p : ℕ) (k : List ℕ) → (slice_get seen p ≡ Some k) ⊎ ((p ≡ length seen) × (k ≡ key_in m leaders s)) → (get_or (firsts ++ s ∷ []) p 0 < length m.rows) × (key_in m leaders (get_or (firsts ++ s ∷ []) p 0) ≡ k)
+        keyed : (p : ℕ) (k : List ℕ) → (slice_get seen p ≡ Some k) ⊎ ((p ≡ length seen) × (k ≡ key_in m leaders s))
+            → (get_or (firsts ++ s ∷ []) p 0 < length m.rows) × (key_in m leaders (get_or (firsts ++ s ∷ []) p 0) ≡ k)
         keyed p k (inl old) = rw (get_or_append_left firsts (s ∷ []) 0 p (omega (arith, are.long, slice_get_within seen p k old))) (are.keyed p k old)
         keyed p k (inr own) = rw (get_or_push firsts s 0 p (are.long ∙ sym own.0)) (h, sym own.1)
 
@@ -66,20 +74,25 @@ module _ (m : Machine) (leaders : List ℕ) where
   pub none_first : AreFirsts m leaders [] []
   none_first = record { long = refl; once = λ p q k at_p at_q. absurd cc; keyed = λ p k at. absurd cc }
 
-  module _ (machine : IsMachine m) (led : AreLed m leaders) (seen : List (List ℕ)) (firsts next : List ℕ) (are : AreFirsts m leaders seen firsts) (whole : length next ≡ length m.rows)
+  module _ (machine : IsMachine m) (led : AreLed m leaders) (seen : List (List ℕ)) (firsts next : List ℕ)
+      (are : AreFirsts m leaders seen firsts) (whole : length next ≡ length m.rows)
       (each : (s : ℕ) → s < length m.rows → IsNext m leaders seen firsts s (get_or next s 0)) where
     abbrev named : Parts
     named = record { seen = []; classes = leaders; firsts = [] }
 
     -- what is the same leads to the same leaders
     same_row : (s t : ℕ) → s < length m.rows → t < length m.rows → AreSame m s t → row_in m leaders s ≡ row_in m leaders t
-    same_row s t hs ht same = rows_same m machine named s t hs ht (λ l hl. led.coarse (get_or (row_of m s) l 0) (get_or (row_of m t) l 0) (next_within m machine s l hs hl) (next_within m machine t l ht hl) (λ w below. same (l ∷ w) (hl, below)))
+    same_row s t hs ht same =
+        rows_same m machine named s t hs ht
+        (λ l hl. led.coarse (get_or (row_of m s) l 0) (get_or (row_of m t) l 0) (next_within m machine s l hs hl)
+        (next_within m machine t l ht hl) (λ w below. same (l ∷ w) (hl, below)))
 
     within : (s n : ℕ) → s < length m.rows → IsNext m leaders seen firsts s n → n < length m.rows
     within s n h (inl stays) = subst (λ k. k < length m.rows) (sym stays.1) (led.within s h)
     within s n h (inr moved) = let p = moved.1 in subst (λ k. k < length m.rows) (sym p.2) (are.keyed p.0 (key_in m leaders s) p.1).0
 
-    coarse : (s t n k : ℕ) → leader_in leaders s ≡ leader_in leaders t → row_in m leaders s ≡ row_in m leaders t → IsNext m leaders seen firsts s n → IsNext m leaders seen firsts t k → n ≡ k
+    coarse : (s t n k : ℕ) → leader_in leaders s ≡ leader_in leaders t → row_in m leaders s ≡ row_in m leaders t
+        → IsNext m leaders seen firsts s n → IsNext m leaders seen firsts t k → n ≡ k
     coarse s t n k one row (inl stay_s) (inl stay_t) = stay_s.1 ∙ one ∙ sym stay_t.1
     coarse s t n k one row (inl stay_s) (inr move_t) = absurd (move_t.0 (sym row ∙ stay_s.0 ∙ ap (row_in m leaders) one))
     coarse s t n k one row (inr move_s) (inl stay_t) = absurd (move_s.0 (row ∙ stay_t.0 ∙ ap (row_in m leaders) (sym one)))
@@ -115,7 +128,9 @@ module _ (m : Machine) (leaders : List ℕ) where
     whole = whole;
     coarse = λ s t hs ht same. parted.together s t (omega (arith, whole)) (omega (arith, whole)) (ap (λ n. n ∷ []) (led.coarse s t hs ht same));
     fine = λ s t hs ht same.
-        let one : leader_in leaders s ≡ leader_in leaders t = ap (λ ks. get_or ks 0 0) (one_key (λ u. leader_in leaders u ∷ []) p parted s t (omega (arith, whole)) (omega (arith, whole)) same) in
+        let one : leader_in leaders s ≡ leader_in leaders t =
+        ap (λ ks. get_or ks 0 0) (one_key (λ u. leader_in leaders u ∷ []) p parted s t (omega (arith, whole))
+        (omega (arith, whole)) same) in
         led.fine s hs ∙ ap (mark m) one ∙ sym (led.fine t ht);
   }
 
@@ -142,8 +157,10 @@ pub unlike : (xs ys : List ℕ) (b : Bool) → b ≡ pointwise nat_eq xs ys → 
 unlike xs ys b told fails same = true≢false (sym (subst (λ (zs : List ℕ). pointwise nat_eq xs zs ≡ true) same (nat_list_eq_equiv.refl xs)) ∙ sym told ∙ fails)
 
 -- one element more
-pub each_more : (P : ℕ → ℕ → Type 0) (next more : List ℕ) (i n : ℕ) → length next ≡ i → more ≡ next ++ n ∷ [] → ((s : ℕ) → s < i → P s (get_or next s 0)) → P i n → (s : ℕ) → s < i + 1 → P s (get_or more s 0)
+pub each_more : (P : ℕ → ℕ → Type 0) (next more : List ℕ) (i n : ℕ) → length next ≡ i → more ≡ next ++ n ∷ []
+    → ((s : ℕ) → s < i → P s (get_or next s 0)) → P i n → (s : ℕ) → s < i + 1 → P s (get_or more s 0)
 each_more P next more i n long grown each own s h = elim (cases_lt s i) [
   | inl before ↦ subst (P s) (sym (ap (λ xs. get_or xs s 0) grown ∙ get_or_append_left next (n ∷ []) 0 s (omega (arith, long, before)))) (each s before)
-  | inr past ↦ let last : i ≡ s = omega (arith, past, h) in subst (P s) (sym (ap (λ xs. get_or xs s 0) grown ∙ get_or_push next n 0 s (long ∙ last))) (subst (λ k. P k n) last own)
+  | inr past ↦ let last : i ≡ s = omega (arith, past, h) in
+      subst (P s) (sym (ap (λ xs. get_or xs s 0) grown ∙ get_or_push next n 0 s (long ∙ last))) (subst (λ k. P k n) last own)
 ]

@@ -56,7 +56,8 @@ module _ (m : Machine) (p : Parts) (machine : IsMachine m) (last : IsLast m p) (
     ascend = λ c d less h.
         let d_in : d < length p.firsts = omega (arith, count_is m p machine last) in
         let c_in : c < length p.firsts = omega arith in
-        rw (word_at c c_in, word_at d d_in) (least.ascend (first_of p c) (first_of p d) (last.round.parted.ascend c d less d_in) (first_in m p machine last d d_in));
+        rw (word_at c c_in, word_at d d_in) (least.ascend (first_of p c) (first_of p d) (last.round.parted.ascend c d less d_in)
+        (first_in m p machine last d d_in));
   }
 
 -- classes are numbered by their least words

@@ -59,7 +59,8 @@ module _ (key : ℕ → List ℕ) (p : Parts) (parted : IsParted key p) where
   n = length p.classes
 
   -- one place more, whose key was seen
-  pub again : (c : ℕ) → slice_get p.seen c ≡ Some (key (length p.classes)) → IsParted key (record { seen = p.seen; classes = p.classes ++ c ∷ []; firsts = p.firsts })
+  pub again : (c : ℕ) → slice_get p.seen c ≡ Some (key (length p.classes))
+      → IsParted key (record { seen = p.seen; classes = p.classes ++ c ∷ []; firsts = p.firsts })
   again c at = record {
     each = parted.each;
     keyed = λ i h. keyed i (place p.classes c i h);
@@ -74,10 +75,12 @@ module _ (key : ℕ → List ℕ) (p : Parts) (parted : IsParted key p) where
       keyed i (inl h) = rw (old_at p.classes c i h) (parted.keyed i h)
       keyed i (inr is) = rw (new_at p.classes c i is, is) at
 
-      together : (i j : ℕ) → (i < length p.classes) ⊎ (i ≡ length p.classes) → (j < length p.classes) ⊎ (j ≡ length p.classes) → key i ≡ key j → get_or (p.classes ++ c ∷ []) i 0 ≡ get_or (p.classes ++ c ∷ []) j 0
+      together : (i j : ℕ) → (i < length p.classes) ⊎ (i ≡ length p.classes) → (j < length p.classes) ⊎ (j ≡ length p.classes)
+          → key i ≡ key j → get_or (p.classes ++ c ∷ []) i 0 ≡ get_or (p.classes ++ c ∷ []) j 0
       together i j (inl hi) (inl hj) same = old_at p.classes c i hi ∙ parted.together i j hi hj same ∙ sym (old_at p.classes c j hj)
       together i j (inl hi) (inr is) same = old_at p.classes c i hi ∙ one_class c i hi (at ∙ ap Some (sym (same ∙ ap key is))) ∙ sym (new_at p.classes c j is)
-      together i j (inr is) (inl hj) same = new_at p.classes c i is ∙ sym (one_class c j hj (at ∙ ap Some (sym (ap key is) ∙ same))) ∙ sym (old_at p.classes c j hj)
+      together i j (inr is) (inl hj) same = new_at p.classes c i is ∙ sym (one_class c j hj (at ∙ ap Some (sym (ap key is) ∙ same)))
+          ∙ sym (old_at p.classes c j hj)
       together i j (inr is) (inr js) same = new_at p.classes c i is ∙ sym (new_at p.classes c j js)
 
       least : (i : ℕ) → (i < length p.classes) ⊎ (i ≡ length p.classes) → get_or p.firsts (get_or (p.classes ++ c ∷ []) i 0) 0 ≤ i
@@ -88,7 +91,11 @@ module _ (key : ℕ → List ℕ) (p : Parts) (parted : IsParted key p) where
           rw (new_at p.classes c i is) (omega (arith, within))
 
   -- one place more, whose key is new
-  pub fresh : (c : ℕ) → c ≡ length p.seen → ((d : ℕ) → slice_get p.seen d ≡ Some (key (length p.classes)) → ⊥) → IsParted key (record { seen = p.seen ++ key (length p.classes) ∷ []; classes = p.classes ++ c ∷ []; firsts = p.firsts ++ length p.classes ∷ [] })
+  pub fresh : (c : ℕ) → c ≡ length p.seen → ((d : ℕ) → slice_get p.seen d ≡ Some (key (length p.classes)) → ⊥) → IsParted key (record {
+    seen = p.seen ++ key (length p.classes) ∷ [];
+    classes = p.classes ++ c ∷ [];
+    firsts = p.firsts ++ length p.classes ∷ [];
+  })
   fresh c is_next none = record {
     each = length-append p.seen (key n ∷ []) ∙ ap (λ m. m + 1) parted.each ∙ sym (length-append p.firsts (n ∷ []));
     keyed = λ i h. keyed i (place p.classes c i h);
@@ -103,7 +110,8 @@ module _ (key : ℕ → List ℕ) (p : Parts) (parted : IsParted key p) where
       keyed i (inl h) = rw (old_at p.classes c i h) (seen_kept p.seen (key n) (class_of p i) (key i) (parted.keyed i h))
       keyed i (inr is) = rw (new_at p.classes c i is, is_next, is) (seen_last p.seen (key n))
 
-      together : (i j : ℕ) → (i < length p.classes) ⊎ (i ≡ length p.classes) → (j < length p.classes) ⊎ (j ≡ length p.classes) → key i ≡ key j → get_or (p.classes ++ c ∷ []) i 0 ≡ get_or (p.classes ++ c ∷ []) j 0
+      together : (i j : ℕ) → (i < length p.classes) ⊎ (i ≡ length p.classes) → (j < length p.classes) ⊎ (j ≡ length p.classes)
+          → key i ≡ key j → get_or (p.classes ++ c ∷ []) i 0 ≡ get_or (p.classes ++ c ∷ []) j 0
       together i j (inl hi) (inl hj) same = old_at p.classes c i hi ∙ parted.together i j hi hj same ∙ sym (old_at p.classes c j hj)
       together i j (inl hi) (inr is) same = absurd (none (class_of p i) (parted.keyed i hi ∙ ap Some (same ∙ ap key is)))
       together i j (inr is) (inl hj) same = absurd (none (class_of p j) (parted.keyed j hj ∙ ap Some (sym same ∙ ap key is)))
@@ -128,8 +136,10 @@ module _ (key : ℕ → List ℕ) (p : Parts) (parted : IsParted key p) where
           rw (old_at p.firsts n d h, new_at p.firsts n e is) (parted.within d h)
 
   -- one place more, whose key has this number, with its first place where the number is the next
-  pub added : (k : List ℕ) (c : ℕ) (seen : List (List ℕ)) (classes firsts : List ℕ) → key (length p.classes) ≡ k → GivesNumber p.seen k c seen → classes ≡ p.classes ++ c ∷ []
-      → ((c ≡ length p.firsts) × (firsts ≡ p.firsts ++ length p.classes ∷ [])) ⊎ ((c ≡ length p.firsts → ⊥) × (firsts ≡ p.firsts)) → IsParted key (record { seen = seen; classes = classes; firsts = firsts })
+  pub added : (k : List ℕ) (c : ℕ) (seen : List (List ℕ)) (classes firsts : List ℕ) → key (length p.classes) ≡ k
+      → GivesNumber p.seen k c seen → classes ≡ p.classes ++ c ∷ []
+      → ((c ≡ length p.firsts) × (firsts ≡ p.firsts ++ length p.classes ∷ [])) ⊎ ((c ≡ length p.firsts → ⊥) × (firsts ≡ p.firsts))
+      → IsParted key (record { seen = seen; classes = classes; firsts = firsts })
   added k c seen classes firsts own (inl found) grown (inl first) =
       absurd (let h : c < length p.seen = slice_get_within p.seen c k found.1 in omega (arith, h, parted.each, first.0))
   added k c seen classes firsts own (inl found) grown (inr other) = rw (found.0, grown, other.1) (again c (found.1 ∙ ap Some (sym own)))

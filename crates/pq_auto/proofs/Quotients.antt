@@ -83,8 +83,10 @@ module _ (m : Machine) (p : Parts) (machine : IsMachine m) (last : IsLast m p) w
   -- the automaton of the classes says the same of each word
   pub says_same : SaySame m (quotient m p)
   says_same w below =
-      let h : reached m w < length m.rows = follow_within m machine w 0 below machine.some in
-      (sym (ap (is_even_at (quotient m p)) (leads_to w below) ∙ even_at (reached m w) h), sym (ap (accepted_at (quotient m p)) (leads_to w below) ∙ accepts_at (reached m w) h))
+      let h : reached m w < length m.rows = follow_within m machine w 0 below machine.some in (
+        sym (ap (is_even_at (quotient m p)) (leads_to w below) ∙ even_at (reached m w) h),
+        sym (ap (accepted_at (quotient m p)) (leads_to w below) ∙ accepts_at (reached m w) h),
+      )
 
   -- what a word leads to from the first state of a class
   from_first : (c : ℕ) (w : List ℕ) → c < length p.firsts → AllBelow m.letters w → class_of p (follow m.rows (first_of p c) w) ≡ follow (quotient m p).rows c w
@@ -93,8 +95,10 @@ module _ (m : Machine) (p : Parts) (machine : IsMachine m) (last : IsLast m p) w
   -- classes that are the same have first states that are
   firsts_same : (c d : ℕ) → c < length p.firsts → d < length p.firsts → AreSame (quotient m p) c d → AreSame m (first_of p c) (first_of p d)
   firsts_same c d hc hd same w below = (
-    sym (even_at s s_in) ∙ ap (is_even_at (quotient m p)) (from_first c w hc below) ∙ (same w below).0 ∙ sym (ap (is_even_at (quotient m p)) (from_first d w hd below)) ∙ even_at t t_in,
-    sym (accepts_at s s_in) ∙ ap (accepted_at (quotient m p)) (from_first c w hc below) ∙ (same w below).1 ∙ sym (ap (accepted_at (quotient m p)) (from_first d w hd below)) ∙ accepts_at t t_in,
+    sym (even_at s s_in) ∙ ap (is_even_at (quotient m p)) (from_first c w hc below) ∙ (same w below).0
+        ∙ sym (ap (is_even_at (quotient m p)) (from_first d w hd below)) ∙ even_at t t_in,
+    sym (accepts_at s s_in) ∙ ap (accepted_at (quotient m p)) (from_first c w hc below) ∙ (same w below).1
+        ∙ sym (ap (accepted_at (quotient m p)) (from_first d w hd below)) ∙ accepts_at t t_in,
   )
     where
       s : ℕ

@@ -46,19 +46,24 @@ module _ (m : Machine) (machine : IsMachine m) where
   same_mark s t same = let here = same [] tt in ap₂ (λ (b : Bool) (xs : List ℕ). parity_number b ∷ xs) here.0 here.1
 
   -- rows by classes are equal where each letter leads to one class
-  pub rows_same : (p : Parts) (s t : ℕ) → s < length m.rows → t < length m.rows → ((l : ℕ) → l < m.letters → class_of p (next m s l) ≡ class_of p (next m t l)) → map (class_of p) (row_of m s) ≡ map (class_of p) (row_of m t)
+  pub rows_same : (p : Parts) (s t : ℕ) → s < length m.rows → t < length m.rows
+      → ((l : ℕ) → l < m.letters → class_of p (next m s l) ≡ class_of p (next m t l))
+      → map (class_of p) (row_of m s) ≡ map (class_of p) (row_of m t)
   rows_same p s t hs ht each =
       ext_get_or 0 (map (class_of p) (row_of m s)) (map (class_of p) (row_of m t))
       (length-map (row_of m s) (class_of p) ∙ machine.long s hs ∙ sym (length-map (row_of m t) (class_of p) ∙ machine.long t ht))
       (λ l h. let hl : l < m.letters = (let long = machine.long s hs in omega (arith, long, length-map (row_of m s) (class_of p))) in one l hl)
     where
       one : (l : ℕ) → l < m.letters → get_or (map (class_of p) (row_of m s)) l 0 ≡ get_or (map (class_of p) (row_of m t)) l 0
-      one l hl = get_or-map (class_of p) (row_of m s) l 0 0 (letter_in s l hs hl) ∙ each l hl ∙ sym (get_or-map (class_of p) (row_of m t) l 0 0 (letter_in t l ht hl))
+      one l hl = get_or-map (class_of p) (row_of m s) l 0 0 (letter_in s l hs hl) ∙ each l hl
+          ∙ sym (get_or-map (class_of p) (row_of m t) l 0 0 (letter_in t l ht hl))
 
   -- a letter leads to one class where rows by classes are equal
-  pub classes_same : (p : Parts) (s t l : ℕ) → s < length m.rows → t < length m.rows → l < m.letters → map (class_of p) (row_of m s) ≡ map (class_of p) (row_of m t) → class_of p (next m s l) ≡ class_of p (next m t l)
+  pub classes_same : (p : Parts) (s t l : ℕ) → s < length m.rows → t < length m.rows → l < m.letters
+      → map (class_of p) (row_of m s) ≡ map (class_of p) (row_of m t) → class_of p (next m s l) ≡ class_of p (next m t l)
   classes_same p s t l hs ht hl same =
-      sym (get_or-map (class_of p) (row_of m s) l 0 0 (letter_in s l hs hl)) ∙ ap (λ row. get_or row l 0) same ∙ get_or-map (class_of p) (row_of m t) l 0 0 (letter_in t l ht hl)
+      sym (get_or-map (class_of p) (row_of m s) l 0 0 (letter_in s l hs hl)) ∙ ap (λ row. get_or row l 0) same
+      ∙ get_or-map (class_of p) (row_of m t) l 0 0 (letter_in t l ht hl)
 
   -- the first round: parts by marks
   pub marked : (p : Parts) → IsParted (mark m) p → length p.classes ≡ length m.rows → IsRound m p
@@ -87,7 +92,8 @@ module _ (m : Machine) (machine : IsMachine m) where
     same_signature : (s t : ℕ) → s < length m.rows → t < length m.rows → AreSame m s t → signature m p s ≡ signature m p t
     same_signature s t hs ht same =
         ap₂ (λ (c : ℕ) (row : List ℕ). c ∷ row) (round.coarse s t hs ht same)
-        (rows_same p s t hs ht (λ l hl. round.coarse (next m s l) (next m t l) (next_within s l hs hl) (next_within t l ht hl) (λ w below. same (l ∷ w) (hl, below))))
+        (rows_same p s t hs ht (λ l hl. round.coarse (next m s l) (next m t l) (next_within s l hs hl) (next_within t l ht hl)
+        (λ w below. same (l ∷ w) (hl, below))))
 
     -- the next round: parts by signatures
     pub refined : IsRound m q

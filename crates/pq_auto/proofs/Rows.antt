@@ -5,7 +5,8 @@ use Rattle.std.proofs.lemmas.List.{get_or-map, length-map}
 use Rattle.pq_auto.specs.Machine.{Machine, IsMachine, AllBelow}
 
 -- the row that was read
-pub row_at : (rows : List (Vec ℕ Global)) (i : ℕ) (v : Vec ℕ Global) (row : List ℕ) → i < length (map (λ w. w.items) rows) → row ≡ v.items → v ≡ get_or rows i v → row ≡ get_or (map (λ w. w.items) rows) i []
+pub row_at : (rows : List (Vec ℕ Global)) (i : ℕ) (v : Vec ℕ Global) (row : List ℕ) → i < length (map (λ w. w.items) rows) → row ≡ v.items
+    → v ≡ get_or rows i v → row ≡ get_or (map (λ w. w.items) rows) i []
 row_at rows i v row h is at =
     let within : i < length rows = omega (arith, length-map rows (λ (w : Vec ℕ Global). w.items)) in
     is ∙ ap (λ w. w.items) at ∙ sym (get_or-map (λ (w : Vec ℕ Global). w.items) rows i v [] within)

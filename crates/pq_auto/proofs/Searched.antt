@@ -1,5 +1,6 @@
 -- An automaton found by a search: each state has a key, and is numbered by its least word.
-use Rattle.std.proofs.Common.{◌≡◌, ℕ, suc, ◌<◌, ◌≤◌, ◌⊎◌, inl, inr, List, [], ◌∷◌, ◌++◌, length, Some, refl, sym, ap, subst, ◌∙◌, arith, append-nil, append_assoc}
+use Rattle.std.proofs.Common.{◌≡◌, ℕ, suc, ◌<◌, ◌≤◌, ◌⊎◌, inl, inr, List, [], ◌∷◌, ◌++◌, length, Some, refl, sym, ap, subst, ◌∙◌, arith}
+use Rattle.std.proofs.Common.{append-nil, append_assoc}
 use Rattle.std.specs.List.{slice_get}
 use Rattle.std.proofs.Math.ListN.{get_or}
 use Rattle.std.proofs.lemmas.Option.{slice_get_within, get_or_from_slice_get}
@@ -20,7 +21,8 @@ each_below n (x ∷ row) each = (each 0 (omega arith), each_below n row (λ l h.
 same_some : {X : Type 0} (o : X) (x y : X) → Some x ≡ Some y → x ≡ y
 same_some o x y h = cc
 
-module _ {K : Type 0} (goes : K → ℕ → K) (begin : K) (a : Machine) (keys : List K) (searched : IsSearched goes begin a.letters keys a.rows) (all : length keys ≤ length a.rows) where
+module _ {K : Type 0} (goes : K → ℕ → K) (begin : K) (a : Machine) (keys : List K) (searched : IsSearched goes begin a.letters keys a.rows)
+    (all : length keys ≤ length a.rows) where
   -- the row of a key
   pub row_at : (s : ℕ) (k : K) → slice_get keys s ≡ Some k → IsRow goes begin a.letters keys searched.words s (get_or a.rows s [])
   row_at s k at =
@@ -28,7 +30,8 @@ module _ {K : Type 0} (goes : K → ℕ → K) (begin : K) (a : Machine) (keys :
       searched.each s (get_or a.rows s []) (row.1 ∙ ap Some (sym (get_or_from_slice_get a.rows s row.0 [] row.1)))
 
   -- the letter's entry in the row of a key
-  pub entry_at : (s : ℕ) (k : K) (w : List ℕ) (l : ℕ) → slice_get keys s ≡ Some k → slice_get searched.words s ≡ Some w → l < a.letters → IsEntry goes begin a.letters keys searched.words k w l (get_or (get_or a.rows s []) l 0)
+  pub entry_at : (s : ℕ) (k : K) (w : List ℕ) (l : ℕ) → slice_get keys s ≡ Some k → slice_get searched.words s ≡ Some w → l < a.letters
+      → IsEntry goes begin a.letters keys searched.words k w l (get_or (get_or a.rows s []) l 0)
   entry_at s k w l at at_w h =
       let row = row_at s k at in
       let same_key : row.key ≡ k = same_some k row.key k (sym row.key_at ∙ at) in
@@ -44,12 +47,14 @@ module _ {K : Type 0} (goes : K → ℕ → K) (begin : K) (a : Machine) (keys :
       followed w (get_or (get_or a.rows s []) l 0) (goes k l) (entry_at s k row.word l at row.word_at below.0).key below.1
 
   -- the least word of the state that a word leads to is at most that word
-  pub least : (v u : List ℕ) (s : ℕ) (w : List ℕ) → slice_get searched.words s ≡ Some w → IsAtMost w u → AllBelow a.letters v → (x : List ℕ) × (slice_get searched.words (follow a.rows s v) ≡ Some x) × IsAtMost x (u ++ v)
+  pub least : (v u : List ℕ) (s : ℕ) (w : List ℕ) → slice_get searched.words s ≡ Some w → IsAtMost w u → AllBelow a.letters v
+      → (x : List ℕ) × (slice_get searched.words (follow a.rows s v) ≡ Some x) × IsAtMost x (u ++ v)
   least [] u s w at most below = (w, at, subst (IsAtMost w) (sym (append-nil u)) most)
   least (l ∷ v) u s w at most below =
       let key = key_of goes begin a.letters searched.words s w at in
       let entry = entry_at s (run goes begin w) w l (ap (λ ks. slice_get ks s) (sym searched.have.lead) ∙ key) at below.0 in
-      let rest = least v (u ++ l ∷ []) (get_or (get_or a.rows s []) l 0) entry.word entry.at (most_trans entry.word (w ++ l ∷ []) (u ++ l ∷ []) entry.most (most_more w u l most)) below.1 in
+      let rest = least v (u ++ l ∷ []) (get_or (get_or a.rows s []) l 0) entry.word entry.at
+      (most_trans entry.word (w ++ l ∷ []) (u ++ l ∷ []) entry.most (most_more w u l most)) below.1 in
       (rest.0, rest.1, subst (IsAtMost rest.0) (append_assoc u (l ∷ []) v) rest.2)
 
   -- the first key
@@ -77,14 +82,21 @@ module _ {K : Type 0} (goes : K → ℕ → K) (begin : K) (a : Machine) (keys :
   rows_within s h =
       let k = key_at s h in
       let row = row_at s k.0 k.1 in
-      each_below (length a.rows) (get_or a.rows s []) (λ l few. omega (arith, all, slice_get_within keys (get_or (get_or a.rows s []) l 0) (goes row.key l) (row.entries l (omega (arith, few, row.long))).key))
+      each_below (length a.rows) (get_or a.rows s [])
+      (λ l few. omega (
+        arith,
+        all,
+        slice_get_within keys (get_or (get_or a.rows s []) l 0) (goes row.key l)
+            (row.entries l (omega (arith, few, row.long))).key,
+      ))
 
   module _ (once : IsOnce keys) where
     -- the word of a state is the least that leads there
     least_to : (s : ℕ) (w : List ℕ) → slice_get searched.words s ≡ Some w → IsLeastTo a s w
     least_to s w at =
         let below = searched.have.below s w at in
-        let key : slice_get keys s ≡ Some (run goes begin w) = ap (λ ks. slice_get ks s) (sym searched.have.lead) ∙ key_of goes begin a.letters searched.words s w at in
+        let key : slice_get keys s ≡ Some (run goes begin w) = ap (λ ks. slice_get ks s) (sym searched.have.lead)
+        ∙ key_of goes begin a.letters searched.words s w at in
         record {
           word = below;
           leads = once (reached a w) s (run goes begin w) (key_reached w below) key;
@@ -111,6 +123,7 @@ module _ {K : Type 0} (goes : K → ℕ → K) (begin : K) (a : Machine) (keys :
       searched.words,
       record {
         each = λ s h. least_to s (get_or searched.words s []) (word_at s h);
-        ascend = λ s t order h. searched.have.ascend s t (get_or searched.words s []) (get_or searched.words t []) order (word_at s (omega (arith, order, h))) (word_at t h);
+        ascend = λ s t order h. searched.have.ascend s t (get_or searched.words s []) (get_or searched.words t []) order
+            (word_at s (omega (arith, order, h))) (word_at t h);
       },
     )

@@ -1,5 +1,6 @@
 -- A search breadth first, letters ascending: each key has its least word, and keys ascend by it.
-use Rattle.std.proofs.Common.{◌≡◌, ℕ, zero, suc, ◌+◌, ◌<◌, ◌≤◌, inl, inr, List, [], ◌∷◌, ◌++◌, length, map, Some, refl, sym, ap, subst, ◌∙◌, arith, length-append}
+use Rattle.std.proofs.Common.{◌≡◌, ℕ, zero, suc, ◌+◌, ◌<◌, ◌≤◌, inl, inr, List, [], ◌∷◌, ◌++◌, length, map, Some, refl, sym, ap, subst, ◌∙◌}
+use Rattle.std.proofs.Common.{arith, length-append}
 use Rattle.std.specs.List.{slice_get}
 use Rattle.std.proofs.Math.ListN.{get_or}
 use Rattle.std.proofs.lemmas.List.{map-append, length-map}
@@ -27,7 +28,8 @@ module _ {K : Type 0} (goes : K → ℕ → K) (begin : K) (letters : ℕ) where
   run_more k (m ∷ w) l = run_more (goes k m) w l
 
   -- the word of a key leads there
-  pub word_of : (words : List (List ℕ)) (n : ℕ) (k : K) → slice_get (map (run goes begin) words) n ≡ Some k → (w : List ℕ) × (slice_get words n ≡ Some w) × (run goes begin w ≡ k)
+  pub word_of : (words : List (List ℕ)) (n : ℕ) (k : K) → slice_get (map (run goes begin) words) n ≡ Some k
+      → (w : List ℕ) × (slice_get words n ≡ Some w) × (run goes begin w ≡ k)
   word_of [] n k h = absurd cc
   word_of (w ∷ words) zero k h = (w, refl, cc)
   word_of (w ∷ words) (suc n) k h = word_of words n k h
@@ -48,7 +50,8 @@ module _ {K : Type 0} (goes : K → ℕ → K) (begin : K) (letters : ℕ) where
     entry : IsEntry goes begin letters mid more k u l n
 
   -- a key that was there
-  found : (keys mid : List K) (words : List (List ℕ)) (k : K) (u : List ℕ) (l n : ℕ) → HaveWords goes begin letters keys words → AreBefore words (u ++ l ∷ []) → mid ≡ keys → slice_get keys n ≡ Some (goes k l) → Numbered keys mid words k u l n
+  found : (keys mid : List K) (words : List (List ℕ)) (k : K) (u : List ℕ) (l n : ℕ) → HaveWords goes begin letters keys words
+      → AreBefore words (u ++ l ∷ []) → mid ≡ keys → slice_get keys n ≡ Some (goes k l) → Numbered keys mid words k u l n
   found keys mid words k u l n have before same at =
       let word = word_of words n (goes k l) (ap (λ ks. slice_get ks n) have.lead ∙ at) in
       record {
@@ -61,9 +64,12 @@ module _ {K : Type 0} (goes : K → ℕ → K) (begin : K) (letters : ℕ) where
       }
 
   -- words with one more, before which all stand
-  more_words : (keys : List K) (words : List (List ℕ)) (k : K) (u : List ℕ) (l : ℕ) → HaveWords goes begin letters keys words → AllBelow letters u → l < letters → run goes begin u ≡ k → AreBefore words (u ++ l ∷ []) → HaveWords goes begin letters (keys ++ goes k l ∷ []) (words ++ (u ++ l ∷ []) ∷ [])
+  more_words : (keys : List K) (words : List (List ℕ)) (k : K) (u : List ℕ) (l : ℕ) → HaveWords goes begin letters keys words
+      → AllBelow letters u → l < letters → run goes begin u ≡ k → AreBefore words (u ++ l ∷ [])
+      → HaveWords goes begin letters (keys ++ goes k l ∷ []) (words ++ (u ++ l ∷ []) ∷ [])
   more_words keys words k u l have all h leads before = record {
-    lead = map-append (run goes begin) words ((u ++ l ∷ []) ∷ []) ∙ ap (λ ks. ks ++ run goes begin (u ++ l ∷ []) ∷ []) have.lead ∙ ap (λ x. keys ++ x ∷ []) (run_more begin u l ∙ ap (λ x. goes x l) leads);
+    lead = map-append (run goes begin) words ((u ++ l ∷ []) ∷ []) ∙ ap (λ ks. ks ++ run goes begin (u ++ l ∷ []) ∷ []) have.lead
+        ∙ ap (λ x. keys ++ x ∷ []) (run_more begin u l ∙ ap (λ x. goes x l) leads);
     first = kept_places words ((u ++ l ∷ []) ∷ []) 0 [] have.first;
     below = λ s w at. elim (older_or_last words (u ++ l ∷ []) s w at) [
       | inl old ↦ have.below s w old
@@ -79,7 +85,9 @@ module _ {K : Type 0} (goes : K → ℕ → K) (begin : K) (letters : ℕ) where
   }
 
   -- a new key
-  added : (keys mid : List K) (words : List (List ℕ)) (k : K) (u : List ℕ) (l n : ℕ) → HaveWords goes begin letters keys words → AllBelow letters u → l < letters → run goes begin u ≡ k → AreBefore words (u ++ l ∷ []) → mid ≡ keys ++ goes k l ∷ [] → n ≡ length keys → Numbered keys mid words k u l n
+  added : (keys mid : List K) (words : List (List ℕ)) (k : K) (u : List ℕ) (l n : ℕ) → HaveWords goes begin letters keys words
+      → AllBelow letters u → l < letters → run goes begin u ≡ k → AreBefore words (u ++ l ∷ []) → mid ≡ keys ++ goes k l ∷ []
+      → n ≡ length keys → Numbered keys mid words k u l n
   added keys mid words k u l n have all h leads before grown last =
       let same_long : length words ≡ length keys = sym (length-map words (run goes begin)) ∙ ap length have.lead in
       record {
@@ -99,13 +107,21 @@ module _ {K : Type 0} (goes : K → ℕ → K) (begin : K) (letters : ℕ) where
         };
       }
 
-  numbered : (keys mid : List K) (words : List (List ℕ)) (k : K) (u : List ℕ) (l n : ℕ) → HaveWords goes begin letters keys words → AllBelow letters u → l < letters → run goes begin u ≡ k → AreBefore words (u ++ l ∷ []) → IsNumber keys (goes k l) n mid → Numbered keys mid words k u l n
+  numbered : (keys mid : List K) (words : List (List ℕ)) (k : K) (u : List ℕ) (l n : ℕ) → HaveWords goes begin letters keys words
+      → AllBelow letters u → l < letters → run goes begin u ≡ k → AreBefore words (u ++ l ∷ []) → IsNumber keys (goes k l) n mid
+      → Numbered keys mid words k u l n
   numbered keys mid words k u l n have all h leads before (inl old) = found keys mid words k u l n have before old.0 old.1
   numbered keys mid words k u l n have all h leads before (inr new) = added keys mid words k u l n have all h leads before new.0 new.1
 
   -- entries stay
-  pub entry_stays : (keys mid : List K) (words more : List (List ℕ)) (k : K) (u : List ℕ) (l n : ℕ) → Extends keys mid → Extends words more → IsEntry goes begin letters keys words k u l n → IsEntry goes begin letters mid more k u l n
-  entry_stays keys mid words more k u l n older words_older e = record { key = older n (goes k l) e.key; word = e.word; at = words_older n e.word e.at; most = e.most }
+  pub entry_stays : (keys mid : List K) (words more : List (List ℕ)) (k : K) (u : List ℕ) (l n : ℕ) → Extends keys mid → Extends words more
+      → IsEntry goes begin letters keys words k u l n → IsEntry goes begin letters mid more k u l n
+  entry_stays keys mid words more k u l n older words_older e = record {
+    key = older n (goes k l) e.key;
+    word = e.word;
+    at = words_older n e.word e.at;
+    most = e.most;
+  }
 
   -- what numbering the keys behind one key does
   pub record AllNumbered (keys new : List K) (words : List (List ℕ)) (k : K) (u : List ℕ) (l count : ℕ) (row : List ℕ) : Type 0 where
@@ -117,7 +133,9 @@ module _ {K : Type 0} (goes : K → ℕ → K) (begin : K) (letters : ℕ) where
     pub long : length row ≡ count
     pub entries : (m : ℕ) → m < count → IsEntry goes begin letters new more k u (l + m) (get_or row m 0)
 
-  pub all_numbered : (count l : ℕ) (keys new : List K) (words : List (List ℕ)) (k : K) (u row : List ℕ) → HaveWords goes begin letters keys words → AllBelow letters u → l + count ≤ letters → run goes begin u ≡ k → AreBefore words (u ++ l ∷ []) → AreNumbers keys (targets goes k l count) row new → AllNumbered keys new words k u l count row
+  pub all_numbered : (count l : ℕ) (keys new : List K) (words : List (List ℕ)) (k : K) (u row : List ℕ)
+      → HaveWords goes begin letters keys words → AllBelow letters u → l + count ≤ letters → run goes begin u ≡ k
+      → AreBefore words (u ++ l ∷ []) → AreNumbers keys (targets goes k l count) row new → AllNumbered keys new words k u l count row
   all_numbered zero l keys new words k u row have all h leads before numbers = record {
     more = words;
     have = subst (λ ks. HaveWords goes begin letters ks words) (sym numbers.1) have;
@@ -141,7 +159,9 @@ module _ {K : Type 0} (goes : K → ℕ → K) (begin : K) (letters : ℕ) where
             by rest.more (entry_stays numbers.2 new step.more rest.more k u l numbers.0 rest.older rest.words_older step.entry) rest.entries m few);
       }
     where
-      by : (ws : List (List ℕ)) → IsEntry goes begin letters new ws k u l numbers.0 → ((m : ℕ) → m < count → IsEntry goes begin letters new ws k u (suc l + m) (get_or numbers.1 m 0)) → (m : ℕ) → m < suc count → IsEntry goes begin letters new ws k u (l + m) (get_or (numbers.0 ∷ numbers.1) m 0)
+      by : (ws : List (List ℕ)) → IsEntry goes begin letters new ws k u l numbers.0
+          → ((m : ℕ) → m < count → IsEntry goes begin letters new ws k u (suc l + m) (get_or numbers.1 m 0)) → (m : ℕ) → m < suc count
+          → IsEntry goes begin letters new ws k u (l + m) (get_or (numbers.0 ∷ numbers.1) m 0)
       by ws own later zero few = subst (λ x. IsEntry goes begin letters new ws k u x numbers.0) (omega arith) own
       by ws own later (suc m) few = subst (λ x. IsEntry goes begin letters new ws k u x (get_or numbers.1 m 0)) (omega arith) (later m (omega (arith, few)))
 
@@ -171,7 +191,8 @@ module _ {K : Type 0} (goes : K → ℕ → K) (begin : K) (letters : ℕ) where
       ahead w at s v at_s = subst (λ x. IsBefore x (w ++ 0 ∷ [])) (one s v at_s).1 (inl (omega (arith, length-append w (0 ∷ []))))
 
   -- rows stay
-  row_stays : (keys new : List K) (words more : List (List ℕ)) (s : ℕ) (row : List ℕ) → Extends keys new → Extends words more → IsRow goes begin letters keys words s row → IsRow goes begin letters new more s row
+  row_stays : (keys new : List K) (words more : List (List ℕ)) (s : ℕ) (row : List ℕ) → Extends keys new → Extends words more
+      → IsRow goes begin letters keys words s row → IsRow goes begin letters new more s row
   row_stays keys new words more s row older words_older r = record {
     key = r.key;
     word = r.word;
@@ -182,11 +203,14 @@ module _ {K : Type 0} (goes : K → ℕ → K) (begin : K) (letters : ℕ) where
   }
 
   -- the search goes on by the row of the next key
-  pub expanded : (keys new : List K) (rows : List (List ℕ)) (k : K) (row : List ℕ) → IsSearched goes begin letters keys rows → slice_get keys (length rows) ≡ Some k → AreNumbers keys (targets goes k 0 letters) row new → IsSearched goes begin letters new (rows ++ row ∷ [])
+  pub expanded : (keys new : List K) (rows : List (List ℕ)) (k : K) (row : List ℕ) → IsSearched goes begin letters keys rows
+      → slice_get keys (length rows) ≡ Some k → AreNumbers keys (targets goes k 0 letters) row new
+      → IsSearched goes begin letters new (rows ++ row ∷ [])
   expanded keys new rows k row searched at numbers =
       let words = searched.words in
       let word = word_of words (length rows) k (ap (λ ks. slice_get ks (length rows)) searched.have.lead ∙ at) in
-      let step = all_numbered letters 0 keys new words k word.0 row searched.have (searched.have.below (length rows) word.0 word.1) (omega arith) word.2 (searched.ahead word.0 word.1) numbers in
+      let step = all_numbered letters 0 keys new words k word.0 row searched.have (searched.have.below (length rows) word.0 word.1)
+      (omega arith) word.2 (searched.ahead word.0 word.1) numbers in
       record {
         words = step.more;
         have = step.have;
@@ -202,8 +226,11 @@ module _ {K : Type 0} (goes : K → ℕ → K) (begin : K) (letters : ℕ) where
           })
         ];
         ahead = λ w at_w s v at_v.
-            let past : IsBefore word.0 w = step.have.ascend (length rows) (length (rows ++ row ∷ [])) word.0 w (omega (arith, length-append rows (row ∷ []))) (step.words_older (length rows) word.0 word.1) at_w in
-            before_trans v (word.0 ++ letters ∷ []) (w ++ 0 ∷ []) (subst (λ x. IsBefore v (word.0 ++ x ∷ [])) (zero_more letters) (step.before s v at_v)) (before_more word.0 w letters 0 past);
+            let past : IsBefore word.0 w = step.have.ascend (length rows) (length (rows ++ row ∷ [])) word.0 w
+            (omega (arith, length-append rows (row ∷ []))) (step.words_older (length rows) word.0 word.1) at_w in
+            before_trans v (word.0 ++ letters ∷ []) (w ++ 0 ∷ [])
+            (subst (λ x. IsBefore v (word.0 ++ x ∷ [])) (zero_more letters) (step.before s v at_v))
+            (before_more word.0 w letters 0 past);
       }
     where
       zero_more : (n : ℕ) → 0 + n ≡ n

@@ -1,5 +1,6 @@
 -- A set of keys numbers them.
-use Rattle.std.proofs.Common.{ℕ, ◌<◌, ◌≡◌, ◌∙◌, inl, inr, Bool, true, false, nat_eq, List, [], ◌∷◌, ◌++◌, length, get_or, Option, None, Some, refl, sym, ap, arith, Vec, Global, if◌then◌else◌}
+use Rattle.std.proofs.Common.{ℕ, ◌<◌, ◌≡◌, ◌∙◌, inl, inr, Bool, true, false, nat_eq, List, [], ◌∷◌, ◌++◌, length, get_or, Option, None}
+use Rattle.std.proofs.Common.{Some, refl, sym, ap, arith, Vec, Global, if◌then◌else◌}
 use Rattle.std.specs.Prelude.{slice_get, map}
 use Rattle.std.specs.Option.{option_map}
 use Rattle.std.specs.List.{list_any, position_or_len}
@@ -45,14 +46,17 @@ module _ (key : Vec ℕ Global) (old : List (Vec ℕ Global)) where
 
   -- the place of a key that is not found is the next
   next_place : list_any (same_key key) old ≡ false → position_or_len (same_key key) old ≡ length old
-  next_place none = position_or_len_is (same_key key) old (length old) key (omega arith) (λ k h. fails k h (same_key key (get_or old k key)) refl) (λ h. absurd (omega arith))
+  next_place none = position_or_len_is (same_key key) old (length old) key (omega arith)
+      (λ k h. fails k h (same_key key (get_or old k key)) refl) (λ h. absurd (omega arith))
     where
       fails : (k : ℕ) → k < length old → (b : Bool) → same_key key (get_or old k key) ≡ b → b ≡ false
       fails k h false is = refl
       fails k h true is = absurd (true≢false (sym (list_any_at (same_key key) old k key h is) ∙ none))
 
   -- what an insertion answers is the number
-  pub gives_number : (new : List (Vec ℕ Global)) (c : ℕ) → new ≡ (if list_any (same_key key) old then old else old ++ key ∷ []) → c ≡ position_or_len (same_key key) old → (k : Vec ℕ Global) → slice_get new c ≡ Some k → same_key key k ≡ true → GivesNumber (map numbers old) key.items c (map numbers new)
+  pub gives_number : (new : List (Vec ℕ Global)) (c : ℕ) → new ≡ (if list_any (same_key key) old then old else old ++ key ∷ [])
+      → c ≡ position_or_len (same_key key) old → (k : Vec ℕ Global) → slice_get new c ≡ Some k → same_key key k ≡ true
+      → GivesNumber (map numbers old) key.items c (map numbers new)
   gives_number new c inserted index k at same = by (list_any (same_key key) old) refl
     where
       by : (b : Bool) → list_any (same_key key) old ≡ b → GivesNumber (map numbers old) key.items c (map numbers new)

@@ -70,7 +70,8 @@ module _ (key other : ℕ → List ℕ) (p q : Parts) (coarser : IsParted key p)
       up : first_of q (class_of q (first_of p d)) < first_of q (class_of q (first_of p e))
       up = rw (first_too d d_in, first_too e h) (coarser.ascend d e less h)
 
-      by : (class_of q (first_of p e) < class_of q (first_of p d)) ⊎ (class_of q (first_of p d) ≤ class_of q (first_of p e)) → class_of q (first_of p e) ≤ class_of q (first_of p d) → ⊥
+      by : (class_of q (first_of p e) < class_of q (first_of p d)) ⊎ (class_of q (first_of p d) ≤ class_of q (first_of p e))
+          → class_of q (first_of p e) ≤ class_of q (first_of p d) → ⊥
       by (inl lower) past =
           let within : first_of p d < length q.classes = (let w = coarser.within d d_in in omega (arith, w, whole)) in
           let down = finer.ascend (class_of q (first_of p e)) (class_of q (first_of p d)) lower (class_within other q finer (first_of p d) within) in

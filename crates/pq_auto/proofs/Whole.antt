@@ -8,7 +8,8 @@ use Rattle.pq_auto.proofs.LeastWords as words
 use Rattle.pq_auto.proofs.Quotients as quotients
 
 -- an automaton is its parts
-pub of_parts : (m : Machine) (letters : ℕ) (rows : List (List ℕ)) (even : List Bool) (accepted : List (List ℕ)) → letters ≡ m.letters → rows ≡ m.rows → even ≡ m.even → accepted ≡ m.accepted
+pub of_parts : (m : Machine) (letters : ℕ) (rows : List (List ℕ)) (even : List Bool) (accepted : List (List ℕ)) → letters ≡ m.letters
+    → rows ≡ m.rows → even ≡ m.even → accepted ≡ m.accepted
     → record { letters = letters; rows = rows; even = even; accepted = accepted } ≡ m
 of_parts m letters rows even accepted a b c d = rw (a, b, c, d) refl
 

@@ -39,4 +39,5 @@ pub record AreFirsts (m : Machine) (leaders : List ℕ) (seen : List (List ℕ))
 abbrev pub IsNext : Machine → List ℕ → List (List ℕ) → List ℕ → ℕ → ℕ → Type 0
 IsNext m leaders seen firsts s next =
     ((row_in m leaders s ≡ row_in m leaders (leader_in leaders s)) × (next ≡ leader_in leaders s))
-    ⊎ ((row_in m leaders s ≡ row_in m leaders (leader_in leaders s) → ⊥) × ((p : ℕ) × (slice_get seen p ≡ Some (key_in m leaders s)) × (next ≡ get_or firsts p 0)))
+    ⊎ ((row_in m leaders s ≡ row_in m leaders (leader_in leaders s) → ⊥)
+    × ((p : ℕ) × (slice_get seen p ≡ Some (key_in m leaders s)) × (next ≡ get_or firsts p 0)))

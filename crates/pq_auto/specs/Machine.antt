@@ -55,4 +55,5 @@ IsLeastMachine a = (s t : ℕ) → s < length a.rows → t < length a.rows → A
 
 -- the automata say the same of each word: its parity and what accepts it
 abbrev pub SaySame : Machine → Machine → Type 0
-SaySame a b = (w : List ℕ) → AllBelow a.letters w → (is_even_at a (reached a w) ≡ is_even_at b (reached b w)) × (accepted_at a (reached a w) ≡ accepted_at b (reached b w))
+SaySame a b = (w : List ℕ) → AllBelow a.letters w
+    → (is_even_at a (reached a w) ≡ is_even_at b (reached b w)) × (accepted_at a (reached a w) ≡ accepted_at b (reached b w))

@@ -26,4 +26,6 @@ met_equiv = and_equiv (on_equiv (λ k. k.0.rest) nat_list_eq_equiv) (on_equiv (�
 
 -- equal states write the same
 pub met_hashes : (k m : StateValue × Bool) → met_eq k m ≡ true → met_hash k ≡ met_hash m
-met_hashes k m same = ap (fed.slice fed.u64) (same_text k.0.rest m.0.rest (sym (first_so (pointwise nat_eq k.0.rest m.0.rest) ((bools.ghosts).eq k.1 m.1) same)))
+met_hashes k m same =
+    ap (fed.slice fed.u64)
+    (same_text k.0.rest m.0.rest (sym (first_so (pointwise nat_eq k.0.rest m.0.rest) ((bools.ghosts).eq k.1 m.1) same)))

@@ -28,4 +28,5 @@ pub record IsParted (key : ℕ → List ℕ) (p : Parts) : Type 0 where
 
 -- the number of a key among those seen: that of an equal one, or the next
 abbrev pub GivesNumber : List (List ℕ) → List ℕ → ℕ → List (List ℕ) → Type 0
-GivesNumber old key c new = ((new ≡ old) × (slice_get old c ≡ Some key)) ⊎ ((new ≡ old ++ key ∷ []) × (c ≡ length old) × ((d : ℕ) → slice_get old d ≡ Some key → ⊥))
+GivesNumber old key c new =
+    ((new ≡ old) × (slice_get old c ≡ Some key)) ⊎ ((new ≡ old ++ key ∷ []) × (c ≡ length old) × ((d : ℕ) → slice_get old d ≡ Some key → ⊥))

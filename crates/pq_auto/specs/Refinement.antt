@@ -36,7 +36,12 @@ pub record IsLast (m : Machine) (p : Parts) : Type 0 where
 
 -- the automaton of the classes: each does what its first state does
 abbrev pub quotient : Machine → Parts → Machine
-quotient m p = record { letters = m.letters; rows = map (λ s. map (class_of p) (row_of m s)) p.firsts; even = map (is_even_at m) p.firsts; accepted = map (accepted_at m) p.firsts }
+quotient m p = record {
+  letters = m.letters;
+  rows = map (λ s. map (class_of p) (row_of m s)) p.firsts;
+  even = map (is_even_at m) p.firsts;
+  accepted = map (accepted_at m) p.firsts;
+}
 
 -- states were joined: the state that a word leads to tells the one that it leads to now
 abbrev pub AreJoined : Machine → Machine → Type 0

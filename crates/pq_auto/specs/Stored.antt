@@ -6,7 +6,12 @@ use Rattle.pq_auto.specs.Machine.{Machine}
 use Rattle.pq_auto.specs.Parts.{Parts}
 
 abbrev pub stored_machine : Inside → Machine
-stored_machine a = record { letters = a.letters; rows = map (λ row. row.items) a.rows.items; even = a.even.items; accepted = map (λ list. list.items) a.accepted.items }
+stored_machine a = record {
+  letters = a.letters;
+  rows = map (λ row. row.items) a.rows.items;
+  even = a.even.items;
+  accepted = map (λ list. list.items) a.accepted.items;
+}
 
 -- the parts that are stored
 abbrev pub stored_parts : Places → Parts

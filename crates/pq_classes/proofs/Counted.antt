@@ -1,5 +1,6 @@
 -- Of given languages there is one number of classes of words.
-use Rattle.std.proofs.Common.{◌≡◌, ◌<◌, ◌≤◌, ◌+◌, ℕ, suc, zero, Bool, true, false, List, [], ◌∷◌, ◌++◌, length, get_or, refl, sym, ap, subst, ◌∙◌, arith, length-append}
+use Rattle.std.proofs.Common.{◌≡◌, ◌<◌, ◌≤◌, ◌+◌, ℕ, suc, zero, Bool, true, false, List, [], ◌∷◌, ◌++◌, length, get_or, refl, sym, ap}
+use Rattle.std.proofs.Common.{subst, ◌∙◌, arith, length-append}
 use Rattle.std.specs.Prelude.{slice_get, Some, All, not, if◌then◌else◌, ◌==◌}
 use Rattle.std.specs.List.{Any, list_any}
 use Rattle.std.proofs.lemmas.Bool.{eqb-true}
@@ -107,7 +108,8 @@ module _ (Ls : Languages) where
           by false is = is
           by true is =
               let within_k : k < length us = omega (arith, within, long) in
-              let same : get_or js i 0 ≡ get_or js k 0 = get_or_default js i 0 d (omega (arith, less, within)) ∙ eqb-true (get_or js i d) (get_or js k d) is ∙ get_or_default js k d 0 within in
+              let same : get_or js i 0 ≡ get_or js k 0 = get_or_default js i 0 d (omega (arith, less, within))
+              ∙ eqb-true (get_or js i d) (get_or js k d) is ∙ get_or_default js k d 0 within in
               let equal = one i k less within_k same in absurd (omega (arith, less, equal))
 
       below : (q : ℕ) → list_any (λ k. q == k) js ≡ true → q < length words

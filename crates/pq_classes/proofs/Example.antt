@@ -3,7 +3,8 @@ use Rattle.std.proofs.Common.{[], ◌∷◌, refl, arith}
 use Rattle.std.specs.Prelude.{All}
 use Rattle.std.specs.List.{IsDistinct}
 use Rattle.std.proofs.lemmas.List.Elements.{All-nil, All-cons}
-use Rattle.pq_fields.specs.declared.field.Field.TheVariants.{Switch, Port, EthType, IpProto, EthSrc, EthDst, Ipv4Src, Ipv4Dst, TcpSrc, TcpDst, UdpSrc, UdpDst, Ipv6Src, Ipv6Dst}
+use Rattle.pq_fields.specs.declared.field.Field.TheVariants.{Switch, Port, EthType, IpProto, EthSrc, EthDst, Ipv4Src, Ipv4Dst, TcpSrc}
+use Rattle.pq_fields.specs.declared.field.Field.TheVariants.{TcpDst, UdpSrc, UdpDst, Ipv6Src, Ipv6Dst}
 use Rattle.pq_fields.specs.Pred.{Always, FitsField, leaf}
 use Rattle.pq_model.specs.Topology.{Topology}
 use Rattle.pq_query.specs.Lawful.{AreGroupsOver, IsGroupOver, IsLawfulQuery}
@@ -40,7 +41,10 @@ one_is_few Ipv6Src narrow = omega arith
 one_is_few Ipv6Dst narrow = omega arith
 
 entry_within : (T : Topology) → IsQueryWithin (λ f. 0 ∷ []) T entry
-entry_within T = record { preds = All-cons (IsPredWithin (λ f. 0 ∷ [])) (leaf Always) [] (tt, tt, tt) (All-nil (IsPredWithin (λ f. 0 ∷ []))); groups = All-nil (IsGroupWithin (λ f. 0 ∷ []) T) }
+entry_within T = record {
+  preds = All-cons (IsPredWithin (λ f. 0 ∷ [])) (leaf Always) [] (tt, tt, tt) (All-nil (IsPredWithin (λ f. 0 ∷ [])));
+  groups = All-nil (IsGroupWithin (λ f. 0 ∷ []) T);
+}
 
 pub entry_fits : (T : Topology) → FitAsQueries T (entry ∷ [])
 entry_fits T = record {

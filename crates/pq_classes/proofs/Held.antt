@@ -1,5 +1,6 @@
 -- Which instances hold a word, by their expressions.
-use Rattle.std.proofs.Common.{◌≡◌, ◌<◌, ◌+◌, ℕ, suc, zero, Bool, true, false, if◌then◌else◌, List, [], ◌∷◌, length, get_or, map, refl, sym, ap, ap₂, subst, ◌∙◌, arith}
+use Rattle.std.proofs.Common.{◌≡◌, ◌<◌, ◌+◌, ℕ, suc, zero, Bool, true, false, if◌then◌else◌, List, [], ◌∷◌, length, get_or, map, refl, sym}
+use Rattle.std.proofs.Common.{ap, ap₂, subst, ◌∙◌, arith}
 use Rattle.std.specs.Prelude.{slice_get, Some, All}
 use Rattle.std.specs.List.{AllZip, Contains}
 use Rattle.std.specs.Option.{unwrap_or}
@@ -30,16 +31,19 @@ use Rattle.pq_classes.proofs.Following.{has_from}
 -- Lists of the expressions that hold a word.
 
 -- the places of those that hold it are these
-holding_has : (k : ℕ) (es : List ExprTree) (w : HalfSteps) (j : ℕ) (e : ExprTree) → slice_get es j ≡ Some e → holds e w ≡ true → Contains (holding_from k es w) (k + j)
+holding_has : (k : ℕ) (es : List ExprTree) (w : HalfSteps) (j : ℕ) (e : ExprTree) → slice_get es j ≡ Some e → holds e w ≡ true
+    → Contains (holding_from k es w) (k + j)
 holding_has k [] w j e at is = absurd cc
 holding_has k (d ∷ es) w zero e at is = here (holds d w) (ap (λ o. holds (unwrap_or o e) w) at ∙ is)
   where
     here : (b : Bool) → b ≡ true → Contains (if b then k ∷ holding_from (suc k) es w else holding_from (suc k) es w) (k + 0)
     here true is = (0, omega arith, omega arith)
     here false is = absurd cc
-holding_has k (d ∷ es) w (suc j) e at is = let more = holding_has (suc k) es w j e at is in there (holds d w) (subst (λ i. Contains (holding_from (suc k) es w) i) (omega arith) more)
+holding_has k (d ∷ es) w (suc j) e at is = let more = holding_has (suc k) es w j e at is in
+    there (holds d w) (subst (λ i. Contains (holding_from (suc k) es w) i) (omega arith) more)
   where
-    there : (b : Bool) → Contains (holding_from (suc k) es w) (k + suc j) → Contains (if b then k ∷ holding_from (suc k) es w else holding_from (suc k) es w) (k + suc j)
+    there : (b : Bool) → Contains (holding_from (suc k) es w) (k + suc j)
+        → Contains (if b then k ∷ holding_from (suc k) es w else holding_from (suc k) es w) (k + suc j)
     there true (i, within, is) = (suc i, omega (arith, within), is)
     there false found = found
 
@@ -52,7 +56,8 @@ holding_from_has k [] w i n at = absurd cc
 holding_from_has k (d ∷ es) w i n at =
     by (holds d w) refl (λ n at. (let found = holding_from_has (suc k) es w i n at in (suc found.0, found.1, omega (arith, found.2), found.3, found.4))) n at
   where
-    by : (b : Bool) → holds d w ≡ b → ((n : ℕ) → slice_get (holding_from (suc k) es w) n ≡ Some i → IsAt k (d ∷ es) w i) → (n : ℕ) → slice_get (if b then k ∷ holding_from (suc k) es w else holding_from (suc k) es w) n ≡ Some i → IsAt k (d ∷ es) w i
+    by : (b : Bool) → holds d w ≡ b → ((n : ℕ) → slice_get (holding_from (suc k) es w) n ≡ Some i → IsAt k (d ∷ es) w i) → (n : ℕ)
+        → slice_get (if b then k ∷ holding_from (suc k) es w else holding_from (suc k) es w) n ≡ Some i → IsAt k (d ∷ es) w i
     by true is later zero at = let same : k ≡ i = cc in (0, d, omega (arith, same), refl, is)
     by true is later (suc n) at = later n at
     by false is later n at = later n at
@@ -62,7 +67,8 @@ rises : (k l : ℕ) (es : List ExprTree) (w : HalfSteps) → k < l → Ascends (
 rises k l [] w less = tt
 rises k l (d ∷ es) w less = by (holds d w) (rises l (suc l) es w (omega arith)) (rises k (suc l) es w (omega (arith, less)))
   where
-    by : (b : Bool) → Ascends (l ∷ holding_from (suc l) es w) → Ascends (k ∷ holding_from (suc l) es w) → Ascends (k ∷ (if b then l ∷ holding_from (suc l) es w else holding_from (suc l) es w))
+    by : (b : Bool) → Ascends (l ∷ holding_from (suc l) es w) → Ascends (k ∷ holding_from (suc l) es w)
+        → Ascends (k ∷ (if b then l ∷ holding_from (suc l) es w else holding_from (suc l) es w))
     by true taken passed = (less, taken)
     by false taken passed = passed
 
@@ -70,19 +76,22 @@ holding_rises : (k : ℕ) (es : List ExprTree) (w : HalfSteps) → Ascends (hold
 holding_rises k [] w = tt
 holding_rises k (d ∷ es) w = by (holds d w) (rises k (suc k) es w (omega arith)) (holding_rises (suc k) es w)
   where
-    by : (b : Bool) → Ascends (k ∷ holding_from (suc k) es w) → Ascends (holding_from (suc k) es w) → Ascends (if b then k ∷ holding_from (suc k) es w else holding_from (suc k) es w)
+    by : (b : Bool) → Ascends (k ∷ holding_from (suc k) es w) → Ascends (holding_from (suc k) es w)
+        → Ascends (if b then k ∷ holding_from (suc k) es w else holding_from (suc k) es w)
     by true taken passed = taken
     by false taken passed = passed
 
 -- Two lists side by side.
 
-zip_at : {A B : Type 0} (R : A → B → Type 0) (xs : List A) (ys : List B) (i : ℕ) (x : A) → AllZip R xs ys → slice_get xs i ≡ Some x → (y : B) × (slice_get ys i ≡ Some y) × R x y
+zip_at : {A B : Type 0} (R : A → B → Type 0) (xs : List A) (ys : List B) (i : ℕ) (x : A) → AllZip R xs ys → slice_get xs i ≡ Some x
+    → (y : B) × (slice_get ys i ≡ Some y) × R x y
 zip_at R [] ys i x all at = absurd cc
 zip_at R (z ∷ xs) [] i x all at = absurd all
 zip_at R (z ∷ xs) (y ∷ ys) zero x all at = (y, refl, subst (λ o. R (unwrap_or o z) y) at all.0)
 zip_at R (z ∷ xs) (y ∷ ys) (suc i) x all at = zip_at R xs ys i x all.1 at
 
-zip_back : {A B : Type 0} (R : A → B → Type 0) (xs : List A) (ys : List B) (i : ℕ) (y : B) → AllZip R xs ys → slice_get ys i ≡ Some y → (x : A) × (slice_get xs i ≡ Some x) × R x y
+zip_back : {A B : Type 0} (R : A → B → Type 0) (xs : List A) (ys : List B) (i : ℕ) (y : B) → AllZip R xs ys → slice_get ys i ≡ Some y
+    → (x : A) × (slice_get xs i ≡ Some x) × R x y
 zip_back R [] [] i y all at = absurd cc
 zip_back R [] (z ∷ ys) i y all at = absurd all
 zip_back R (x ∷ xs) [] i y all at = absurd cc
@@ -91,7 +100,8 @@ zip_back R (x ∷ xs) (z ∷ ys) (suc i) y all at = zip_back R xs ys i y all.1 a
 
 -- The instances that hold a word.
 
-pub are_holding : (qs : List QueryTree) (ps : List PredTree) (is : List Instance) (es : List ExprTree) → AreLowered qs ps is es → All (λ i. i.query < length qs) is
+pub are_holding : (qs : List QueryTree) (ps : List PredTree) (is : List Instance) (es : List ExprTree) → AreLowered qs ps is es
+    → All (λ i. i.query < length qs) is
     → (w : Word) → is_word w ≡ true → AreHolding (IsHeld qs is) w (holding es (half_steps ps w))
 are_holding qs ps is es lowered within w word = record {
   ascend = holding_rises 0 es (half_steps ps w);
@@ -111,7 +121,8 @@ are_holding qs ps is es lowered within w word = record {
         },
     λ h.
         let e = zip_at (IsLowered qs ps) is es i h.instance lowered h.at in
-        subst (Contains (holding es (half_steps ps w))) (omega arith) (holding_has 0 es (half_steps ps w) i e.0 e.1 ((e.2.language h.query h.asked w word).0 h.holds)),
+        subst (Contains (holding es (half_steps ps w))) (omega arith)
+        (holding_has 0 es (half_steps ps w) i e.0 e.1 ((e.2.language h.query h.asked w word).0 h.holds)),
   );
 }
   where
@@ -134,9 +145,14 @@ same_steps a ps lettered tells w (word, fits) = by true w word fits
         let whole = lettered.whole x fit in
         sym (tells x whole.0 fit whole.2) ∙ ap (λ o. get_or a.signatures (unwrap_or o 0) []) (sym whole.2)
 
-    by : (enters : Bool) (w : Word) → alternates enters w ≡ true → AllObservedFit w → half_steps ps w ≡ half_steps_from (side_of enters) a.signatures (letters_of a w)
+    by : (enters : Bool) (w : Word) → alternates enters w ≡ true → AllObservedFit w
+        → half_steps ps w ≡ half_steps_from (side_of enters) a.signatures (letters_of a w)
     by enters [] word fits = refl
-    by true (In x ∷ w) word fits = ap₂ (λ t v. record { side = Inward; truth = t } ∷ v) (truth x (All-head (λ o. Fit (observed_packet o)) (In x) w fits)) (by false w word (All-tail (λ o. Fit (observed_packet o)) (In x) w fits))
-    by false (Out x ∷ w) word fits = ap₂ (λ t v. record { side = Outward; truth = t } ∷ v) (truth x (All-head (λ o. Fit (observed_packet o)) (Out x) w fits)) (by true w word (All-tail (λ o. Fit (observed_packet o)) (Out x) w fits))
+    by true (In x ∷ w) word fits =
+        ap₂ (λ t v. record { side = Inward; truth = t } ∷ v) (truth x (All-head (λ o. Fit (observed_packet o)) (In x) w fits))
+        (by false w word (All-tail (λ o. Fit (observed_packet o)) (In x) w fits))
+    by false (Out x ∷ w) word fits =
+        ap₂ (λ t v. record { side = Outward; truth = t } ∷ v) (truth x (All-head (λ o. Fit (observed_packet o)) (Out x) w fits))
+        (by true w word (All-tail (λ o. Fit (observed_packet o)) (Out x) w fits))
     by true (Out x ∷ w) word fits = absurd cc
     by false (In x ∷ w) word fits = absurd cc

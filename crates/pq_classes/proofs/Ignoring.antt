@@ -4,9 +4,11 @@ use Rattle.std.specs.Prelude.{◌&&◌, ◌==◌, Some}
 use Rattle.std.specs.Option.{option_map}
 use Rattle.std.proofs.lemmas.Option.{same_Some}
 use Rattle.pq_fields.specs.declared.field.Field.{Field}
-use Rattle.pq_fields.specs.declared.field.Field.TheVariants.{Switch, Port, EthType, IpProto, EthSrc, EthDst, Ipv4Src, Ipv4Dst, TcpSrc, TcpDst, UdpSrc, UdpDst, Ipv6Src, Ipv6Dst}
+use Rattle.pq_fields.specs.declared.field.Field.TheVariants.{Switch, Port, EthType, IpProto, EthSrc, EthDst, Ipv4Src, Ipv4Dst, TcpSrc}
+use Rattle.pq_fields.specs.declared.field.Field.TheVariants.{TcpDst, UdpSrc, UdpDst, Ipv6Src, Ipv6Dst}
 use Rattle.pq_fields.specs.Packet.{Fit, Numbers, has_field, is_ip, number_in, rank, width_of, with_number}
-use Rattle.pq_fields.specs.Pred.{PredTop, PredTree, Preds, none, put, Always, Never, Equals, Leads, LeadsWide, Every, Some as AnyOf, Negated, holds, is_true, leading, truths}
+use Rattle.pq_fields.specs.Pred.{PredTop, PredTree, Preds, none, put, Always, Never, Equals, Leads, LeadsWide, Every, Some as AnyOf}
+use Rattle.pq_fields.specs.Pred.{Negated, holds, is_true, leading, truths}
 use Rattle.pq_store.proofs.PrefixNumbers.{number_with_other}
 use Rattle.pq_store.proofs.Order.{rank_injective}
 use Rattle.pq_store.specs.Tree.{value}
@@ -67,20 +69,230 @@ has_kept Ipv6Dst g n x lacks = has_by g (record x { ipv6_dst = n }) x refl refl
 
 -- a packet stays one with a number that fits
 pub fit_with : (f : Field) (n : ℕ) (x : Numbers) → Fit x → n < 2 ^ width_of f → Fit (with_number f n x)
-fit_with Switch n x fit small = record { switch = small; port = fit.port; eth_type = fit.eth_type; ip_proto = fit.ip_proto; eth_src = fit.eth_src; eth_dst = fit.eth_dst; ipv4_src = fit.ipv4_src; ipv4_dst = fit.ipv4_dst; tcp_src = fit.tcp_src; tcp_dst = fit.tcp_dst; udp_src = fit.udp_src; udp_dst = fit.udp_dst; ipv6_src = fit.ipv6_src; ipv6_dst = fit.ipv6_dst }
-fit_with Port n x fit small = record { switch = fit.switch; port = small; eth_type = fit.eth_type; ip_proto = fit.ip_proto; eth_src = fit.eth_src; eth_dst = fit.eth_dst; ipv4_src = fit.ipv4_src; ipv4_dst = fit.ipv4_dst; tcp_src = fit.tcp_src; tcp_dst = fit.tcp_dst; udp_src = fit.udp_src; udp_dst = fit.udp_dst; ipv6_src = fit.ipv6_src; ipv6_dst = fit.ipv6_dst }
-fit_with EthType n x fit small = record { switch = fit.switch; port = fit.port; eth_type = small; ip_proto = fit.ip_proto; eth_src = fit.eth_src; eth_dst = fit.eth_dst; ipv4_src = fit.ipv4_src; ipv4_dst = fit.ipv4_dst; tcp_src = fit.tcp_src; tcp_dst = fit.tcp_dst; udp_src = fit.udp_src; udp_dst = fit.udp_dst; ipv6_src = fit.ipv6_src; ipv6_dst = fit.ipv6_dst }
-fit_with IpProto n x fit small = record { switch = fit.switch; port = fit.port; eth_type = fit.eth_type; ip_proto = small; eth_src = fit.eth_src; eth_dst = fit.eth_dst; ipv4_src = fit.ipv4_src; ipv4_dst = fit.ipv4_dst; tcp_src = fit.tcp_src; tcp_dst = fit.tcp_dst; udp_src = fit.udp_src; udp_dst = fit.udp_dst; ipv6_src = fit.ipv6_src; ipv6_dst = fit.ipv6_dst }
-fit_with EthSrc n x fit small = record { switch = fit.switch; port = fit.port; eth_type = fit.eth_type; ip_proto = fit.ip_proto; eth_src = small; eth_dst = fit.eth_dst; ipv4_src = fit.ipv4_src; ipv4_dst = fit.ipv4_dst; tcp_src = fit.tcp_src; tcp_dst = fit.tcp_dst; udp_src = fit.udp_src; udp_dst = fit.udp_dst; ipv6_src = fit.ipv6_src; ipv6_dst = fit.ipv6_dst }
-fit_with EthDst n x fit small = record { switch = fit.switch; port = fit.port; eth_type = fit.eth_type; ip_proto = fit.ip_proto; eth_src = fit.eth_src; eth_dst = small; ipv4_src = fit.ipv4_src; ipv4_dst = fit.ipv4_dst; tcp_src = fit.tcp_src; tcp_dst = fit.tcp_dst; udp_src = fit.udp_src; udp_dst = fit.udp_dst; ipv6_src = fit.ipv6_src; ipv6_dst = fit.ipv6_dst }
-fit_with Ipv4Src n x fit small = record { switch = fit.switch; port = fit.port; eth_type = fit.eth_type; ip_proto = fit.ip_proto; eth_src = fit.eth_src; eth_dst = fit.eth_dst; ipv4_src = small; ipv4_dst = fit.ipv4_dst; tcp_src = fit.tcp_src; tcp_dst = fit.tcp_dst; udp_src = fit.udp_src; udp_dst = fit.udp_dst; ipv6_src = fit.ipv6_src; ipv6_dst = fit.ipv6_dst }
-fit_with Ipv4Dst n x fit small = record { switch = fit.switch; port = fit.port; eth_type = fit.eth_type; ip_proto = fit.ip_proto; eth_src = fit.eth_src; eth_dst = fit.eth_dst; ipv4_src = fit.ipv4_src; ipv4_dst = small; tcp_src = fit.tcp_src; tcp_dst = fit.tcp_dst; udp_src = fit.udp_src; udp_dst = fit.udp_dst; ipv6_src = fit.ipv6_src; ipv6_dst = fit.ipv6_dst }
-fit_with TcpSrc n x fit small = record { switch = fit.switch; port = fit.port; eth_type = fit.eth_type; ip_proto = fit.ip_proto; eth_src = fit.eth_src; eth_dst = fit.eth_dst; ipv4_src = fit.ipv4_src; ipv4_dst = fit.ipv4_dst; tcp_src = small; tcp_dst = fit.tcp_dst; udp_src = fit.udp_src; udp_dst = fit.udp_dst; ipv6_src = fit.ipv6_src; ipv6_dst = fit.ipv6_dst }
-fit_with TcpDst n x fit small = record { switch = fit.switch; port = fit.port; eth_type = fit.eth_type; ip_proto = fit.ip_proto; eth_src = fit.eth_src; eth_dst = fit.eth_dst; ipv4_src = fit.ipv4_src; ipv4_dst = fit.ipv4_dst; tcp_src = fit.tcp_src; tcp_dst = small; udp_src = fit.udp_src; udp_dst = fit.udp_dst; ipv6_src = fit.ipv6_src; ipv6_dst = fit.ipv6_dst }
-fit_with UdpSrc n x fit small = record { switch = fit.switch; port = fit.port; eth_type = fit.eth_type; ip_proto = fit.ip_proto; eth_src = fit.eth_src; eth_dst = fit.eth_dst; ipv4_src = fit.ipv4_src; ipv4_dst = fit.ipv4_dst; tcp_src = fit.tcp_src; tcp_dst = fit.tcp_dst; udp_src = small; udp_dst = fit.udp_dst; ipv6_src = fit.ipv6_src; ipv6_dst = fit.ipv6_dst }
-fit_with UdpDst n x fit small = record { switch = fit.switch; port = fit.port; eth_type = fit.eth_type; ip_proto = fit.ip_proto; eth_src = fit.eth_src; eth_dst = fit.eth_dst; ipv4_src = fit.ipv4_src; ipv4_dst = fit.ipv4_dst; tcp_src = fit.tcp_src; tcp_dst = fit.tcp_dst; udp_src = fit.udp_src; udp_dst = small; ipv6_src = fit.ipv6_src; ipv6_dst = fit.ipv6_dst }
-fit_with Ipv6Src n x fit small = record { switch = fit.switch; port = fit.port; eth_type = fit.eth_type; ip_proto = fit.ip_proto; eth_src = fit.eth_src; eth_dst = fit.eth_dst; ipv4_src = fit.ipv4_src; ipv4_dst = fit.ipv4_dst; tcp_src = fit.tcp_src; tcp_dst = fit.tcp_dst; udp_src = fit.udp_src; udp_dst = fit.udp_dst; ipv6_src = small; ipv6_dst = fit.ipv6_dst }
-fit_with Ipv6Dst n x fit small = record { switch = fit.switch; port = fit.port; eth_type = fit.eth_type; ip_proto = fit.ip_proto; eth_src = fit.eth_src; eth_dst = fit.eth_dst; ipv4_src = fit.ipv4_src; ipv4_dst = fit.ipv4_dst; tcp_src = fit.tcp_src; tcp_dst = fit.tcp_dst; udp_src = fit.udp_src; udp_dst = fit.udp_dst; ipv6_src = fit.ipv6_src; ipv6_dst = small }
+fit_with Switch n x fit small = record {
+  switch = small;
+  port = fit.port;
+  eth_type = fit.eth_type;
+  ip_proto = fit.ip_proto;
+  eth_src = fit.eth_src;
+  eth_dst = fit.eth_dst;
+  ipv4_src = fit.ipv4_src;
+  ipv4_dst = fit.ipv4_dst;
+  tcp_src = fit.tcp_src;
+  tcp_dst = fit.tcp_dst;
+  udp_src = fit.udp_src;
+  udp_dst = fit.udp_dst;
+  ipv6_src = fit.ipv6_src;
+  ipv6_dst = fit.ipv6_dst;
+}
+fit_with Port n x fit small = record {
+  switch = fit.switch;
+  port = small;
+  eth_type = fit.eth_type;
+  ip_proto = fit.ip_proto;
+  eth_src = fit.eth_src;
+  eth_dst = fit.eth_dst;
+  ipv4_src = fit.ipv4_src;
+  ipv4_dst = fit.ipv4_dst;
+  tcp_src = fit.tcp_src;
+  tcp_dst = fit.tcp_dst;
+  udp_src = fit.udp_src;
+  udp_dst = fit.udp_dst;
+  ipv6_src = fit.ipv6_src;
+  ipv6_dst = fit.ipv6_dst;
+}
+fit_with EthType n x fit small = record {
+  switch = fit.switch;
+  port = fit.port;
+  eth_type = small;
+  ip_proto = fit.ip_proto;
+  eth_src = fit.eth_src;
+  eth_dst = fit.eth_dst;
+  ipv4_src = fit.ipv4_src;
+  ipv4_dst = fit.ipv4_dst;
+  tcp_src = fit.tcp_src;
+  tcp_dst = fit.tcp_dst;
+  udp_src = fit.udp_src;
+  udp_dst = fit.udp_dst;
+  ipv6_src = fit.ipv6_src;
+  ipv6_dst = fit.ipv6_dst;
+}
+fit_with IpProto n x fit small = record {
+  switch = fit.switch;
+  port = fit.port;
+  eth_type = fit.eth_type;
+  ip_proto = small;
+  eth_src = fit.eth_src;
+  eth_dst = fit.eth_dst;
+  ipv4_src = fit.ipv4_src;
+  ipv4_dst = fit.ipv4_dst;
+  tcp_src = fit.tcp_src;
+  tcp_dst = fit.tcp_dst;
+  udp_src = fit.udp_src;
+  udp_dst = fit.udp_dst;
+  ipv6_src = fit.ipv6_src;
+  ipv6_dst = fit.ipv6_dst;
+}
+fit_with EthSrc n x fit small = record {
+  switch = fit.switch;
+  port = fit.port;
+  eth_type = fit.eth_type;
+  ip_proto = fit.ip_proto;
+  eth_src = small;
+  eth_dst = fit.eth_dst;
+  ipv4_src = fit.ipv4_src;
+  ipv4_dst = fit.ipv4_dst;
+  tcp_src = fit.tcp_src;
+  tcp_dst = fit.tcp_dst;
+  udp_src = fit.udp_src;
+  udp_dst = fit.udp_dst;
+  ipv6_src = fit.ipv6_src;
+  ipv6_dst = fit.ipv6_dst;
+}
+fit_with EthDst n x fit small = record {
+  switch = fit.switch;
+  port = fit.port;
+  eth_type = fit.eth_type;
+  ip_proto = fit.ip_proto;
+  eth_src = fit.eth_src;
+  eth_dst = small;
+  ipv4_src = fit.ipv4_src;
+  ipv4_dst = fit.ipv4_dst;
+  tcp_src = fit.tcp_src;
+  tcp_dst = fit.tcp_dst;
+  udp_src = fit.udp_src;
+  udp_dst = fit.udp_dst;
+  ipv6_src = fit.ipv6_src;
+  ipv6_dst = fit.ipv6_dst;
+}
+fit_with Ipv4Src n x fit small = record {
+  switch = fit.switch;
+  port = fit.port;
+  eth_type = fit.eth_type;
+  ip_proto = fit.ip_proto;
+  eth_src = fit.eth_src;
+  eth_dst = fit.eth_dst;
+  ipv4_src = small;
+  ipv4_dst = fit.ipv4_dst;
+  tcp_src = fit.tcp_src;
+  tcp_dst = fit.tcp_dst;
+  udp_src = fit.udp_src;
+  udp_dst = fit.udp_dst;
+  ipv6_src = fit.ipv6_src;
+  ipv6_dst = fit.ipv6_dst;
+}
+fit_with Ipv4Dst n x fit small = record {
+  switch = fit.switch;
+  port = fit.port;
+  eth_type = fit.eth_type;
+  ip_proto = fit.ip_proto;
+  eth_src = fit.eth_src;
+  eth_dst = fit.eth_dst;
+  ipv4_src = fit.ipv4_src;
+  ipv4_dst = small;
+  tcp_src = fit.tcp_src;
+  tcp_dst = fit.tcp_dst;
+  udp_src = fit.udp_src;
+  udp_dst = fit.udp_dst;
+  ipv6_src = fit.ipv6_src;
+  ipv6_dst = fit.ipv6_dst;
+}
+fit_with TcpSrc n x fit small = record {
+  switch = fit.switch;
+  port = fit.port;
+  eth_type = fit.eth_type;
+  ip_proto = fit.ip_proto;
+  eth_src = fit.eth_src;
+  eth_dst = fit.eth_dst;
+  ipv4_src = fit.ipv4_src;
+  ipv4_dst = fit.ipv4_dst;
+  tcp_src = small;
+  tcp_dst = fit.tcp_dst;
+  udp_src = fit.udp_src;
+  udp_dst = fit.udp_dst;
+  ipv6_src = fit.ipv6_src;
+  ipv6_dst = fit.ipv6_dst;
+}
+fit_with TcpDst n x fit small = record {
+  switch = fit.switch;
+  port = fit.port;
+  eth_type = fit.eth_type;
+  ip_proto = fit.ip_proto;
+  eth_src = fit.eth_src;
+  eth_dst = fit.eth_dst;
+  ipv4_src = fit.ipv4_src;
+  ipv4_dst = fit.ipv4_dst;
+  tcp_src = fit.tcp_src;
+  tcp_dst = small;
+  udp_src = fit.udp_src;
+  udp_dst = fit.udp_dst;
+  ipv6_src = fit.ipv6_src;
+  ipv6_dst = fit.ipv6_dst;
+}
+fit_with UdpSrc n x fit small = record {
+  switch = fit.switch;
+  port = fit.port;
+  eth_type = fit.eth_type;
+  ip_proto = fit.ip_proto;
+  eth_src = fit.eth_src;
+  eth_dst = fit.eth_dst;
+  ipv4_src = fit.ipv4_src;
+  ipv4_dst = fit.ipv4_dst;
+  tcp_src = fit.tcp_src;
+  tcp_dst = fit.tcp_dst;
+  udp_src = small;
+  udp_dst = fit.udp_dst;
+  ipv6_src = fit.ipv6_src;
+  ipv6_dst = fit.ipv6_dst;
+}
+fit_with UdpDst n x fit small = record {
+  switch = fit.switch;
+  port = fit.port;
+  eth_type = fit.eth_type;
+  ip_proto = fit.ip_proto;
+  eth_src = fit.eth_src;
+  eth_dst = fit.eth_dst;
+  ipv4_src = fit.ipv4_src;
+  ipv4_dst = fit.ipv4_dst;
+  tcp_src = fit.tcp_src;
+  tcp_dst = fit.tcp_dst;
+  udp_src = fit.udp_src;
+  udp_dst = small;
+  ipv6_src = fit.ipv6_src;
+  ipv6_dst = fit.ipv6_dst;
+}
+fit_with Ipv6Src n x fit small = record {
+  switch = fit.switch;
+  port = fit.port;
+  eth_type = fit.eth_type;
+  ip_proto = fit.ip_proto;
+  eth_src = fit.eth_src;
+  eth_dst = fit.eth_dst;
+  ipv4_src = fit.ipv4_src;
+  ipv4_dst = fit.ipv4_dst;
+  tcp_src = fit.tcp_src;
+  tcp_dst = fit.tcp_dst;
+  udp_src = fit.udp_src;
+  udp_dst = fit.udp_dst;
+  ipv6_src = small;
+  ipv6_dst = fit.ipv6_dst;
+}
+fit_with Ipv6Dst n x fit small = record {
+  switch = fit.switch;
+  port = fit.port;
+  eth_type = fit.eth_type;
+  ip_proto = fit.ip_proto;
+  eth_src = fit.eth_src;
+  eth_dst = fit.eth_dst;
+  ipv4_src = fit.ipv4_src;
+  ipv4_dst = fit.ipv4_dst;
+  tcp_src = fit.tcp_src;
+  tcp_dst = fit.tcp_dst;
+  udp_src = fit.udp_src;
+  udp_dst = fit.udp_dst;
+  ipv6_src = fit.ipv6_src;
+  ipv6_dst = small;
+}
 
 module _ (f : Field) (n : ℕ) (x : Numbers) (lacks : has_field f x ≡ false) where
   abbrev changed : Numbers
@@ -109,7 +321,8 @@ module _ (f : Field) (n : ℕ) (x : Numbers) (lacks : has_field f x ≡ false) w
 
   truths_kept : (ps : Preds) → truths ps changed ≡ truths ps x
   truths_kept none = refl
-  truths_kept (put top below rest) = ap₂ (λ b bs. b ∷ bs) (ap (λ bs. is_true top bs changed) (truths_kept below) ∙ top_kept top (truths below x)) (truths_kept rest)
+  truths_kept (put top below rest) = ap₂ (λ b bs. b ∷ bs) (ap (λ bs. is_true top bs changed) (truths_kept below)
+      ∙ top_kept top (truths below x)) (truths_kept rest)
 
   -- so a predicate holds as before
   pub holds_kept : (p : PredTree) → holds p changed ≡ holds p x

@@ -1,5 +1,6 @@
 -- The states of a least automaton over letters are the classes of words of packets, numbered by least words.
-use Rattle.std.proofs.Common.{◌≡◌, ◌<◌, ◌≤◌, ℕ, suc, zero, Bool, true, false, inl, inr, List, [], ◌∷◌, ◌++◌, length, get_or, refl, sym, ap, subst, ◌∙◌, arith, length-append, true≢false}
+use Rattle.std.proofs.Common.{◌≡◌, ◌<◌, ◌≤◌, ℕ, suc, zero, Bool, true, false, inl, inr, List, [], ◌∷◌, ◌++◌, length, get_or, refl, sym, ap}
+use Rattle.std.proofs.Common.{subst, ◌∙◌, arith, length-append, true≢false}
 use Rattle.std.specs.Prelude.{slice_get, Some, All}
 use Rattle.std.specs.List.{Contains}
 use Rattle.std.proofs.lemmas.Bool.{cases_order}
@@ -16,7 +17,8 @@ use Rattle.pq_model.proofs.NumberLists.{not_back, before_trans}
 use Rattle.pq_letters.proofs.Spelled.{lesser_word, not_before_least}
 use Rattle.pq_classes.specs.Told.{AreClasses, AreHolding, class_of}
 use Rattle.pq_classes.proofs.Order.{letters_before, one_word}
-use Rattle.pq_classes.proofs.Spelled.{even_append, even_letters, least_spelled, letters_append, letters_below, letters_spelled, path_more, spelled, spelled_path}
+use Rattle.pq_classes.proofs.Spelled.{even_append, even_letters, least_spelled, letters_append, letters_below, letters_spelled, path_more}
+use Rattle.pq_classes.proofs.Spelled.{spelled, spelled_path}
 use Rattle.pq_classes.proofs.Following.{follow_append, follow_within, same_contents}
 
 -- The list of what a function gives for each number below a bound.
@@ -56,7 +58,8 @@ at_each f (suc n) k below = elim (cases_order k n) [
   ]
 ]
 
-module _ (Ls : Languages) (a : LettersValue) (lettered : IsLettered a) (m : Machine) (machine : IsMachine m) (numbering : IsNumbered m) (least : IsLeastMachine m) (letters : m.letters ≡ length a.least)
+module _ (Ls : Languages) (a : LettersValue) (lettered : IsLettered a) (m : Machine) (machine : IsMachine m) (numbering : IsNumbered m)
+    (least : IsLeastMachine m) (letters : m.letters ≡ length a.least)
     (even : (w : List ℕ) → AllBelow m.letters w → is_even_at m (reached m w) ≡ has_even_count w)
     (holding : (w : Word) → IsPath w → AreHolding Ls w (accepted_at m (class_of a m w))) where
   -- the letters of a word of packets are letters of the automaton
@@ -92,8 +95,10 @@ module _ (Ls : Languages) (a : LettersValue) (lettered : IsLettered a) (m : Mach
   }
 
   -- the class of a word with least packets after it
-  spelled_more : (u : Word) → IsPath u → (ls : List ℕ) → AllBelow m.letters ls → class_of a m (u ++ spelled a (has_even_length u) ls) ≡ follow m.rows (class_of a m u) ls
-  spelled_more u path ls below = class_more u (spelled a (has_even_length u) ls) ∙ ap (follow m.rows (class_of a m u)) (letters_spelled a lettered (has_even_length u) ls (to_letters ls below))
+  spelled_more : (u : Word) → IsPath u → (ls : List ℕ) → AllBelow m.letters ls
+      → class_of a m (u ++ spelled a (has_even_length u) ls) ≡ follow m.rows (class_of a m u) ls
+  spelled_more u path ls below = class_more u (spelled a (has_even_length u) ls)
+      ∙ ap (follow m.rows (class_of a m u)) (letters_spelled a lettered (has_even_length u) ls (to_letters ls below))
 
   -- words that are the same are of one class
   pub class_from_same : (u v : Word) → IsPath u → IsPath v → AreSame Ls u v → class_of a m u ≡ class_of a m v
@@ -159,12 +164,16 @@ module _ (Ls : Languages) (a : LettersValue) (lettered : IsLettered a) (m : Mach
         | inr before ↦ by (word_is_before v (first_word c)) refl (
             subst (λ u. word_is_before u (least_word a v) ≡ true) (first_own c within)
             (lesser_word a lettered (first_word c) v path.1
-            (subst (λ ls. letters_are_before ls (letters_of a v) ≡ true) (sym (first_letters c within)) (letters_before (get_or numbering.0 c []) (letters_of a v) before))))
+            (subst (λ ls. letters_are_before ls (letters_of a v) ≡ true) (sym (first_letters c within))
+            (letters_before (get_or numbering.0 c []) (letters_of a v) before))))
       ]
     where
-      by : (b : Bool) → word_is_before v (first_word (class_of a m v)) ≡ b → word_is_before (first_word (class_of a m v)) (least_word a v) ≡ true → word_is_before v (first_word (class_of a m v)) ≡ false
+      by : (b : Bool) → word_is_before v (first_word (class_of a m v)) ≡ b → word_is_before (first_word (class_of a m v)) (least_word a v)
+          ≡ true → word_is_before v (first_word (class_of a m v)) ≡ false
       by false is after = is
-      by true is after = absurd (true≢false (sym (before_trans (word_numbers v) (word_numbers (first_word (class_of a m v))) (word_numbers (least_word a v)) is after) ∙ not_before_least a lettered v path.1))
+      by true is after = absurd
+          (true≢false (sym (before_trans (word_numbers v) (word_numbers (first_word (class_of a m v)))
+          (word_numbers (least_word a v)) is after) ∙ not_before_least a lettered v path.1))
 
   -- it is the least of its class
   pub first_is_least : (c : ℕ) → c < length m.rows → IsLeast Ls (first_word c)
@@ -181,7 +190,8 @@ module _ (Ls : Languages) (a : LettersValue) (lettered : IsLettered a) (m : Mach
       let c = class_of a m u in
       let within = class_within u is.path in
       let path = first_path c within in
-      one_word u (first_word c) is.path.0 path.0 (first_least u is.path) (is.least (first_word c) path (same_from_class u (first_word c) is.path path (sym (first_class c within))))
+      one_word u (first_word c) is.path.0 path.0 (first_least u is.path)
+      (is.least (first_word c) path (same_from_class u (first_word c) is.path path (sym (first_class c within))))
 
   -- the words of the classes below a class are just the least words before its own
   smaller_first : (u : Word) (c : ℕ) → c < length m.rows → IsLeast Ls u → word_is_before u (first_word c) ≡ true → class_of a m u < c
@@ -190,10 +200,15 @@ module _ (Ls : Languages) (a : LettersValue) (lettered : IsLettered a) (m : Mach
       let own : u ≡ first_word d = least_is_first u is in
       let less : word_is_before (first_word d) (first_word c) ≡ true = subst (λ w. word_is_before w (first_word c) ≡ true) own before in
       elim (cases_order d c) [
-        | inl same ↦ absurd (true≢false (sym less ∙ subst (λ e. word_is_before (first_word d) (first_word e) ≡ false) same (not_back (word_numbers (first_word d)) (word_numbers (first_word d)) (subst (λ e. word_is_before (first_word d) (first_word e) ≡ true) (sym same) less))))
+        | inl same ↦ absurd (true≢false (sym less
+            ∙ subst (λ e. word_is_before (first_word d) (first_word e) ≡ false) same
+            (not_back (word_numbers (first_word d)) (word_numbers (first_word d))
+            (subst (λ e. word_is_before (first_word d) (first_word e) ≡ true) (sym same) less))))
         | inr other ↦ elim other [
           | inl lower ↦ lower
-          | inr higher ↦ absurd (true≢false (sym less ∙ not_back (word_numbers (first_word c)) (word_numbers (first_word d)) (first_before c d higher (class_within u is.path))))
+          | inr higher ↦ absurd
+              (true≢false (sym less
+              ∙ not_back (word_numbers (first_word c)) (word_numbers (first_word d)) (first_before c d higher (class_within u is.path))))
         ]
       ]
 
@@ -214,7 +229,10 @@ module _ (Ls : Languages) (a : LettersValue) (lettered : IsLettered a) (m : Mach
         exact = λ u. (
           λ h.
               let told = each_at first_word c h.0 u (slice_get-get_or smaller h.0 u h.1 ∙ ap Some h.2) in
-              subst (λ v. IsLeast Ls v × (word_is_before v (first_word c) ≡ true)) (sym told.1) (first_is_least h.0 (lower h.0 told.0), first_before h.0 c told.0 within),
+              subst (λ v. IsLeast Ls v × (word_is_before v (first_word c) ≡ true)) (sym told.1) (
+                first_is_least h.0 (lower h.0 told.0),
+                first_before h.0 c told.0 within,
+              ),
           λ h.
               let d = class_of a m u in
               let less = smaller_first u c within h.0 h.1 in
@@ -227,7 +245,8 @@ module _ (Ls : Languages) (a : LettersValue) (lettered : IsLettered a) (m : Mach
   paths_below : (n : ℕ) → n ≤ length m.rows → All IsPath (each_below first_word n)
   unfolding each_below
   paths_below zero within = All-nil IsPath
-  paths_below (suc n) within = All-push IsPath (each_below first_word n) (first_word n) (paths_below n (omega (arith, within))) (first_path n (omega (arith, within)))
+  paths_below (suc n) within = All-push IsPath (each_below first_word n) (first_word n) (paths_below n (omega (arith, within)))
+      (first_path n (omega (arith, within)))
 
   count_of : HasClasses Ls (length m.rows)
   count_of = let n = length m.rows in let words = each_below first_word n in record {
@@ -239,12 +258,18 @@ module _ (Ls : Languages) (a : LettersValue) (lettered : IsLettered a) (m : Mach
         let told_j = each_at first_word n j v at_j in
         let path_u = subst IsPath (sym told_i.1) (first_path i told_i.0) in
         let path_v = subst IsPath (sym told_j.1) (first_path j told_j.0) in
-        sym (first_class i told_i.0) ∙ ap (class_of a m) (sym told_i.1) ∙ class_from_same u v path_u path_v same ∙ ap (class_of a m) told_j.1 ∙ first_class j told_j.0;
+        sym (first_class i told_i.0) ∙ ap (class_of a m) (sym told_i.1) ∙ class_from_same u v path_u path_v same
+        ∙ ap (class_of a m) told_j.1 ∙ first_class j told_j.0;
     every = λ w path.
         let c = class_of a m w in
         let within = class_within w path in
-        let at : slice_get words c ≡ Some (first_word c) = at_each first_word n c within in
-        (c, first_word c, slice_get_within words c (first_word c) at, get_or_from_slice_get words c (first_word c) (first_word c) at, same_from_class w (first_word c) path (first_path c within) (sym (first_class c within)));
+        let at : slice_get words c ≡ Some (first_word c) = at_each first_word n c within in (
+          c,
+          first_word c,
+          slice_get_within words c (first_word c) at,
+          get_or_from_slice_get words c (first_word c) (first_word c) at,
+          same_from_class w (first_word c) path (first_path c within) (sym (first_class c within)),
+        );
   }
 
   pub are_classes : AreClasses Ls a m

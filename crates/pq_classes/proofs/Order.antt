@@ -1,5 +1,6 @@
 -- The orders of words, and lists of numbers that ascend.
-use Rattle.std.proofs.Common.{◌≡◌, ℕ, Bool, true, false, inl, inr, List, [], ◌∷◌, ◌++◌, length, get_or, drop, flat_map, refl, sym, ap, ap₂, subst, ◌∙◌, arith, true≢false}
+use Rattle.std.proofs.Common.{◌≡◌, ℕ, Bool, true, false, inl, inr, List, [], ◌∷◌, ◌++◌, length, get_or, drop, flat_map, refl, sym, ap, ap₂}
+use Rattle.std.proofs.Common.{subst, ◌∙◌, arith, true≢false}
 use Rattle.std.specs.Ordering.{is_lt}
 use Rattle.pq_fields.specs.Packet.{Numbers, is_before, numbers}
 use Rattle.pq_model.specs.Word.{Word, In, Out, observed_packet, alternates, is_word, word_is_before, word_numbers}

@@ -92,7 +92,8 @@ module _ (a : LettersValue) (lettered : IsLettered a) where
       (subst (λ k. k < length a.least) (sym number) whole.1, letters_below w (All-tail (λ o. Fit (observed_packet o)) o w fit))
 
 -- where a word ends, the next observation is an In after an even length
-pub alternates_append : (enters : Bool) (u e : Word) → alternates enters u ≡ true → alternates (if has_even_length u then enters else not enters) e ≡ true → alternates enters (u ++ e) ≡ true
+pub alternates_append : (enters : Bool) (u e : Word) → alternates enters u ≡ true
+    → alternates (if has_even_length u then enters else not enters) e ≡ true → alternates enters (u ++ e) ≡ true
 alternates_append enters [] e h k = k
 alternates_append true (In x ∷ u) e h k = alternates_append false u e h (turned (has_even_length u) e k)
   where
@@ -108,7 +109,8 @@ alternates_append true (Out x ∷ u) e h k = absurd cc
 alternates_append false (In x ∷ u) e h k = absurd cc
 
 -- a word with least packets after it is a word of packets
-pub path_more : (a : LettersValue) → IsLettered a → (u : Word) → IsPath u → (ls : List ℕ) → AllBelow (length a.least) ls → IsPath (u ++ spelled a (has_even_length u) ls)
+pub path_more : (a : LettersValue) → IsLettered a → (u : Word) → IsPath u → (ls : List ℕ) → AllBelow (length a.least) ls
+    → IsPath (u ++ spelled a (has_even_length u) ls)
 path_more a lettered u (is, fits) ls below = (
   alternates_append true u (spelled a (has_even_length u) ls) is (by (has_even_length u)),
   All-append (λ o. Fit (observed_packet o)) u (spelled a (has_even_length u) ls) fits (spelled_fits a lettered (has_even_length u) ls below),

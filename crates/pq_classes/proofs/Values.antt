@@ -7,7 +7,8 @@ use Rattle.std.specs.Ordering.{nat_cmp}
 use Rattle.std.proofs.lemmas.List.Elements.{All-nil, All-cons, All-head, All-tail, All-append, All-map, All-weaker, recursion_from_All}
 use Rattle.std.proofs.lemmas.Map.Views.{All-insert_key}
 use Rattle.pq_fields.specs.declared.field.Field.{Field}
-use Rattle.pq_fields.specs.declared.field.Field.TheVariants.{Switch, Port, EthType, IpProto, EthSrc, EthDst, Ipv4Src, Ipv4Dst, TcpSrc, TcpDst, UdpSrc, UdpDst, Ipv6Src, Ipv6Dst}
+use Rattle.pq_fields.specs.declared.field.Field.TheVariants.{Switch, Port, EthType, IpProto, EthSrc, EthDst, Ipv4Src, Ipv4Dst, TcpSrc}
+use Rattle.pq_fields.specs.declared.field.Field.TheVariants.{TcpDst, UdpSrc, UdpDst, Ipv6Src, Ipv6Dst}
 use Rattle.pq_fields.specs.Pred.{FitsField}
 use Rattle.pq_model.specs.Buckets.{Instance}
 use Rattle.pq_model.specs.Install.{IsLawfulSwitch}
@@ -32,31 +33,41 @@ ascending_all : (P : ℕ → Type 0) (ns : List ℕ) → All P ns → All P (asc
 ascending_all P [] all = all
 ascending_all P (n ∷ ns) all = All-insert_key nat_cmp n P (ascending ns) (ascending_all P ns (All-tail P n ns all)) (All-head P n ns all)
 
-led_along : (W : Field → ℕ → Type 0) (g : Group) (gs : List Group) (R : List (List ℕ)) → All (Along W gs) R → (ns : List ℕ) → All (W g.field) ns → All (Along W (g ∷ gs)) (flat_map (λ n. map (λ label. n ∷ label) R) ns)
+led_along : (W : Field → ℕ → Type 0) (g : Group) (gs : List Group) (R : List (List ℕ)) → All (Along W gs) R → (ns : List ℕ)
+    → All (W g.field) ns → All (Along W (g ∷ gs)) (flat_map (λ n. map (λ label. n ∷ label) R) ns)
 led_along W g gs R rest [] all = All-nil (Along W (g ∷ gs))
 led_along W g gs R rest (n ∷ ns) all =
     All-append (Along W (g ∷ gs)) (map (λ label. n ∷ label) R) (flat_map (λ n. map (λ label. n ∷ label) R) ns)
-    (All-map (Along W (g ∷ gs)) (λ label. n ∷ label) R (All-weaker (Along W gs) (λ label. Along W (g ∷ gs) (n ∷ label)) (λ label along. (All-head (W g.field) n ns all, along)) R rest))
+    (All-map (Along W (g ∷ gs)) (λ label. n ∷ label) R
+    (All-weaker (Along W gs) (λ label. Along W (g ∷ gs) (n ∷ label)) (λ label along. (All-head (W g.field) n ns all, along)) R rest))
     (led_along W g gs R rest ns (All-tail (W g.field) n ns all))
 
-labels_along : (W : Field → ℕ → Type 0) (T : Topology) (gs : List Group) → AllByRecursion (λ g. All (W g.field) (group_values T g)) gs → All (Along W gs) (one_from_each (map (λ g. ascending (group_values T g)) gs))
+labels_along : (W : Field → ℕ → Type 0) (T : Topology) (gs : List Group) → AllByRecursion (λ g. All (W g.field) (group_values T g)) gs
+    → All (Along W gs) (one_from_each (map (λ g. ascending (group_values T g)) gs))
 labels_along W T [] all = All-cons (Along W []) [] [] tt (All-nil (Along W []))
 labels_along W T (g ∷ gs) all =
-    led_along W g gs (one_from_each (map (λ g. ascending (group_values T g)) gs)) (labels_along W T gs all.1) (ascending (group_values T g)) (ascending_all (W g.field) (group_values T g) all.0)
+    led_along W g gs (one_from_each (map (λ g. ascending (group_values T g)) gs)) (labels_along W T gs all.1) (ascending (group_values T g))
+    (ascending_all (W g.field) (group_values T g) all.0)
 
-pub query_along : (W : Field → ℕ → Type 0) (T : Topology) (q : QueryTree) → All (λ g. All (W g.field) (group_values T g)) (groups_of (queries (q ∷ []))) → All (Along W (groups_of (queries (q ∷ [])))) (labels T q)
-query_along W T q all = labels_along W T (groups_of (queries (q ∷ []))) (recursion_from_All (λ g. All (W g.field) (group_values T g)) (groups_of (queries (q ∷ []))) all)
+pub query_along : (W : Field → ℕ → Type 0) (T : Topology) (q : QueryTree)
+    → All (λ g. All (W g.field) (group_values T g)) (groups_of (queries (q ∷ [])))
+    → All (Along W (groups_of (queries (q ∷ [])))) (labels T q)
+query_along W T q all =
+    labels_along W T (groups_of (queries (q ∷ [])))
+    (recursion_from_All (λ g. All (W g.field) (group_values T g)) (groups_of (queries (q ∷ []))) all)
 
 -- what holds of a query and each of its labels holds of the instances
 abbrev IsNumberedFrom : (QueryTree → List ℕ → Type 0) → ℕ → List QueryTree → Instance → Type 0
 IsNumberedFrom P place qs i = (place ≤ i.query) × ((j : ℕ) (q : QueryTree) → i.query ≡ place + j → slice_get qs j ≡ Some q → P q i.label)
 
-instances_all : (P : QueryTree → List ℕ → Type 0) (T : Topology) (place : ℕ) (qs : List QueryTree) → All (λ q. All (P q) (labels T q)) qs → All (IsNumberedFrom P place qs) (instances_from T place qs)
+instances_all : (P : QueryTree → List ℕ → Type 0) (T : Topology) (place : ℕ) (qs : List QueryTree) → All (λ q. All (P q) (labels T q)) qs
+    → All (IsNumberedFrom P place qs) (instances_from T place qs)
 instances_all P T place [] all = All-nil (IsNumberedFrom P place [])
 instances_all P T place (q ∷ qs) all =
     All-append (IsNumberedFrom P place (q ∷ qs)) (under_labels place (labels T q)) (instances_from T (place + 1) qs)
     (All-map (IsNumberedFrom P place (q ∷ qs)) (λ label. record { query = place; label = label }) (labels T q)
-    (All-weaker (P q) (λ label. IsNumberedFrom P place (q ∷ qs) (record { query = place; label = label })) here (labels T q) (All-head (λ q. All (P q) (labels T q)) q qs all)))
+    (All-weaker (P q) (λ label. IsNumberedFrom P place (q ∷ qs) (record { query = place; label = label })) here (labels T q)
+    (All-head (λ q. All (P q) (labels T q)) q qs all)))
     (All-weaker (IsNumberedFrom P (place + 1) qs) (IsNumberedFrom P place (q ∷ qs)) later (instances_from T (place + 1) qs)
     (instances_all P T (place + 1) qs (All-tail (λ q. All (P q) (labels T q)) q qs all)))
   where
@@ -74,9 +85,11 @@ instances_all P T place (q ∷ qs) all =
         by zero r is at = absurd (omega (arith, is, least))
         by (suc j) r is at = told j r (omega (arith, is)) at
 
-pub instances_along : (P : QueryTree → List ℕ → Type 0) (T : Topology) (qs : List QueryTree) → All (λ q. All (P q) (labels T q)) qs → All (λ i. (q : QueryTree) → slice_get qs i.query ≡ Some q → P q i.label) (instances_of T qs)
+pub instances_along : (P : QueryTree → List ℕ → Type 0) (T : Topology) (qs : List QueryTree) → All (λ q. All (P q) (labels T q)) qs
+    → All (λ i. (q : QueryTree) → slice_get qs i.query ≡ Some q → P q i.label) (instances_of T qs)
 instances_along P T qs all =
-    All-weaker (IsNumberedFrom P 0 qs) (λ i. (q : QueryTree) → slice_get qs i.query ≡ Some q → P q i.label) (λ i told q at. told.1 i.query q (omega arith) at) (instances_of T qs) (instances_all P T 0 qs all)
+    All-weaker (IsNumberedFrom P 0 qs) (λ i. (q : QueryTree) → slice_get qs i.query ≡ Some q
+    → P q i.label) (λ i told q at. told.1 i.query q (omega arith) at) (instances_of T qs) (instances_all P T 0 qs all)
 
 -- Values of lawful groups fit.
 
@@ -87,7 +100,8 @@ module _ (T : Topology) (named : IsNamedTopology T) where
 
   ports_fit : (ss : List SwitchValue) → AllByRecursion IsLawfulSwitch ss → All (λ n. n < 2 ^ 32) (flat_map (λ s. s.ports) ss)
   ports_fit [] all = All-nil (λ n. n < 2 ^ 32)
-  ports_fit (s ∷ ss) all = All-append (λ n. n < 2 ^ 32) s.ports (flat_map (λ s. s.ports) ss) (All-weaker IsPortNumber (λ n. n < 2 ^ 32) (λ n is. omega (arith, is.1)) s.ports all.0.3) (ports_fit ss all.1)
+  ports_fit (s ∷ ss) all = All-append (λ n. n < 2 ^ 32) s.ports (flat_map (λ s. s.ports) ss)
+      (All-weaker IsPortNumber (λ n. n < 2 ^ 32) (λ n is. omega (arith, is.1)) s.ports all.0.3) (ports_fit ss all.1)
 
   lawful_switches : AllByRecursion IsLawfulSwitch T.switches
   lawful_switches = recursion_from_All IsLawfulSwitch T.switches named.lawful.switches

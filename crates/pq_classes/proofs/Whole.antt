@@ -42,7 +42,8 @@ use Rattle.pq_classes.proofs.Spelled.{letters_below}
 use Rattle.pq_classes.proofs.Values.{Along, instances_along, labels_fit, query_along}
 
 -- letters, expressions and the automaton together tell the classes of words
-pub joined : (qs : List QueryTree) (ps : List PredTree) (is : List Instance) (es : List ExprTree) (a : LettersValue) (m : Machine) → All (λ i. i.query < length qs) is → AreLowered qs ps is es → IsLettered a → TellPreds ps a → IsAutomatonOf es a m
+pub joined : (qs : List QueryTree) (ps : List PredTree) (is : List Instance) (es : List ExprTree) (a : LettersValue) (m : Machine)
+    → All (λ i. i.query < length qs) is → AreLowered qs ps is es → IsLettered a → TellPreds ps a → IsAutomatonOf es a m
     → AreClasses (IsHeld qs is) a m
 joined qs ps is es a m within lowered lettered tells auto =
     are_classes (IsHeld qs is) a lettered m auto.machine auto.numbered auto.least auto.letters auto.even held
@@ -50,7 +51,8 @@ joined qs ps is es a m within lowered lettered tells auto =
     held : (w : Word) → IsPath w → AreHolding (IsHeld qs is) w (accepted_at m (class_of a m w))
     held w path =
         let below = subst (λ n. AllBelow n (letters_of a w)) (sym auto.letters) (letters_below a lettered w path.1) in
-        let said : accepted_at m (class_of a m w) ≡ holding es (half_steps ps w) = auto.accepted (letters_of a w) below ∙ ap (holding es) (sym (same_steps a ps lettered tells w path)) in
+        let said : accepted_at m (class_of a m w) ≡ holding es (half_steps ps w) = auto.accepted (letters_of a w) below
+        ∙ ap (holding es) (sym (same_steps a ps lettered tells w path)) in
         subst (AreHolding (IsHeld qs is) w) (sym said) (are_holding qs ps is es lowered within w path.0)
 
 -- Predicates of instances.
@@ -61,14 +63,17 @@ fits_tested (g ∷ gs) [] along = tt
 fits_tested (g ∷ gs) (n ∷ label) along = (along.0, fits_tested gs label along.1)
 
 -- what holds of the predicates that each instance needs holds of all that are added
-all_added : (P : PredTree → Type 0) (qs : List QueryTree) (is : List Instance) (ps : List PredTree) → All (λ i. (q : QueryTree) → slice_get qs i.query ≡ Some q → All P (added_preds q i.label)) is → All (IsAdded qs is) ps → All P ps
+all_added : (P : PredTree → Type 0) (qs : List QueryTree) (is : List Instance) (ps : List PredTree)
+    → All (λ i. (q : QueryTree) → slice_get qs i.query ≡ Some q → All P (added_preds q i.label)) is → All (IsAdded qs is) ps → All P ps
 all_added P qs is ps each added =
     All-weaker (IsAdded qs is) P
     (λ p is_added. All-contains P (added_preds is_added.query is_added.instance.label) p
-    (All-contains (λ i. (q : QueryTree) → slice_get qs i.query ≡ Some q → All P (added_preds q i.label)) is is_added.instance each is_added.listed is_added.query is_added.asked) is_added.added)
+    (All-contains (λ i. (q : QueryTree) → slice_get qs i.query ≡ Some q
+    → All P (added_preds q i.label)) is is_added.instance each is_added.listed is_added.query is_added.asked) is_added.added)
     ps added
 
-pub preds_lawful : (T : Topology) (qs : List QueryTree) (is : List Instance) (ps : List PredTree) → IsNamedTopology T → is ≡ instances_of T qs → All IsLawfulQuery qs → All (IsAdded qs is) ps → All IsLawfulPred ps
+pub preds_lawful : (T : Topology) (qs : List QueryTree) (is : List Instance) (ps : List PredTree) → IsNamedTopology T
+    → is ≡ instances_of T qs → All IsLawfulQuery qs → All (IsAdded qs is) ps → All IsLawfulPred ps
 preds_lawful T qs is ps named listed lawful added =
     all_added IsLawfulPred qs is ps
     (subst (All (λ i. (q : QueryTree) → slice_get qs i.query ≡ Some q → All IsLawfulPred (added_preds q i.label))) (sym listed)
@@ -103,17 +108,21 @@ no_needs ns = record { types = λ v among. absurd (omega (arith, among.2)); prot
 kept_within : (ns : Field → List ℕ) → IsAmong 0 (ns Port) → IsKept (Says ns)
 kept_within ns ported = record { always = tt; never = tt; dropped = ((λ narrow. ported), no_needs ns); every = λ ps some. tt; negated = λ ps some. tt }
 
-tested_within : (ns : Field → List ℕ) (gs : List Group) (label : List ℕ) → AllByRecursion (λ g. NeedsAmong ns g.field) gs → Along (IsCounted ns) gs label → AreTested (Says ns) gs label
+tested_within : (ns : Field → List ℕ) (gs : List Group) (label : List ℕ) → AllByRecursion (λ g. NeedsAmong ns g.field) gs
+    → Along (IsCounted ns) gs label → AreTested (Says ns) gs label
 tested_within ns [] label needs along = tt
 tested_within ns (g ∷ gs) [] needs along = tt
 tested_within ns (g ∷ gs) (n ∷ label) needs along = ((along.0, needs.0), tested_within ns gs label needs.1 along.1)
 
 -- the numbers that an instance adds are among those of its query
-instance_within : (ns : Field → List ℕ) (T : Topology) (q : QueryTree) → IsAmong 0 (ns Port) → IsQueryWithin ns T q → All (λ label. All (IsPredWithin ns) (added_preds q label)) (labels T q)
+instance_within : (ns : Field → List ℕ) (T : Topology) (q : QueryTree) → IsAmong 0 (ns Port) → IsQueryWithin ns T q
+    → All (λ label. All (IsPredWithin ns) (added_preds q label)) (labels T q)
 instance_within ns T q ported within =
     let gs = groups_of (queries (q ∷ [])) in
-    let values = query_along (IsCounted ns) T q (All-weaker (IsGroupWithin ns T) (λ g. All (IsCounted ns g.field) (group_values T g)) (λ g is. is.1) gs within.groups) in
-    let needs = recursion_from_All (λ g. NeedsAmong ns g.field) gs (All-weaker (IsGroupWithin ns T) (λ g. NeedsAmong ns g.field) (λ g is. is.0) gs within.groups) in
+    let values = query_along (IsCounted ns) T q (All-weaker (IsGroupWithin ns T) (λ g. All (IsCounted ns g.field) (group_values T g))
+    (λ g is. is.1) gs within.groups) in
+    let needs = recursion_from_All (λ g. NeedsAmong ns g.field) gs
+    (All-weaker (IsGroupWithin ns T) (λ g. NeedsAmong ns g.field) (λ g is. is.0) gs within.groups) in
     let own = list_built ns (own_preds (queries (q ∷ []))) (recursion_from_All (IsPredWithin ns) (own_preds (queries (q ∷ []))) within.preds) in
     All-weaker (Along (IsCounted ns) gs) (λ label. All (IsPredWithin ns) (added_preds q label))
     (λ label along. All-weaker (IsBuilt (Says ns)) (IsPredWithin ns) (λ p built. built_within ns (preds (p ∷ [])) built) (added_preds q label)
@@ -126,17 +135,20 @@ preds_within ns T qs is ps listed ported within added =
     all_added (IsPredWithin ns) qs is ps
     (subst (All (λ i. (q : QueryTree) → slice_get qs i.query ≡ Some q → All (IsPredWithin ns) (added_preds q i.label))) (sym listed)
     (instances_along (λ q label. All (IsPredWithin ns) (added_preds q label)) T qs
-    (All-weaker (IsQueryWithin ns T) (λ q. All (λ label. All (IsPredWithin ns) (added_preds q label)) (labels T q)) (λ q is. instance_within ns T q ported is) qs within)))
+    (All-weaker (IsQueryWithin ns T) (λ q. All (λ label. All (IsPredWithin ns) (added_preds q label)) (labels T q))
+    (λ q is. instance_within ns T q ported is) qs within)))
     added
 
-pub preds_room : (T : Topology) (qs : List QueryTree) (is : List Instance) (ps : List PredTree) → is ≡ instances_of T qs → FitAsQueries T qs → All (IsAdded qs is) ps → HasRoom (λ ns. All (IsPredWithin ns) ps)
+pub preds_room : (T : Topology) (qs : List QueryTree) (is : List Instance) (ps : List PredTree) → is ≡ instances_of T qs → FitAsQueries T qs
+    → All (IsAdded qs is) ps → HasRoom (λ ns. All (IsPredWithin ns) ps)
 preds_room T qs is ps listed room added =
     record { numbers = room.numbers; few = room.few; within = preds_within room.numbers T qs is ps listed room.within.0 room.within.1 added }
 
 -- How many there are.
 
 -- as many expressions as instances
-pub few_exprs : (qs : List QueryTree) (ps : List PredTree) (is : List Instance) (es : List Expr) → AreLowered qs ps is (map expr_tree es) → length is ≤ 1024 → length es < 2 ^ 32
+pub few_exprs : (qs : List QueryTree) (ps : List PredTree) (is : List Instance) (es : List Expr) → AreLowered qs ps is (map expr_tree es)
+    → length is ≤ 1024 → length es < 2 ^ 32
 few_exprs qs ps is es lowered few =
     let long = AllZip-long (IsLowered qs ps) is (map expr_tree es) lowered in
     let own = length-map es expr_tree in
@@ -156,5 +168,6 @@ pub few_instances : (T : Topology) (qs : List QueryTree) (is : List Instance) �
 few_instances T qs is listed few = let long = ap length listed in let all = instances_long T 0 qs in omega (arith, long, all, few)
 
 -- queries without their names are as many
-pub within_trees : (queries : List (List ℕ × Query)) (is : List Instance) → All (λ i. i.query < length queries) is → All (λ i. i.query < length (named_trees queries)) is
+pub within_trees : (queries : List (List ℕ × Query)) (is : List Instance) → All (λ i. i.query < length queries) is
+    → All (λ i. i.query < length (named_trees queries)) is
 within_trees queries is within = subst (λ n. All (λ i. i.query < n) is) (sym (length-map queries (λ q. query_tree q.1))) within

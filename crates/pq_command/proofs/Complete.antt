@@ -9,8 +9,11 @@ use Rattle.pq_replay.proofs.Replayable.{not_damaged, no_syntax_fault, not_too_ma
 use Rattle.pq_command.specs.declared.words.Command.{Command}
 use Rattle.pq_command.specs.declared.words.Command.TheVariants.{Compile, Session, Replay, Inspect, Summary, SummaryOf, Generate, Speak}
 use Rattle.pq_command.specs.declared.outcome.Outcome.{Outcome}
-use Rattle.pq_command.specs.declared.outcome.Outcome.TheVariants.{Done, Words, ReadFault, TooLong, Lex, Syntax, Name, ValuesFull, InstancesFull, TagWidth, TableFull, GroupFull, Damaged, NoSwitch, NoBarrier, Speaking, SessionFull, ScheduleFull, WriteFault, Memory}
-use Rattle.pq_command.specs.Answers.{Completes, HasNoFault, HasReadFaults, HasWriteFaults, IsAnswer, IsAnswerOn, IsDoneOrMemory, ReadsMore, ReadsWhole, StopsReading, Streams, Task, streams}
+use Rattle.pq_command.specs.declared.outcome.Outcome.TheVariants.{Done, Words, ReadFault, TooLong, Lex, Syntax, Name, ValuesFull}
+use Rattle.pq_command.specs.declared.outcome.Outcome.TheVariants.{InstancesFull, TagWidth, TableFull, GroupFull, Damaged, NoSwitch}
+use Rattle.pq_command.specs.declared.outcome.Outcome.TheVariants.{NoBarrier, Speaking, SessionFull, ScheduleFull, WriteFault, Memory}
+use Rattle.pq_command.specs.Answers.{Completes, HasNoFault, HasReadFaults, HasWriteFaults, IsAnswer, IsAnswerOn, IsDoneOrMemory, ReadsMore}
+use Rattle.pq_command.specs.Answers.{ReadsWhole, StopsReading, Streams, Task, streams}
 use Rattle.pq_generate.specs.Generated.{generated_text}
 use Rattle.pq_command.specs.Tasks.{CompletesAs, IsAnswerTo, compile_task, generate_task, inspect_task, replay_task, summary_task}
 use Rattle.pq_command.proofs.SessionCompletes.{document_completes, memory, sat_through}
@@ -89,8 +92,10 @@ stopped task s reads read no_more none SessionFull stops faults = absurd stops
 stopped task s reads read no_more none ScheduleFull stops faults = absurd stops
 
 -- and so the command is done, where no read and no write failed
-is_done : (task : Task) (given left now before after : Option (List ℕ)) (reads read writes written : ℕ) → Completing task → HasNoFault reads read → HasNoFault writes written
-    → (o : Outcome) → IsAnswer task given o (streams left now before after) → HasReadFaults o reads read → HasWriteFaults o writes written → Completes task given left o
+is_done : (task : Task) (given left now before after : Option (List ℕ)) (reads read writes written : ℕ) → Completing task
+    → HasNoFault reads read → HasNoFault writes written
+    → (o : Outcome) → IsAnswer task given o (streams left now before after) → HasReadFaults o reads read → HasWriteFaults o writes written
+    → Completes task given left o
 is_done task (Some text) left now before after reads read writes written completes no_read no_write o answer read_faults write_faults =
     λ accepted. on_done task (streams left now before after) text writes written completes accepted no_write o answer write_faults
 is_done task None None now before after reads read writes written completes no_read no_write o answer read_faults write_faults = tt
@@ -129,7 +134,8 @@ finished Inspect left now before after reads read writes written no_read no_writ
 finished Summary left now before after reads read writes written no_read no_write o answer read_faults write_faults =
     is_done summary_task None left now before after reads read writes written document_completes no_read no_write o answer read_faults write_faults
 finished (SummaryOf n) left now before after reads read writes written no_read no_write o answer read_faults write_faults =
-    is_done summary_task (Some (generated_text n)) left now before after reads read writes written document_completes no_read no_write o answer read_faults write_faults
+    is_done summary_task (Some (generated_text n)) left now before after reads read writes written document_completes no_read no_write o
+    answer read_faults write_faults
 finished (Generate n) left now before after reads read writes written no_read no_write o answer read_faults write_faults =
     is_done generate_task (Some (generated_text n)) left now before after reads read writes written (λ o text accepted refused. absurd refused)
     no_read no_write o answer read_faults write_faults

@@ -1,5 +1,6 @@
 -- The course of a session: what each piece adds, and how the session ends.
-use Rattle.std.proofs.Common.{◌≡◌, ℕ, ◌+◌, ◌<◌, ◌≤◌, Bool, true, false, List, [], ◌∷◌, ◌++◌, length, min, take, refl, sym, ap, ◌∙◌, subst, arith, append_assoc, append-nil, length-append, take_all, Option, ◌⊎◌, inl, inr}
+use Rattle.std.proofs.Common.{◌≡◌, ℕ, ◌+◌, ◌<◌, ◌≤◌, Bool, true, false, List, [], ◌∷◌, ◌++◌, length, min, take, refl, sym, ap, ◌∙◌, subst}
+use Rattle.std.proofs.Common.{arith, append_assoc, append-nil, length-append, take_all, Option, ◌⊎◌, inl, inr}
 use Rattle.std.specs.Prelude.{MatchBool}
 use Rattle.std.specs.Io.KnownBytes.{Appends, Consumes}
 use Rattle.std.proofs.KnownBytes.{Appends-nil, Appends-trans}
@@ -13,12 +14,15 @@ use Rattle.pq_pieces.specs.Reading.{IsNext, IsUnread, Reads, chunk_size}
 use Rattle.pq_compile.specs.Compiled.{IsInstalled}
 use Rattle.pq_compile.specs.Documents.{Spells}
 use Rattle.pq_command.specs.declared.outcome.Outcome.{Outcome}
-use Rattle.pq_command.specs.declared.outcome.Outcome.TheVariants.{Done, Words, ReadFault, TooLong, Lex, Syntax, Name, ValuesFull, InstancesFull, TagWidth, TableFull, GroupFull, Damaged, NoSwitch, NoBarrier, Speaking, SessionFull, ScheduleFull, WriteFault, Memory}
+use Rattle.pq_command.specs.declared.outcome.Outcome.TheVariants.{Done, Words, ReadFault, TooLong, Lex, Syntax, Name, ValuesFull}
+use Rattle.pq_command.specs.declared.outcome.Outcome.TheVariants.{InstancesFull, TagWidth, TableFull, GroupFull, Damaged, NoSwitch}
+use Rattle.pq_command.specs.declared.outcome.Outcome.TheVariants.{NoBarrier, Speaking, SessionFull, ScheduleFull, WriteFault, Memory}
 use Rattle.pq_command.specs.Answers.{IsOfText, streams}
 use Rattle.pq_command.specs.Compiles.{HasNoInstall}
 use Rattle.pq_command.specs.Frames.{install_frame}
 use Rattle.pq_command.specs.Reading.{document_limit}
-use Rattle.pq_command.specs.Sessions.{AreFrames, AreFramesTo, AreSteps, Current, HasFirst, IsCut, IsEnded, IsGoingOn, IsSessionAnswer, IsStep, pieces_limit, unread_outcome}
+use Rattle.pq_command.specs.Sessions.{AreFrames, AreFramesTo, AreSteps, Current, HasFirst, IsCut, IsEnded, IsGoingOn, IsSessionAnswer}
+use Rattle.pq_command.specs.Sessions.{IsStep, pieces_limit, unread_outcome}
 use Rattle.pq_command.proofs.Parted.{Parted, Whole, comes, none_parted, read_on}
 
 -- Bytes that are put.
@@ -28,7 +32,8 @@ pub part_of_all : (before after : Option (List ℕ)) (bytes : List ℕ) → Appe
 part_of_all before after bytes put = (length bytes, subst (Appends before after) (sym (take_all (length bytes) bytes (omega arith))) put)
 
 -- a part after all others
-part_after : (before middle after : Option (List ℕ)) (first next : List ℕ) → Appends before middle first → AppendsPart middle after next → AppendsPart before after (first ++ next)
+part_after : (before middle after : Option (List ℕ)) (first next : List ℕ) → Appends before middle first → AppendsPart middle after next
+    → AppendsPart before after (first ++ next)
 part_after before middle after first next put (n, part) =
     (length first + n, subst (Appends before after) (sym (take-append-add first next n)) (Appends-trans before middle after first (take n next) put part))
 
@@ -40,7 +45,8 @@ part_of_more before after first next (n, part) = (
 )
 
 -- what is cut is a part of it, after a failing write or for want of memory
-cut_is : (o : Outcome) (before after : Option (List ℕ)) (bytes : List ℕ) → IsCut o before after bytes → AppendsPart before after bytes × ((o ≡ WriteFault) ⊎ (o ≡ Memory))
+cut_is : (o : Outcome) (before after : Option (List ℕ)) (bytes : List ℕ) → IsCut o before after bytes
+    → AppendsPart before after bytes × ((o ≡ WriteFault) ⊎ (o ≡ Memory))
 cut_is WriteFault before after bytes part = (part, inl refl)
 cut_is Memory before after bytes part = (part, inr refl)
 cut_is Done before after bytes part = absurd part
@@ -78,7 +84,8 @@ steps_more c mid next (p ∷ pieces) bytes piece frame (first, rest, after, one,
   ap (λ (b : List ℕ). b ++ frame) is ∙ append_assoc first rest frame,
 )
 
-frames_more : (first : List ℕ) (others : List (List ℕ)) (frames : List ℕ) (mid next : Current) (piece frame : List ℕ) → AreFramesTo first others frames mid → IsStep mid piece frame next
+frames_more : (first : List ℕ) (others : List (List ℕ)) (frames : List ℕ) (mid next : Current) (piece frame : List ℕ)
+    → AreFramesTo first others frames mid → IsStep mid piece frame next
     → AreFramesTo first (others ++ piece ∷ []) (frames ++ frame) next
 frames_more first others frames mid next piece frame are step = record {
   start = are.start;
@@ -101,9 +108,27 @@ pub unread_answer : (left mid now before after : Option (List ℕ)) (pieces : Li
     → Parted left mid pieces pending → AreFrames pieces frames → Appends before after frames
     → Reads mid now (λ read. IsUnread u document_limit (pending ++ read) now) → IsSessionAnswer (unread_outcome u) (streams left now before after)
 unread_answer left mid now before after pieces pending frames unread.Failed parted framed put (read, took, why) =
-    record { pieces = pieces; pending = pending ++ read; frames = frames; read = read_on left mid now pieces pending read parted took; why = why; framed = framed; put = put }
+    record {
+      pieces = pieces;
+      pending = pending ++ read;
+      frames = frames;
+      read = read_on left mid now pieces pending read parted took;
+      why =
+          why;
+      framed = framed;
+      put = put;
+    }
 unread_answer left mid now before after pieces pending frames unread.TooLong parted framed put (read, took, why) =
-    record { pieces = pieces; pending = pending ++ read; frames = frames; read = read_on left mid now pieces pending read parted took; why = why; framed = framed; put = put }
+    record {
+      pieces = pieces;
+      pending = pending ++ read;
+      frames = frames;
+      read = read_on left mid now pieces pending read parted took;
+      why =
+          why;
+      framed = framed;
+      put = put;
+    }
 unread_answer left mid now before after pieces pending frames unread.Memory parted framed put (read, took, why) =
     inl (record {
       pieces = pieces;
@@ -132,7 +157,8 @@ memory_answer left mid now before after pieces pending frames read parted framed
 
 -- The last frame is cut.
 
-cut_answer : (left now before after : Option (List ℕ)) (first : List ℕ) (others : List (List ℕ)) (frames new : List ℕ) (next : Current) (last : Bool) (o : Outcome)
+cut_answer : (left now before after : Option (List ℕ)) (first : List ℕ) (others : List (List ℕ)) (frames new : List ℕ) (next : Current)
+    (last : Bool) (o : Outcome)
     → MatchBool last (Whole left now (first ∷ others)) (Parted left now (first ∷ others) new) → AreFramesTo first others frames next
     → AppendsPart before after frames → length new ≤ chunk_size → length others < pieces_limit → (o ≡ WriteFault) ⊎ (o ≡ Memory)
     → IsSessionAnswer o (streams left now before after)
@@ -171,17 +197,20 @@ pub first_read : (left now : Option (List ℕ)) (pending new : List ℕ) (p : Pi
 first_read left now pending new p empty read = comes left left now [] pending new p (subst (Parted left left []) (sym empty) (none_parted left)) read
 
 -- it was not read
-pub first_unread : (left now put : Option (List ℕ)) (pending : List ℕ) (u : Unread) → pending ≡ [] → Reads left now (λ read. IsUnread u document_limit (pending ++ read) now)
+pub first_unread : (left now put : Option (List ℕ)) (pending : List ℕ) (u : Unread) → pending ≡ []
+    → Reads left now (λ read. IsUnread u document_limit (pending ++ read) now)
     → IsSessionAnswer (unread_outcome u) (streams left now put put)
 first_unread left now put pending u empty read =
     unread_answer left left now put put [] pending [] u (subst (Parted left left []) (sym empty) (none_parted left)) refl (Appends-nil put) read
 
 -- it is no document within all limits
-pub first_refused : (left now put : Option (List ℕ)) (pending new : List ℕ) (p : Piece) (o : Outcome) → pending ≡ [] → Reads left now (λ read. IsNext (pending ++ read) now new p)
+pub first_refused : (left now put : Option (List ℕ)) (pending new : List ℕ) (p : Piece) (o : Outcome) → pending ≡ []
+    → Reads left now (λ read. IsNext (pending ++ read) now new p)
     → length new ≤ chunk_size → HasNoInstall o p.text.items → IsOfText o → IsSessionAnswer o (streams left now put put)
 first_refused left now put pending new p o empty read short told of_text = by o told of_text
   where
-    first : (last : Bool) → MatchBool last (Whole left now (p.text.items ∷ [])) (Parted left now (p.text.items ∷ []) new) → HasFirst (streams left now put put) p.text.items
+    first : (last : Bool) → MatchBool last (Whole left now (p.text.items ∷ [])) (Parted left now (p.text.items ∷ []) new)
+        → HasFirst (streams left now put put) p.text.items
     first true is = inl is
     first false is = inr (new, is, short)
 
@@ -212,7 +241,8 @@ first_refused left now put pending new p o empty read short told of_text = by o 
     by ScheduleFull told of_text = (p.text.items, judged, told)
 
 -- its frame is put
-pub first_put : (left now before after : Option (List ℕ)) (pending new : List ℕ) (p : Piece) (c : Current) → pending ≡ [] → Reads left now (λ read. IsNext (pending ++ read) now new p)
+pub first_put : (left now before after : Option (List ℕ)) (pending new : List ℕ) (p : Piece) (c : Current) → pending ≡ []
+    → Reads left now (λ read. IsNext (pending ++ read) now new p)
     → Spells p.text.items c.document → IsInstalled c.document c.install → Appends before after (install_frame c.install)
     → IsGoingOn (streams left now before after) new p.is_last c 0
 first_put left now before after pending new p c empty read spelled installed put = record {
@@ -226,7 +256,8 @@ first_put left now before after pending new p c empty read spelled installed put
 }
 
 -- or cut
-pub first_cut : (left now before after : Option (List ℕ)) (pending new : List ℕ) (p : Piece) (c : Current) (o : Outcome) → pending ≡ [] → Reads left now (λ read. IsNext (pending ++ read) now new p)
+pub first_cut : (left now before after : Option (List ℕ)) (pending new : List ℕ) (p : Piece) (c : Current) (o : Outcome) → pending ≡ []
+    → Reads left now (λ read. IsNext (pending ++ read) now new p)
     → length new ≤ chunk_size → Spells p.text.items c.document → IsInstalled c.document c.install → IsCut o before after (install_frame c.install)
     → IsSessionAnswer o (streams left now before after)
 first_cut left now before after pending new p c o empty read short spelled installed cut =
@@ -237,13 +268,15 @@ first_cut left now before after pending new p c o empty read short spelled insta
 -- The later pieces.
 
 -- one was not read
-pub later_unread : (left mid now before after : Option (List ℕ)) (pending : List ℕ) (c : Current) (n : ℕ) (u : Unread) → IsGoingOn (streams left mid before after) pending false c n
+pub later_unread : (left mid now before after : Option (List ℕ)) (pending : List ℕ) (c : Current) (n : ℕ) (u : Unread)
+    → IsGoingOn (streams left mid before after) pending false c n
     → Reads mid now (λ read. IsUnread u document_limit (pending ++ read) now) → IsSessionAnswer (unread_outcome u) (streams left now before after)
 later_unread left mid now before after pending c n u is read =
     unread_answer left mid now before after (is.first ∷ is.others) pending is.frames u is.read (c, is.framed) is.put read
 
 -- memory ran out while it was judged
-pub later_memory : (left mid now before after : Option (List ℕ)) (pending new : List ℕ) (c : Current) (n : ℕ) (p : Piece) → IsGoingOn (streams left mid before after) pending false c n
+pub later_memory : (left mid now before after : Option (List ℕ)) (pending new : List ℕ) (c : Current) (n : ℕ) (p : Piece)
+    → IsGoingOn (streams left mid before after) pending false c n
     → Reads mid now (λ read. IsNext (pending ++ read) now new p) → IsSessionAnswer Memory (streams left now before after)
 later_memory left mid now before after pending new c n p is read =
     memory_answer left mid now before after (is.first ∷ is.others) pending is.frames read.0 is.read (c, is.framed) is.put read.1
@@ -281,7 +314,8 @@ later_cut left mid now before middle after pending new frame c next n p o is rea
 -- The end.
 
 -- the last install is put
-pub end_put : (left rest before middle after : Option (List ℕ)) (pending : List ℕ) (c : Current) (n : ℕ) → IsGoingOn (streams left rest before middle) pending true c n → n < pieces_limit
+pub end_put : (left rest before middle after : Option (List ℕ)) (pending : List ℕ) (c : Current) (n : ℕ)
+    → IsGoingOn (streams left rest before middle) pending true c n → n < pieces_limit
     → Appends middle after (install_frame c.install) → IsSessionAnswer Done (streams left rest before after)
 end_put left rest before middle after pending c n is few put = record {
   first = is.first;
@@ -295,7 +329,8 @@ end_put left rest before middle after pending c n is few put = record {
 }
 
 -- or cut
-pub end_cut : (left rest before middle after : Option (List ℕ)) (pending : List ℕ) (c : Current) (n : ℕ) (o : Outcome) → IsGoingOn (streams left rest before middle) pending true c n
+pub end_cut : (left rest before middle after : Option (List ℕ)) (pending : List ℕ) (c : Current) (n : ℕ) (o : Outcome)
+    → IsGoingOn (streams left rest before middle) pending true c n
     → n < pieces_limit → IsCut o middle after (install_frame c.install) → IsSessionAnswer o (streams left rest before after)
 end_cut left rest before middle after pending c n o is few cut = by o parts.1
   where
@@ -319,7 +354,8 @@ end_cut left rest before middle after pending c n o is few cut = by o parts.1
     by o (inr same) = subst (λ o. IsSessionAnswer o (streams left rest before after)) (sym same) (inr ended)
 
 -- another piece begins after the last one that may come
-pub full : (left rest before after : Option (List ℕ)) (pending : List ℕ) (c : Current) (n : ℕ) → IsGoingOn (streams left rest before after) pending false c n → n + 1 ≡ pieces_limit
+pub full : (left rest before after : Option (List ℕ)) (pending : List ℕ) (c : Current) (n : ℕ)
+    → IsGoingOn (streams left rest before after) pending false c n → n + 1 ≡ pieces_limit
     → length pending ≤ chunk_size → IsSessionAnswer SessionFull (streams left rest before after)
 full left rest before after pending c n is all short = record {
   pieces = is.first ∷ is.others;

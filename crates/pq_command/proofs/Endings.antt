@@ -6,7 +6,9 @@ use Rattle.pq_pieces.specs.declared.unread.Unread.{Unread}
 use Rattle.pq_pieces.specs.declared.unread.Unread.TheVariants as unread
 use Rattle.pq_pieces.specs.Reading.{HasReadCause}
 use Rattle.pq_command.specs.declared.outcome.Outcome.{Outcome}
-use Rattle.pq_command.specs.declared.outcome.Outcome.TheVariants.{Done, Words, ReadFault, TooLong, Lex, Syntax, Name, ValuesFull, InstancesFull, TagWidth, TableFull, GroupFull, Damaged, NoSwitch, NoBarrier, Speaking, SessionFull, ScheduleFull, WriteFault, Memory}
+use Rattle.pq_command.specs.declared.outcome.Outcome.TheVariants.{Done, Words, ReadFault, TooLong, Lex, Syntax, Name, ValuesFull}
+use Rattle.pq_command.specs.declared.outcome.Outcome.TheVariants.{InstancesFull, TagWidth, TableFull, GroupFull, Damaged, NoSwitch}
+use Rattle.pq_command.specs.declared.outcome.Outcome.TheVariants.{NoBarrier, Speaking, SessionFull, ScheduleFull, WriteFault, Memory}
 use Rattle.pq_command.specs.Answers.{HasReadFaults, HasWriteFaults, OnRefusalInSession}
 use Rattle.pq_command.specs.Sessions.{IsCut, unread_outcome}
 
@@ -27,7 +29,8 @@ unread_refuses unread.TooLong fact = tt
 unread_refuses unread.Memory fact = tt
 
 -- bytes that were not put as a whole
-pub cut_reads : (o : Outcome) (put after : Option (List ℕ)) (bytes : List ℕ) (before now : ℕ) → IsCut o put after bytes → now ≡ before → HasReadFaults o before now
+pub cut_reads : (o : Outcome) (put after : Option (List ℕ)) (bytes : List ℕ) (before now : ℕ) → IsCut o put after bytes → now ≡ before
+    → HasReadFaults o before now
 cut_reads WriteFault put after bytes before now cut same = same
 cut_reads Memory put after bytes before now cut same = same
 cut_reads Done put after bytes before now cut same = absurd cut

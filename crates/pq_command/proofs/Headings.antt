@@ -1,5 +1,6 @@
 -- A line and an install with more bytes after them.
-use Rattle.std.proofs.Common.{◌≡◌, ℕ, zero, suc, ◌+◌, ◌<◌, ◌≤◌, Bool, true, false, not, ltb, eqb, is_none, List, [], ◌∷◌, ◌++◌, length, take, drop, position, refl, sym, ap, ◌∙◌, arith, length-append, length-drop, length-take, Option, Some, None}
+use Rattle.std.proofs.Common.{◌≡◌, ℕ, zero, suc, ◌+◌, ◌<◌, ◌≤◌, Bool, true, false, not, ltb, eqb, is_none, List, [], ◌∷◌, ◌++◌, length}
+use Rattle.std.proofs.Common.{take, drop, position, refl, sym, ap, ◌∙◌, arith, length-append, length-drop, length-take, Option, Some, None}
 use Rattle.std.specs.Prelude.{◌==◌}
 use Rattle.std.specs.List.{prefix_len}
 use Rattle.std.proofs.lemmas.Bool.{and_parts, eq-eqb, ltb-false, ltb-true, lt-ltb, ne_eqb}
@@ -44,7 +45,8 @@ missed xs is = by (ltb (prefix_len no_feed xs) (length xs)) refl
 position-append : (xs ys : List ℕ) (k : ℕ) → position is_feed xs ≡ Some k → position is_feed (xs ++ ys) ≡ Some k
 position-append xs ys k is =
     let at = found xs k is in
-    let other : eqb (prefix_len no_feed xs) (length xs) ≡ false = ne_eqb (prefix_len no_feed xs) (length xs) (λ same. absurd (omega (arith, same, at.0, at.1))) in
+    let other : eqb (prefix_len no_feed xs) (length xs) ≡ false =
+    ne_eqb (prefix_len no_feed xs) (length xs) (λ same. absurd (omega (arith, same, at.0, at.1))) in
     let same : prefix_len no_feed (xs ++ ys) ≡ prefix_len no_feed xs = prefix_len-append no_feed xs ys ∙ rw other refl in
     finds (xs ++ ys) k (omega (arith, at.0, length-append xs ys)) (same ∙ at.1)
 

@@ -1,5 +1,6 @@
 -- The messages to a switch, by its place among the switches.
-use Rattle.std.proofs.Common.{◌≡◌, ℕ, suc, ◌+◌, ◌<◌, Bool, true, false, not, ltb, List, [], ◌∷◌, All, length, map, get_or, position, refl, subst, sym, ap, ◌∙◌, arith, Some, None}
+use Rattle.std.proofs.Common.{◌≡◌, ℕ, suc, ◌+◌, ◌<◌, Bool, true, false, not, ltb, List, [], ◌∷◌, All, length, map, get_or, position, refl}
+use Rattle.std.proofs.Common.{subst, sym, ap, ◌∙◌, arith, Some, None}
 use Rattle.std.specs.Prelude.{◌==◌}
 use Rattle.std.specs.List.{list_any, prefix_len}
 use Rattle.std.proofs.lemmas.Bool.{ltb-false, ltb-true}
@@ -52,7 +53,8 @@ pub listed : (d : ℕ) (ss : List Switch) (lists : List (List Message)) (k : ℕ
     → (list_any (is_for d) ss ≡ true) × (messages_in ss lists d ≡ get_or lists k []) × (k < length ss)
 listed d ss lists k same is = by (ltb (prefix_len (other d) ss) (length ss)) refl
   where
-    by : (w : Bool) → ltb (prefix_len (other d) ss) (length ss) ≡ w → (list_any (is_for d) ss ≡ true) × (messages_in ss lists d ≡ get_or lists k []) × (k < length ss)
+    by : (w : Bool) → ltb (prefix_len (other d) ss) (length ss) ≡ w
+        → (list_any (is_for d) ss ≡ true) × (messages_in ss lists d ≡ get_or lists k []) × (k < length ss)
     by true e =
         let at : prefix_len (other d) ss ≡ k = same_Some _ _ (rw e at is) in
         let below = ltb-true (prefix_len (other d) ss) (length ss) e in

@@ -1,5 +1,6 @@
 -- Texts that open a session: with more bytes after them, and that each opens one session.
-use Rattle.std.proofs.Common.{◌≡◌, ℕ, ◌+◌, Bool, true, false, ◌||◌, List, [], ◌∷◌, ◌++◌, length, take, drop, drop-drop, take-append-drop, refl, sym, ap, ◌∙◌, subst, append_assoc, append-nil, Option, Some, inl, inr, if◌then◌else◌}
+use Rattle.std.proofs.Common.{◌≡◌, ℕ, ◌+◌, Bool, true, false, ◌||◌, List, [], ◌∷◌, ◌++◌, length, take, drop, drop-drop, take-append-drop}
+use Rattle.std.proofs.Common.{refl, sym, ap, ◌∙◌, subst, append_assoc, append-nil, Option, Some, inl, inr, if◌then◌else◌}
 use Rattle.std.specs.Prelude.{◌==◌}
 use Rattle.std.specs.List.{list_any}
 use Rattle.std.proofs.lemmas.Option.{same_Some}
@@ -13,7 +14,9 @@ use Rattle.pq_install.proofs.Front.{same_fronts}
 use Rattle.pq_speaker.specs.Rules.{Session}
 use Rattle.pq_speaker.specs.Speaking.{EndsWithOwnBarrier}
 use Rattle.pq_command.specs.declared.outcome.Outcome.{Outcome}
-use Rattle.pq_command.specs.declared.outcome.Outcome.TheVariants.{Done, Words, ReadFault, TooLong, Lex, Syntax, Name, ValuesFull, InstancesFull, TagWidth, TableFull, GroupFull, Damaged, NoSwitch, NoBarrier, Speaking, SessionFull, ScheduleFull, WriteFault, Memory}
+use Rattle.pq_command.specs.declared.outcome.Outcome.TheVariants.{Done, Words, ReadFault, TooLong, Lex, Syntax, Name, ValuesFull}
+use Rattle.pq_command.specs.declared.outcome.Outcome.TheVariants.{InstancesFull, TagWidth, TableFull, GroupFull, Damaged, NoSwitch}
+use Rattle.pq_command.specs.declared.outcome.Outcome.TheVariants.{NoBarrier, Speaking, SessionFull, ScheduleFull, WriteFault, Memory}
 use Rattle.pq_command.specs.Speaks.{Bars, IsDamagedFor, IsOpened, IsSpelling, Stated, has_switch, session_of, stated}
 use Rattle.pq_command.proofs.Headings.{stated-append}
 
@@ -106,7 +109,8 @@ pub no-switch : (d : ℕ) (text : List ℕ) (at size : ℕ) (i : Install) → st
 no-switch d text at size i line whole spelled unnamed = (record { size = size; rest = drop at text }, line, (whole, i, spelled, unnamed))
 
 pub no-barrier : (d : ℕ) (text : List ℕ) (at size : ℕ) (i : Install) (ms : List Message) → stated text ≡ stating size (drop at text)
-    → length (take size (drop at text)) ≡ size → IsSpelling i (take size (drop at text)) → has_switch d i ≡ true → ms ≡ messages_of i d → (EndsWithOwnBarrier ms → ⊥)
+    → length (take size (drop at text)) ≡ size → IsSpelling i (take size (drop at text)) → has_switch d i ≡ true → ms ≡ messages_of i d
+    → (EndsWithOwnBarrier ms → ⊥)
     → Bars d NoBarrier text
 no-barrier d text at size i ms line whole spelled named messages unended =
     (record { size = size; rest = drop at text }, line, (whole, i, spelled, (named, λ ended. unended (subst EndsWithOwnBarrier (sym messages) ended))))

@@ -1,5 +1,6 @@
 -- Pieces that are read one after another.
-use Rattle.std.proofs.Common.{◌≡◌, ℕ, ◌<◌, ◌≤◌, true, false, List, [], ◌++◌, length, take, drop, sym, ap, ◌∙◌, subst, arith, append-nil, length-append, take_all, Option, inl, inr}
+use Rattle.std.proofs.Common.{◌≡◌, ℕ, ◌<◌, ◌≤◌, true, false, List, [], ◌++◌, length, take, drop, sym, ap, ◌∙◌, subst, arith, append-nil}
+use Rattle.std.proofs.Common.{length-append, take_all, Option, inl, inr}
 use Rattle.std.specs.Io.KnownBytes.{Consumes, IsAtEnd}
 use Rattle.std.proofs.KnownBytes.{Consumes-trans}
 use Rattle.std.proofs.Math.Seq.{drop-length}
@@ -40,7 +41,8 @@ read-too-long left mid now text piece all is read next room short needs long =
     (all, subst (Consumes left now) (sym is) (Consumes-trans left mid now text piece read next), (long, (text, piece, is, room, (short, needs))))
 
 -- memory ran out for the last piece
-pub read-some : (left mid now : Option (List ℕ)) (text piece : List ℕ) → Consumes left mid text → Consumes mid now piece → length piece ≤ piece_size → length text ≤ install_limit
+pub read-some : (left mid now : Option (List ℕ)) (text piece : List ℕ) → Consumes left mid text → Consumes mid now piece
+    → length piece ≤ piece_size → length text ≤ install_limit
     → (x : List ℕ) × Consumes left now x × IsUnread unread.Memory x
 read-some left mid now text piece read next room short =
     (text ++ piece, Consumes-trans left mid now text piece read next, omega (arith, length-append text piece, room, short))

@@ -1,5 +1,6 @@
 -- What `speak` accepts is spoken through, where no read and no write failed.
-use Rattle.std.proofs.Common.{◌≡◌, ℕ, ◌<◌, ◌≤◌, ◌⊎◌, true, false, ltb, List, [], ◌++◌, length, take, refl, sym, ap, ◌∙◌, subst, arith, append-nil, length-append, take_all, Option, Some, None, inl, inr, true≢false}
+use Rattle.std.proofs.Common.{◌≡◌, ℕ, ◌<◌, ◌≤◌, ◌⊎◌, true, false, ltb, List, [], ◌++◌, length, take, refl, sym, ap, ◌∙◌, subst, arith}
+use Rattle.std.proofs.Common.{append-nil, length-append, take_all, Option, Some, None, inl, inr, true≢false}
 use Rattle.std.specs.Io.KnownBytes.{Consumes, IsAtEnd}
 use Rattle.std.proofs.Math.Seq.{take-append_seam}
 use Rattle.std.proofs.lemmas.Bool.{ltb-false}
@@ -14,10 +15,13 @@ use Rattle.pq_speaker.specs.Rules.{Session, has_failed}
 use Rattle.pq_speaker.specs.Speaking.{EndsWithOwnBarrier, Heard, IsState, State, heard, kept}
 use Rattle.pq_speaker.proofs.Pieces.{failed-heard}
 use Rattle.pq_command.specs.declared.outcome.Outcome.{Outcome}
-use Rattle.pq_command.specs.declared.outcome.Outcome.TheVariants.{Done, Words, ReadFault, TooLong, Lex, Syntax, Name, ValuesFull, InstancesFull, TagWidth, TableFull, GroupFull, Damaged, NoSwitch, NoBarrier, Speaking, SessionFull, ScheduleFull, WriteFault, Memory}
+use Rattle.pq_command.specs.declared.outcome.Outcome.TheVariants.{Done, Words, ReadFault, TooLong, Lex, Syntax, Name, ValuesFull}
+use Rattle.pq_command.specs.declared.outcome.Outcome.TheVariants.{InstancesFull, TagWidth, TableFull, GroupFull, Damaged, NoSwitch}
+use Rattle.pq_command.specs.declared.outcome.Outcome.TheVariants.{NoBarrier, Speaking, SessionFull, ScheduleFull, WriteFault, Memory}
 use Rattle.pq_command.specs.Answers.{HasNoFault, HasReadFaults, HasWriteFaults, IsDoneOrMemory, Streams, streams}
 use Rattle.pq_command.specs.Reading.{install_limit}
-use Rattle.pq_command.specs.Speaks.{Bars, BeginsInstall, IsDamagedIn, IsLast, IsOpened, IsReadEnough, IsSpeakAnswer, IsSpelling, IsSpokenThrough, Stated, has_switch, is_cut, needs_more, state_after, stated, talk_after}
+use Rattle.pq_command.specs.Speaks.{Bars, BeginsInstall, IsDamagedIn, IsLast, IsOpened, IsReadEnough, IsSpeakAnswer, IsSpelling}
+use Rattle.pq_command.specs.Speaks.{IsSpokenThrough, Stated, has_switch, is_cut, needs_more, state_after, stated, talk_after}
 use Rattle.pq_command.proofs.Headings.{followed, none-append, stated-append}
 use Rattle.pq_command.proofs.Openings.{one-list, one-session, one-switch, opened-append}
 use Rattle.pq_command.proofs.Turns.{state-append}
@@ -38,7 +42,8 @@ failed-append : (session : Session) (came more : List ℕ) → has_failed (talk_
 failed-append session came more failed =
     let waits : (state_after session came).waiting ≡ [] = kept-none (talk_after session came) _ failed in
     let is : IsState (state_after session came) = record { cut = rw waits refl; failed = λ e. waits } in
-    let same : (heard (state_after session came) more).state ≡ state_after session came = ap (λ (h : Heard). h.state) (failed-heard (state_after session came) more failed is) in
+    let same : (heard (state_after session came) more).state ≡ state_after session came =
+    ap (λ (h : Heard). h.state) (failed-heard (state_after session came) more failed is) in
     ap (λ (s : State). has_failed s.talk) (state-append session came more ∙ same) ∙ failed
 
 -- The text that is accepted.
@@ -47,7 +52,8 @@ failed-append session came more failed =
 shared : (d : ℕ) (bytes text rest : List ℕ) (session other : Session) (came part : List ℕ) → bytes ≡ text ++ rest → IsOpened d bytes session came
     → IsOpened d text other part → (other ≡ session) × (part ++ rest ≡ came)
 shared d bytes text rest session other came part is opened begun =
-    one-session d bytes other session (part ++ rest) came (subst (λ (b : List ℕ). IsOpened d b other (part ++ rest)) (sym is) (opened-append d text rest other part begun)) opened
+    one-session d bytes other session (part ++ rest) came
+    (subst (λ (b : List ℕ). IsOpened d b other (part ++ rest)) (sym is) (opened-append d text rest other part begun)) opened
 
 -- a session doesn't end in another state
 not-stopped : (d : ℕ) (bytes : List ℕ) (t : Talk) (s : Streams) (session : Session) (came : List ℕ) → s.left ≡ Some bytes → IsOpened d bytes session came
@@ -86,7 +92,8 @@ not-none bytes text now s taken enough is none = by enough.enough
 
 -- the bytes that were judged are those of the install
 same-bytes : (bytes text : List ℕ) (now : Option (List ℕ)) (t : Stated) (install came : List ℕ) → Consumes (Some bytes) now text → IsReadEnough now text
-    → stated bytes ≡ Some (record { size = length install; rest = install ++ came }) → stated text ≡ Some t → (t.size ≡ length install) × (take t.size t.rest ≡ install)
+    → stated bytes ≡ Some (record { size = length install; rest = install ++ came }) → stated text ≡ Some t
+    → (t.size ≡ length install) × (take t.size t.rest ≡ install)
 same-bytes bytes text now t install came taken enough is stated-now = by enough.enough
   where
     here : (rest : List ℕ) → bytes ≡ text ++ rest → (t.size ≡ length install) × (t.rest ++ rest ≡ install ++ came)
@@ -142,7 +149,8 @@ not-barred d bytes text now session came o is taken enough bars = by o bars
         absurd (true≢false (sym is.named ∙ one-switch is.install found.0 is.bytes d is.spelled found.1 ∙ found.2))
     by NoBarrier begins =
         let found = installed (λ i. (has_switch d i ≡ true) × (EndsWithOwnBarrier (messages_of i d) → ⊥)) begins in
-        absurd (found.2.1 (subst EndsWithOwnBarrier (ap (λ (k : Session). k.messages) is.messages ∙ one-list is.install found.0 is.bytes d is.spelled found.1) is.ended))
+        absurd (found.2.1 (subst EndsWithOwnBarrier (ap (λ (k : Session). k.messages) is.messages
+        ∙ one-list is.install found.0 is.bytes d is.spelled found.1) is.ended))
     by Memory bars = tt
     by Done bars = tt
     by Words bars = absurd bars
@@ -179,7 +187,8 @@ pub spoken : (d : ℕ) (bytes : List ℕ) (now before after : Option (List ℕ))
 spoken d bytes now before after reads read writes written no_read no_write o answer read_faults write_faults fits (session, came, is, installed) =
     by o answer read_faults write_faults
   where
-    by : (o : Outcome) → IsSpeakAnswer d o (streams (Some bytes) now before after) → HasReadFaults o reads read → HasWriteFaults o writes written → IsDoneOrMemory o
+    by : (o : Outcome) → IsSpeakAnswer d o (streams (Some bytes) now before after) → HasReadFaults o reads read
+        → HasWriteFaults o writes written → IsDoneOrMemory o
     by Done answer read_faults write_faults = tt
     by Memory answer read_faults write_faults = tt
     by ReadFault answer read_faults write_faults = no_read read_faults

@@ -1,5 +1,6 @@
 -- What each turn of a session adds, and how a session ends.
-use Rattle.std.proofs.Common.{◌≡◌, ◌≢◌, ℕ, zero, suc, ◌+◌, ◌<◌, ◌≤◌, true, false, List, [], ◌∷◌, ◌++◌, length, take, drop, refl, sym, ap, ◌∙◌, subst, arith, append_assoc, append-nil, length-append, take_all, Option, inl, inr, true≢false}
+use Rattle.std.proofs.Common.{◌≡◌, ◌≢◌, ℕ, zero, suc, ◌+◌, ◌<◌, ◌≤◌, true, false, List, [], ◌∷◌, ◌++◌, length, take, drop, refl, sym, ap}
+use Rattle.std.proofs.Common.{◌∙◌, subst, arith, append_assoc, append-nil, length-append, take_all, Option, inl, inr, true≢false}
 use Rattle.std.specs.Io.KnownBytes.{Appends, Consumes, IsAtEnd, Keeps}
 use Rattle.std.proofs.KnownBytes.{Appends-nil, Appends-trans, Consumes-kept, Consumes-trans}
 use Rattle.std.proofs.Math.Seq.{take-append-add}
@@ -12,12 +13,15 @@ use Rattle.pq_speaker.specs.Rules.{Session, has_failed, replies_bytes, reply_byt
 use Rattle.pq_speaker.specs.Speaking.{Heard, State, heard, hello_bytes, opened}
 use Rattle.pq_speaker.proofs.Pieces.{heard-append}
 use Rattle.pq_command.specs.declared.outcome.Outcome.{Outcome}
-use Rattle.pq_command.specs.declared.outcome.Outcome.TheVariants.{Done, Words, ReadFault, TooLong, Lex, Syntax, Name, ValuesFull, InstancesFull, TagWidth, TableFull, GroupFull, Damaged, NoSwitch, NoBarrier, Speaking, SessionFull, ScheduleFull, WriteFault, Memory}
+use Rattle.pq_command.specs.declared.outcome.Outcome.TheVariants.{Done, Words, ReadFault, TooLong, Lex, Syntax, Name, ValuesFull}
+use Rattle.pq_command.specs.declared.outcome.Outcome.TheVariants.{InstancesFull, TagWidth, TableFull, GroupFull, Damaged, NoSwitch}
+use Rattle.pq_command.specs.declared.outcome.Outcome.TheVariants.{NoBarrier, Speaking, SessionFull, ScheduleFull, WriteFault, Memory}
 use Rattle.pq_command.specs.declared.reading.Unread.{Unread}
 use Rattle.pq_command.specs.declared.reading.Unread.TheVariants as unread
 use Rattle.pq_command.specs.Answers.{OnRefusalInTurns, Streams, streams}
 use Rattle.pq_command.specs.Reading.{install_limit, piece_size}
-use Rattle.pq_command.specs.Speaks.{Bars, Hears, IsOpened, IsReadEnough, IsSpeakAnswer, IsTurnEnd, IsUnderWay, IsUnread, SaysPart, end_outcome, said, sends, session_of, state_after, stated, talk_after, unread_outcome}
+use Rattle.pq_command.specs.Speaks.{Bars, Hears, IsOpened, IsReadEnough, IsSpeakAnswer, IsTurnEnd, IsUnderWay, IsUnread, SaysPart}
+use Rattle.pq_command.specs.Speaks.{end_outcome, said, sends, session_of, state_after, stated, talk_after, unread_outcome}
 use Rattle.pq_command.proofs.Headings.{few-follow}
 use Rattle.pq_command.proofs.Openings.{opened-append}
 
@@ -53,7 +57,8 @@ goes-on datapath left mid now before middle after speaker next text piece is rea
 }
 
 -- it hasn't failed
-still-going : (datapath : ℕ) (s : Streams) (speaker : State) (text : List ℕ) (is : IsUnderWay datapath s speaker text) → has_failed (talk_after is.session is.came) ≡ false
+still-going : (datapath : ℕ) (s : Streams) (speaker : State) (text : List ℕ) (is : IsUnderWay datapath s speaker text)
+    → has_failed (talk_after is.session is.came) ≡ false
 still-going datapath s speaker text is = subst (λ (t : State). has_failed t.talk ≡ false) is.state is.going
 
 -- a read that fails
@@ -101,7 +106,8 @@ ends datapath left mid now before after speaker text is read end short = by spea
 
 -- want of memory between two pieces
 pub no-memory : (datapath : ℕ) (left now before after : Option (List ℕ)) (speaker : State) (text : List ℕ)
-    → IsUnderWay datapath (streams left now before after) speaker text → length text ≤ install_limit → IsSpeakAnswer datapath Memory (streams left now before after)
+    → IsUnderWay datapath (streams left now before after) speaker text → length text ≤ install_limit
+    → IsSpeakAnswer datapath Memory (streams left now before after)
 no-memory datapath left now before after speaker text is short =
     inr (
       text,
@@ -124,7 +130,8 @@ no-memory datapath left now before after speaker text is short =
     )
 
 -- a part of the answer to the last piece
-part : (session : Session) (came piece : List ℕ) (left now before middle after : Option (List ℕ)) (n : ℕ) → length piece ≤ piece_size → Appends before middle (said session came)
+part : (session : Session) (came piece : List ℕ) (left now before middle after : Option (List ℕ)) (n : ℕ) → length piece ≤ piece_size
+    → Appends before middle (said session came)
     → Appends middle after (take n (sends (state_after session came) piece)) → SaysPart (streams left now before after) session (came ++ piece)
 part session came piece left now before middle after n room first next =
     let whole : take (length (said session came) + n) (said session (came ++ piece)) ≡ said session came ++ take n (sends (state_after session came) piece) =
@@ -149,7 +156,8 @@ installed-goes Installed failed = λ same. true≢false (sym failed)
 
 -- a piece that ends the session
 pub turn-ends : (datapath : ℕ) (left mid now before middle after : Option (List ℕ)) (speaker : State) (text piece : List ℕ) (o : Outcome)
-    → IsUnderWay datapath (streams left mid before middle) speaker text → Consumes mid now piece → length text + length piece ≤ install_limit → length piece ≤ piece_size
+    → IsUnderWay datapath (streams left mid before middle) speaker text → Consumes mid now piece
+    → length text + length piece ≤ install_limit → length piece ≤ piece_size
     → IsTurnEnd (heard speaker piece).state.talk (sends speaker piece) o middle after → IsSpeakAnswer datapath o (streams left now before after)
 turn-ends datapath left mid now before middle after speaker text piece o is read fits room end = by o end
   where
@@ -162,7 +170,8 @@ turn-ends datapath left mid now before middle after speaker text piece o is read
     opened-now : IsOpened datapath (text ++ piece) is.session (is.came ++ piece)
     opened-now = opened-append datapath text piece is.session is.came is.opened
 
-    cut : (n : ℕ) → Appends middle after (take n (sends speaker piece)) → Hears datapath (streams left now before after) (SaysPart (streams left now before after))
+    cut : (n : ℕ) → Appends middle after (take n (sends speaker piece))
+        → Hears datapath (streams left now before after) (SaysPart (streams left now before after))
     cut n put = (
       text ++ piece,
       all,
@@ -171,11 +180,13 @@ turn-ends datapath left mid now before middle after speaker text piece o is read
         is.session,
         is.came ++ piece,
         opened-now,
-        part is.session is.came piece left now before middle after n room is.put (subst (λ (s : State). Appends middle after (take n (sends s piece))) is.state put),
+        part is.session is.came piece left now before middle after n room is.put
+            (subst (λ (s : State). Appends middle after (take n (sends s piece))) is.state put),
       ),
     )
 
-    by : (o : Outcome) → IsTurnEnd (heard speaker piece).state.talk (sends speaker piece) o middle after → IsSpeakAnswer datapath o (streams left now before after)
+    by : (o : Outcome) → IsTurnEnd (heard speaker piece).state.talk (sends speaker piece) o middle after
+        → IsSpeakAnswer datapath o (streams left now before after)
     by WriteFault (n, put) = cut n put
     by Memory (n, put) = inr (cut n put)
     by (Speaking t) (is-talk, failed, put) =
@@ -224,7 +235,8 @@ part-of (suc n) [] ys = (0, refl)
 part-of (suc n) (x ∷ xs) ys = let more = part-of n xs ys in (suc more.0, ap (λ (zs : List ℕ). x ∷ zs) more.1)
 
 -- the HELLO, and what is said for the first bytes
-pub first-said : (session : Session) (speaker : State) (first hello : List ℕ) (before middle after : Option (List ℕ)) → hello ≡ hello_bytes → speaker ≡ opened session
+pub first-said : (session : Session) (speaker : State) (first hello : List ℕ) (before middle after : Option (List ℕ)) → hello ≡ hello_bytes
+    → speaker ≡ opened session
     → Appends before middle hello → Appends middle after (sends speaker first) → Appends before after (said session first)
 first-said session speaker first hello before middle after is state put next =
     Appends-trans before middle after hello_bytes (sends (opened session) first) (subst (Appends before middle) is put)
@@ -255,7 +267,8 @@ first-ends session speaker first hello before middle after o is state put end =
           (Appends-trans before middle after _ _ greeted next),
     )
 
-    by : (o : Outcome) → IsTurnEnd (talk_after session first) (sends (opened session) first) o middle after → IsTurnEnd (talk_after session first) (said session first) o before after
+    by : (o : Outcome) → IsTurnEnd (talk_after session first) (sends (opened session) first) o middle after
+        → IsTurnEnd (talk_after session first) (said session first) o before after
     by WriteFault (n, next) = cut n next
     by Memory (n, next) = cut n next
     by (Speaking t) (talk, failed, next) = (talk, failed, Appends-trans before middle after _ _ greeted next)
@@ -278,9 +291,11 @@ first-ends session speaker first hello before middle after o is state put end =
     by ScheduleFull end = absurd end
 
 -- a session that was opened is under way
-pub begun : (datapath : ℕ) (left now before after : Option (List ℕ)) (text first : List ℕ) (at : ℕ) (messages : List Message) (speaker : State) → Consumes left now text
+pub begun : (datapath : ℕ) (left now before after : Option (List ℕ)) (text first : List ℕ) (at : ℕ) (messages : List Message)
+    (speaker : State) → Consumes left now text
     → IsOpened datapath text (session_of datapath messages) (drop at text) → first ≡ drop at text → speaker ≡ state_after (session_of datapath messages) first
-    → Appends before after (said (session_of datapath messages) first) → has_failed speaker.talk ≡ false → IsUnderWay datapath (streams left now before after) speaker text
+    → Appends before after (said (session_of datapath messages) first) → has_failed speaker.talk ≡ false
+    → IsUnderWay datapath (streams left now before after) speaker text
 begun datapath left now before after text first at messages speaker read is same state put going = record {
   session = session_of datapath messages;
   came = drop at text;
@@ -308,15 +323,30 @@ start-ends datapath left now before after text session came o read short enough 
     room : length came ≤ piece_size
     room = first-short datapath now text session came enough is
 
-    cut : (n : ℕ) → Appends before after (take n (said session came)) → Hears datapath (streams left now before after) (SaysPart (streams left now before after))
+    cut : (n : ℕ) → Appends before after (take n (said session came))
+        → Hears datapath (streams left now before after) (SaysPart (streams left now before after))
     cut n put =
         (text, read, (short, session, came, is, record { before = []; last = came; count = n; pieces = refl; short = room; put = put; answered = inl refl }))
 
     by : (o : Outcome) → IsTurnEnd (talk_after session came) (said session came) o before after → IsSpeakAnswer datapath o (streams left now before after)
     by WriteFault (n, put) = cut n put
     by Memory (n, put) = inr (cut n put)
-    by (Speaking t) (talk, failed, put) =
-        (text, read, (short, session, came, is, (inr (subst (λ (u : Talk). has_failed u ≡ true) talk failed, ([], came, refl, room, refl)), talk, installed-goes t failed, put)))
+    by (Speaking t) (talk, failed, put) = (
+      text,
+      read,
+      (
+        short,
+        session,
+        came,
+        is,
+        (
+          inr (subst (λ (u : Talk). has_failed u ≡ true) talk failed, ([], came, refl, room, refl)),
+          talk,
+          installed-goes t failed,
+          put,
+        ),
+      ),
+    )
     by Done end = absurd end
     by Words end = absurd end
     by ReadFault end = absurd end
@@ -337,7 +367,8 @@ start-ends datapath left now before after text session came o read short enough 
 
 -- why nothing is installed for what was read
 pub start-bars : (datapath : ℕ) (left now before : Option (List ℕ)) (text : List ℕ) (o : Outcome)
-    → Consumes left now text → length text ≤ install_limit → IsReadEnough now text → Bars datapath o text → IsSpeakAnswer datapath o (streams left now before before)
+    → Consumes left now text → length text ≤ install_limit → IsReadEnough now text → Bars datapath o text
+    → IsSpeakAnswer datapath o (streams left now before before)
 start-bars datapath left now before text o read short enough bars = by o bars
   where
     by : (o : Outcome) → Bars datapath o text → IsSpeakAnswer datapath o (streams left now before before)

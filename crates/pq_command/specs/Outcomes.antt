@@ -6,9 +6,12 @@ use Rattle.pq_speaker.specs.declared.talk.Talk.TheVariants.{Greeting, Asking, In
 use Rattle.pq_speaker.specs.declared.talk.Reason.{Reason}
 use Rattle.pq_speaker.specs.declared.talk.Reason.TheVariants.{BadVersion, BadLength, OtherSwitch, SwitchError}
 use Rattle.pq_topo.specs.declared.fault.NameKind.{NameKind}
-use Rattle.pq_topo.specs.declared.fault.NameKind.TheVariants.{Many, Doubled, BadValue, UnknownSwitch, UnknownPort, UnknownField, NotWritable, NotListed, UnknownPart, UnknownQuery}
+use Rattle.pq_topo.specs.declared.fault.NameKind.TheVariants.{Many, Doubled, BadValue, UnknownSwitch, UnknownPort, UnknownField}
+use Rattle.pq_topo.specs.declared.fault.NameKind.TheVariants.{NotWritable, NotListed, UnknownPart, UnknownQuery}
 use Rattle.pq_command.specs.declared.outcome.Outcome.{Outcome}
-use Rattle.pq_command.specs.declared.outcome.Outcome.TheVariants.{Done, Words, ReadFault, TooLong, Lex, Syntax, Name, ValuesFull, InstancesFull, TagWidth, TableFull, GroupFull, Damaged, NoSwitch, NoBarrier, Speaking, SessionFull, ScheduleFull, WriteFault, Memory}
+use Rattle.pq_command.specs.declared.outcome.Outcome.TheVariants.{Done, Words, ReadFault, TooLong, Lex, Syntax, Name, ValuesFull}
+use Rattle.pq_command.specs.declared.outcome.Outcome.TheVariants.{InstancesFull, TagWidth, TableFull, GroupFull, Damaged, NoSwitch}
+use Rattle.pq_command.specs.declared.outcome.Outcome.TheVariants.{NoBarrier, Speaking, SessionFull, ScheduleFull, WriteFault, Memory}
 
 -- the status of each outcome
 abbrev pub code_of : Outcome → ℕ

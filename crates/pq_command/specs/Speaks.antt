@@ -1,5 +1,6 @@
 -- What `speak` reads, and what it writes for that. Its text is a line with a length, an install of so many bytes, and what the switch sent.
-use Rattle.std.specs.Prelude.{◌≡◌, ◌≢◌, ℕ, ◌+◌, ◌<◌, ◌≤◌, ◌⊎◌, Bool, true, false, List, [], ◌++◌, length, take, drop, position, nat_lt, is_none, ◌==◌, ◌&&◌, Option, Some, None}
+use Rattle.std.specs.Prelude.{◌≡◌, ◌≢◌, ℕ, ◌+◌, ◌<◌, ◌≤◌, ◌⊎◌, Bool, true, false, List, [], ◌++◌, length, take, drop, position, nat_lt}
+use Rattle.std.specs.Prelude.{is_none, ◌==◌, ◌&&◌, Option, Some, None}
 use Rattle.std.specs.List.{list_any}
 use Rattle.std.specs.Io.KnownBytes.{Appends, Consumes, IsAtEnd}
 use Rattle.pq_io.specs.Pieces.{AppendsPart}
@@ -167,7 +168,8 @@ GoesOn datapath s text =
 
 -- a session was opened with the text that was read, and has this property
 abbrev pub Hears : ℕ → Streams → (Session → List ℕ → Type 0) → Type 0
-Hears datapath s P = Reads s (λ text. (length text ≤ install_limit) × (session : Session) × (came : List ℕ) × IsOpened datapath text session came × P session came)
+Hears datapath s P = Reads s (λ text. (length text ≤ install_limit) × (session : Session) × (came : List ℕ)
+    × IsOpened datapath text session came × P session came)
 
 -- the input has ended, or the session failed with the last piece
 abbrev pub IsLast : Option (List ℕ) → Session → List ℕ → Type 0

@@ -27,7 +27,8 @@ module _ (T : Topology) (bytes : List ℕ) where
   abbrev IsFewer : ℕ → Named QueryTree → Type 0
   IsFewer n s = query_atoms s.1 < n
 
-  statement_few : (most : ℕ) (names : List (List ℕ)) (keyword : Token) (below : Forest) (s : Named QueryTree) → named_of bytes most (query_of T bytes) names keyword below ≡ Ok s → query_atoms s.1 < suc (nodes below)
+  statement_few : (most : ℕ) (names : List (List ℕ)) (keyword : Token) (below : Forest) (s : Named QueryTree)
+      → named_of bytes most (query_of T bytes) names keyword below ≡ Ok s → query_atoms s.1 < suc (nodes below)
   statement_few most names keyword nothing s e = absurd cc
   statement_few most names keyword (grown name x nothing) s e = absurd cc
   statement_few most names keyword (grown name x (grown head below rest)) s e =
@@ -45,23 +46,31 @@ module _ (T : Topology) (bytes : List ℕ) where
   weaker m n less [] all = tt
   weaker m n less (s ∷ ss) all = (omega (arith, all.0, less), weaker m n less ss all.1)
 
-  statements_few : (most n : ℕ) (earlier : List (Named QueryTree)) (f : Forest) (ss : List (Named QueryTree)) → nodes f ≤ n → AllByRecursion (IsFewer n) earlier → named_after bytes QueryWord most (query_of T bytes) earlier f ≡ Ok ss → AllByRecursion (IsFewer n) ss
+  statements_few : (most n : ℕ) (earlier : List (Named QueryTree)) (f : Forest) (ss : List (Named QueryTree)) → nodes f ≤ n
+      → AllByRecursion (IsFewer n) earlier → named_after bytes QueryWord most (query_of T bytes) earlier f ≡ Ok ss
+      → AllByRecursion (IsFewer n) ss
   statements_few most n earlier nothing ss few all e = let same : earlier ≡ ss = cc in subst (AllByRecursion (IsFewer n)) same all
   statements_few most n earlier (grown head below rest) ss few all e =
-      by (begins_with bytes QueryWord head) e (λ s more. statements_few most n (earlier ++ s ∷ []) rest ss (omega (arith, few)) more) (statements_few most n earlier rest ss (omega (arith, few)) all)
+      by (begins_with bytes QueryWord head) e (λ s more. statements_few most n (earlier ++ s ∷ []) rest ss (omega (arith, few)) more)
+      (statements_few most n earlier rest ss (omega (arith, few)) all)
     where
-      by : (b : Bool) → (if b then next (named_of bytes most (query_of T bytes) (map (λ s. s.0) earlier) head below) (λ s. named_after bytes QueryWord most (query_of T bytes) (earlier ++ s ∷ []) rest) else named_after bytes QueryWord most (query_of T bytes) earlier rest) ≡ Ok ss
-          → ((s : Named QueryTree) → AllByRecursion (IsFewer n) (earlier ++ s ∷ []) → named_after bytes QueryWord most (query_of T bytes) (earlier ++ s ∷ []) rest ≡ Ok ss → AllByRecursion (IsFewer n) ss)
+      by : (b : Bool) → (if b then next (named_of bytes most (query_of T bytes) (map (λ s. s.0) earlier) head below)
+          (λ s. named_after bytes QueryWord most (query_of T bytes) (earlier ++ s ∷ []) rest) else named_after bytes QueryWord most
+          (query_of T bytes) earlier rest) ≡ Ok ss
+          → ((s : Named QueryTree) → AllByRecursion (IsFewer n) (earlier ++ s ∷ [])
+          → named_after bytes QueryWord most (query_of T bytes) (earlier ++ s ∷ []) rest ≡ Ok ss → AllByRecursion (IsFewer n) ss)
           → (named_after bytes QueryWord most (query_of T bytes) earlier rest ≡ Ok ss → AllByRecursion (IsFewer n) ss) → AllByRecursion (IsFewer n) ss
       by true e one more =
-          let told = next_ok (named_of bytes most (query_of T bytes) (map (λ s. s.0) earlier) head below) (λ s. named_after bytes QueryWord most (query_of T bytes) (earlier ++ s ∷ []) rest) ss e in
+          let told = next_ok (named_of bytes most (query_of T bytes) (map (λ s. s.0) earlier) head below)
+          (λ s. named_after bytes QueryWord most (query_of T bytes) (earlier ++ s ∷ []) rest) ss e in
           let fewer = statement_few most (map (λ s. s.0) earlier) head below told.0 told.1 in
           one told.0 (all_push (IsFewer n) earlier told.0 all (omega (arith, fewer, few))) told.2
       by false e one more = more e
 
 -- Texts.
 
-pub queries_few : (T : Topology) (bytes : List ℕ) (sort : Sort) (f : Forest) (ss : List (Named QueryTree)) → IsForestOf sort bytes f → named_after bytes QueryWord 256 (query_of T bytes) [] f ≡ Ok ss → All (λ s. query_atoms s.1 < length bytes) ss
+pub queries_few : (T : Topology) (bytes : List ℕ) (sort : Sort) (f : Forest) (ss : List (Named QueryTree)) → IsForestOf sort bytes f
+    → named_after bytes QueryWord 256 (query_of T bytes) [] f ≡ Ok ss → All (λ s. query_atoms s.1 < length bytes) ss
 queries_few T bytes sort f ss is e =
     let trees : nodes f ≤ tokens_in is.marks = subst (λ f. nodes f ≤ tokens_in is.marks) (sym is.grown) (forest_size is.marks) in
     let marks : tokens_in is.marks ≡ length is.tokens = ap length is.sentence.spelled ∙ length-map is.tokens _ in

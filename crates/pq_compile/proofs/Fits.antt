@@ -1,5 +1,6 @@
 -- The numbers that a text stands for fit the fields that they are read for.
-use Rattle.std.specs.Prelude.{◌≡◌, ℕ, ◌+◌, ◌-◌, ◌*◌, ◌^◌, ◌<◌, ◌≤◌, Bool, true, false, ◌&&◌, if◌then◌else◌, List, [], ◌∷◌, length, fold, ◌==◌, nat_le, bytes_eq, Option, Some, None, Ok, Err}
+use Rattle.std.specs.Prelude.{◌≡◌, ℕ, ◌+◌, ◌-◌, ◌*◌, ◌^◌, ◌<◌, ◌≤◌, Bool, true, false, ◌&&◌, if◌then◌else◌, List, [], ◌∷◌, length, fold}
+use Rattle.std.specs.Prelude.{◌==◌, nat_le, bytes_eq, Option, Some, None, Ok, Err}
 use Rattle.std.specs.List.{AllByRecursion, Any}
 use Rattle.std.specs.Str.{byte}
 use Rattle.std.proofs.Common.{arith, suc, refl, sym, ap, subst}
@@ -13,7 +14,8 @@ use Rattle.pq_term.specs.Forms.{is_mac, is_ipv4, is_ipv6_address}
 use Rattle.pq_term.specs.Addresses.{groups_value, spell_digits, mac_of, ipv4_of, ipv6_of}
 use Rattle.pq_term.proofs.GroupValues.{mac_groups, ipv4_groups, ipv6_groups, below_next}
 use Rattle.pq_fields.specs.declared.field.Field.{Field}
-use Rattle.pq_fields.specs.declared.field.Field.TheVariants.{Switch as SwitchField, Port, EthType, IpProto, EthSrc, EthDst, Ipv4Src, Ipv4Dst, TcpSrc, TcpDst, UdpSrc, UdpDst, Ipv6Src, Ipv6Dst}
+use Rattle.pq_fields.specs.declared.field.Field.TheVariants.{Switch as SwitchField, Port, EthType, IpProto, EthSrc, EthDst, Ipv4Src}
+use Rattle.pq_fields.specs.declared.field.Field.TheVariants.{Ipv4Dst, TcpSrc, TcpDst, UdpSrc, UdpDst, Ipv6Src, Ipv6Dst}
 use Rattle.pq_fields.specs.Packet.{width_of, is_wide}
 use Rattle.pq_fields.specs.Pred.{PredTop, PredTree, Equals, Leads, LeadsWide, leaf, is_prefixed, FitsField, IsPredOver}
 use Rattle.pq_model.specs.Topology.{Switch, Topology, named_in, switch_named}
@@ -22,22 +24,26 @@ use Rattle.pq_topo.specs.declared.fault.NameKind.{NameKind}
 use Rattle.pq_topo.specs.declared.fault.NameKind.TheVariants.{BadValue, UnknownSwitch}
 use Rattle.pq_topo.specs.Named.{IsNamedTopology}
 use Rattle.pq_pred.specs.Named.{MayStand}
-use Rattle.pq_pred.specs.Values.{Ruled, or_else, within, name_in, switch_value, value_of, cleared, address_test, address_part, length_part, ipv4_test, ipv6_test, exact_test, test_of}
+use Rattle.pq_pred.specs.Values.{Ruled, or_else, within, name_in, switch_value, value_of, cleared, address_test, address_part, length_part}
+use Rattle.pq_pred.specs.Values.{ipv4_test, ipv6_test, exact_test, test_of}
 
 -- Addresses.
 
 -- groups that spell digits, after so many others
-value_below : (weight base k value : ℕ) (groups : List (List ℕ)) → spell_digits weight base groups ≡ true → value < weight ^ k → fold (λ so_far group. so_far * weight + digits_of base group) value groups < weight ^ (k + length groups)
+value_below : (weight base k value : ℕ) (groups : List (List ℕ)) → spell_digits weight base groups ≡ true → value < weight ^ k
+    → fold (λ so_far group. so_far * weight + digits_of base group) value groups < weight ^ (k + length groups)
 value_below weight base k value [] small below = let none : k ≡ k + 0 = omega arith in subst (λ k. value < weight ^ k) none below
 value_below weight base k value (group ∷ groups) small below =
     let parts = and_parts _ (spell_digits weight base groups) small in
     let digit : digits_of base group < weight = ltb-true _ _ parts.0 in
-    let more = value_below weight base (suc k) (value * weight + digits_of base group) groups parts.1 (below_next weight k value (digits_of base group) below digit) in
+    let more = value_below weight base (suc k) (value * weight + digits_of base group) groups parts.1
+    (below_next weight k value (digits_of base group) below digit) in
     let one : suc k + length groups ≡ k + length (group ∷ groups) = omega arith in
     subst (λ k. fold (λ so_far group. so_far * weight + digits_of base group) (value * weight + digits_of base group) groups < weight ^ k) one more
 
 -- so many groups that spell digits
-groups_below : (weight base count : ℕ) (groups : List (List ℕ)) → spell_digits weight base groups ≡ true → length groups ≡ count → groups_value weight base groups < weight ^ count
+groups_below : (weight base count : ℕ) (groups : List (List ℕ)) → spell_digits weight base groups ≡ true → length groups ≡ count
+    → groups_value weight base groups < weight ^ count
 groups_below weight base count groups small long =
     let one : weight ^ 0 ≡ 1 = pow-zero weight in
     let all : 0 + length groups ≡ count = omega (arith, long) in
@@ -105,7 +111,8 @@ datapath_fits (s ∷ ss) name n all e = by (bytes_eq s.name name) e (datapath_fi
 
 module _ (T : Topology) (named : IsNamedTopology T) where
   switch_fits : (name : Option (List ℕ)) (n : ℕ) → switch_value T name ≡ Ok n → n < 2 ^ 64
-  switch_fits (Some name) n e = datapath_fits T.switches name n (recursion_from_All IsLawfulSwitch T.switches named.lawful.switches) (there UnknownSwitch (switch_named T name) n e)
+  switch_fits (Some name) n e = datapath_fits T.switches name n (recursion_from_All IsLawfulSwitch T.switches named.lawful.switches)
+      (there UnknownSwitch (switch_named T name) n e)
   switch_fits None n e = absurd cc
 
   -- a value of a field fits its width
@@ -159,7 +166,9 @@ decimal_most most text n e = by (is_decimal most text) refl e
     by false is e = absurd cc
 
 -- what holds of the test of all bits, and of each prefix, holds of a test of an address
-address_over : (P : PredTree → Type 0) (exact : ℕ → PredTop) (prefix : ℕ → ℕ → PredTop) (most : ℕ) (number : Option ℕ) (length : Option (List ℕ)) (p : PredTree) → ((n : ℕ) → number ≡ Some n → P (leaf (exact n))) → ((n len : ℕ) → number ≡ Some n → len ≤ most → P (leaf (prefix n len))) → address_test exact prefix most number length ≡ Ok p → P p
+address_over : (P : PredTree → Type 0) (exact : ℕ → PredTop) (prefix : ℕ → ℕ → PredTop) (most : ℕ) (number : Option ℕ)
+    (length : Option (List ℕ)) (p : PredTree) → ((n : ℕ) → number ≡ Some n → P (leaf (exact n)))
+    → ((n len : ℕ) → number ≡ Some n → len ≤ most → P (leaf (prefix n len))) → address_test exact prefix most number length ≡ Ok p → P p
 address_over P exact prefix most None length p whole part e = absurd cc
 address_over P exact prefix most (Some n) None p whole part e = let same : leaf (exact n) ≡ p = cc in subst P same (whole n refl)
 address_over P exact prefix most (Some n) (Some length) p whole part e = by (decimal_of most length) refl e
@@ -188,7 +197,8 @@ module _ (T : Topology) where
   datapath_named [] name n e = absurd cc
   datapath_named (s ∷ ss) name n e = by (bytes_eq s.name name) e (datapath_named ss name n)
     where
-      by : (b : Bool) → (if b then Some s.datapath else named_in ss name) ≡ Some n → (named_in ss name ≡ Some n → Any (λ s. s.datapath ≡ n) ss) → Any (λ s. s.datapath ≡ n) (s ∷ ss)
+      by : (b : Bool) → (if b then Some s.datapath else named_in ss name) ≡ Some n
+          → (named_in ss name ≡ Some n → Any (λ s. s.datapath ≡ n) ss) → Any (λ s. s.datapath ≡ n) (s ∷ ss)
       by true e more = let same : s.datapath ≡ n = cc in (0, s, omega arith, refl, same)
       by false e more = let found = more e in (suc found.0, found.1, omega (arith, found.2), found.3, found.4)
 
@@ -255,7 +265,8 @@ module _ (T : Topology) (V : Field → ℕ → Type 0) (over : ReadsOver T V) wh
   pub test_over : (f : Field) (text : List ℕ) (p : PredTree) → test_of T f text ≡ Ok p → IsPredOver V p
   test_over f text p e = by (is_prefixed f) refl (is_wide f) refl e
     where
-      by : (b : Bool) → is_prefixed f ≡ b → (c : Bool) → is_wide f ≡ c → (if b then ipv4_test f text else if c then ipv6_test f text else exact_test f (value_of T f text)) ≡ Ok p → IsPredOver V p
+      by : (b : Bool) → is_prefixed f ≡ b → (c : Bool) → is_wide f ≡ c
+          → (if b then ipv4_test f text else if c then ipv6_test f text else exact_test f (value_of T f text)) ≡ Ok p → IsPredOver V p
       by true is c wide e = ipv4_over f text p is e
       by false is true wide e = ipv6_over f text p wide e
       by false is false wide e = exact_over f (value_of T f text) p (over.values f text) e

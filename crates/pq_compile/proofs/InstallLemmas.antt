@@ -44,14 +44,16 @@ names_kept : (qs : List (List ℕ × Query)) → names_in (map named_query_tree 
 names_kept [] = refl
 names_kept (q ∷ qs) = ap (λ ns. q.0 ∷ ns) (names_kept qs)
 
-pub names_are : (d : Document) (qs : List (List ℕ × Query)) (names : List (List ℕ)) → qs ≡ d.queries.items → names ≡ map (λ q. q.0) qs → names ≡ names_in (document_tree d).queries
+pub names_are : (d : Document) (qs : List (List ℕ × Query)) (names : List (List ℕ)) → qs ≡ d.queries.items → names ≡ map (λ q. q.0) qs
+    → names ≡ names_in (document_tree d).queries
 names_are d qs names same is = is ∙ ap (map (λ q. q.0)) same ∙ sym (names_kept d.queries.items)
 
 pub names_long : (d : DocumentTree) (names : List (List ℕ)) → names ≡ names_in d.queries → length names ≡ length (queries_in d)
 names_long d names is = ap length is ∙ length-map d.queries (λ q. q.0) ∙ sym (bare_long d.queries)
 
 -- the numbers of instances that hold words are below their number
-held_at : (d : DocumentTree) (is : List Instance) (a : LettersValue) (m : Machine) → is ≡ instances_of d.topology (queries_in d) → AreClasses (languages_in d) a m
+held_at : (d : DocumentTree) (is : List Instance) (a : LettersValue) (m : Machine) → is ≡ instances_of d.topology (queries_in d)
+    → AreClasses (languages_in d) a m
     → (w : Word) → IsPath w → Ascends (accepted_at m (class_of a m w)) × All (λ i. i < length is) (accepted_at m (class_of a m w))
 held_at d is a m same are w path =
     let told = are.told w path in
@@ -64,7 +66,8 @@ held_at d is a m same are w path =
           omega (arith, below, long),
     )
 
-pub held_below : (d : DocumentTree) (is : List Instance) (a : LettersValue) (m : Machine) → is ≡ instances_of d.topology (queries_in d) → AreClasses (languages_in d) a m → AreHeldBelow (length is) m
+pub held_below : (d : DocumentTree) (is : List Instance) (a : LettersValue) (m : Machine) → is ≡ instances_of d.topology (queries_in d)
+    → AreClasses (languages_in d) a m → AreHeldBelow (length is) m
 held_below d is a m same are c within =
     let found = are.reached c within in
     subst (λ e. Ascends (accepted_at m e) × All (λ i. i < length is) (accepted_at m e)) found.2 (held_at d is a m same are found.0 found.1)
@@ -112,14 +115,16 @@ module _ (depart : PartsDepart) (tag : ClassesTag) (d : DocumentTree) (made : Ma
       subst (AscendsBy instance_numbers) found.1.instances out.instances
 
   -- they are those that reports need
-  pub are_instances : HasMeaning → MeaningsAreLaidOut → IsCompilable d → (names : List (List ℕ)) → names ≡ names_in d.queries → AreInstances (length names) made.all
+  pub are_instances : HasMeaning → MeaningsAreLaidOut → IsCompilable d → (names : List (List ℕ)) → names ≡ names_in d.queries
+      → AreInstances (length names) made.all
   are_instances exists lay can names named =
       let same = made.classified.told.instances in
       record {
         few = made.classified.told.few;
         ascend = subst (AscendsBy instance_numbers) (sym same) (ascending exists lay can);
         lawful = subst (λ n. All (IsLawfulPair n) made.all) (sym (names_long d names named))
-            (subst (All (IsLawfulPair (length (queries_in d)))) (sym same) (lawful_instances d.topology (queries_in d) can.lawful.topology (lawful_queries d can) can.atoms));
+            (subst (All (IsLawfulPair (length (queries_in d)))) (sym same)
+            (lawful_instances d.topology (queries_in d) can.lawful.topology (lawful_queries d can) can.atoms));
       }
 
   pub switches : AreSwitchesAt d.topology tags writes made.trees.first made.trees.second made.trees.switches.items

@@ -1,5 +1,6 @@
 -- Labels of lawful queries are lawful: they are short, and their values have 64 bits.
-use Rattle.std.proofs.Common.{◌≡◌, ◌<◌, ◌≤◌, ◌+◌, ◌*◌, ◌^◌, ℕ, suc, Bool, true, false, List, [], ◌∷◌, ◌++◌, length, length-append, map, get_or, refl, ap, subst, arith, lt_of_lt_of_le, pow_mono}
+use Rattle.std.proofs.Common.{◌≡◌, ◌<◌, ◌≤◌, ◌+◌, ◌*◌, ◌^◌, ℕ, suc, Bool, true, false, List, [], ◌∷◌, ◌++◌, length, length-append, map}
+use Rattle.std.proofs.Common.{get_or, refl, ap, subst, arith, lt_of_lt_of_le, pow_mono}
 use Rattle.std.specs.Prelude.{All, Some, slice_get, ◌==◌, ◌||◌}
 use Rattle.std.specs.List.{AllByRecursion, IsDistinct, flat_map, list_any}
 use Rattle.std.proofs.lemmas.Bool.{eqb-true}
@@ -45,7 +46,8 @@ each_long (ns ∷ lists) = led_long (length lists) (one_from_each lists) (each_l
 pub labels_long : (T : Topology) (q : QueryTree) → All (λ label. length label ≡ length (groups_of (queries (q ∷ [])))) (labels T q)
 labels_long T q =
     let gs = groups_of (queries (q ∷ [])) in
-    subst (λ n. All (IsLong n) (labels T q)) (length-map gs (λ (g : Group). ascending (group_values T g))) (each_long (map (λ g. ascending (group_values T g)) gs))
+    subst (λ n. All (IsLong n) (labels T q)) (length-map gs (λ (g : Group). ascending (group_values T g)))
+    (each_long (map (λ g. ascending (group_values T g)) gs))
 
 -- Brackets have at most fourteen groups.
 
@@ -53,7 +55,8 @@ labels_long T q =
 abbrev places : List Group → List ℕ
 places gs = map (λ g. rank g.field) gs
 
-places_apart : (f : Field) (gs : List Group) → AllByRecursion (λ h. is_field f h ≡ false) (map (λ g. g.field) gs) → AllByRecursion (λ n. (rank f == n) ≡ false) (places gs)
+places_apart : (f : Field) (gs : List Group) → AllByRecursion (λ h. is_field f h ≡ false) (map (λ g. g.field) gs)
+    → AllByRecursion (λ n. (rank f == n) ≡ false) (places gs)
 places_apart f [] apart = tt
 places_apart f (g ∷ gs) apart = (apart.0, places_apart f gs apart.1)
 
@@ -131,7 +134,8 @@ all_narrow (put top below rest) lawful =
 value_fits : (f : Field) (n : ℕ) → is_wide f ≡ false → FitsField f n → n < 2 ^ 64
 value_fits f n narrow fits = let wide : 2 ^ width_of f ≤ 2 ^ 64 = pow_mono (narrow_width f narrow) in lt_of_lt_of_le fits wide
 
-values_fit : (gs : List Group) (label : List ℕ) → AllByRecursion IsNarrow gs → length label ≡ length gs → Along FitsField gs label → AllByRecursion (λ n. n < 2 ^ 64) label
+values_fit : (gs : List Group) (label : List ℕ) → AllByRecursion IsNarrow gs → length label ≡ length gs → Along FitsField gs label
+    → AllByRecursion (λ n. n < 2 ^ 64) label
 values_fit gs [] narrow long along = tt
 values_fit [] (n ∷ label) narrow long along = absurd (omega (arith, long))
 values_fit (g ∷ gs) (n ∷ label) narrow long along = (value_fits g.field n narrow.0 along.0, values_fit gs label narrow.1 (omega (arith, long)) along.1)
@@ -143,10 +147,13 @@ abbrev IsLawfulLabel : List ℕ → Type 0
 IsLawfulLabel label = (length label < 2 ^ 32) × All (λ n. n < 2 ^ 64) label
 
 -- the labels of a lawful query that has few atoms are lawful
-pub lawful_labels : (T : Topology) (q : QueryTree) → IsNamedTopology T → IsLawfulQuery q → query_atoms q < 2 ^ 19 → All (λ label. (length label < 2 ^ 32) × All (λ n. n < 2 ^ 64) label) (labels T q)
+pub lawful_labels : (T : Topology) (q : QueryTree) → IsNamedTopology T → IsLawfulQuery q → query_atoms q < 2 ^ 19
+    → All (λ label. (length label < 2 ^ 32) × All (λ n. n < 2 ^ 64) label) (labels T q)
 lawful_labels T q named lawful few k d within = (
   omega (arith, long, most, few),
-  All-from_recursion (λ n. n < 2 ^ 64) label (values_fit gs label (recursion_from_All IsNarrow gs (all_narrow (queries (q ∷ [])) lawful)) long (labels_fit T named q lawful k d within)),
+  All-from_recursion (λ n. n < 2 ^ 64) label
+      (values_fit gs label (recursion_from_All IsNarrow gs (all_narrow (queries (q ∷ [])) lawful)) long
+      (labels_fit T named q lawful k d within)),
 )
   where
     gs : List Group
@@ -162,7 +169,8 @@ lawful_labels T q named lawful few k d within = (
     most = let all = groups_few (queries (q ∷ [])) lawful in omega (arith, all)
 
 -- the instances of lawful queries that have few atoms are lawful
-pub lawful_instances : (T : Topology) (qs : List QueryTree) → IsNamedTopology T → All IsLawfulQuery qs → All (λ q. query_atoms q < 2 ^ 19) qs → All (IsLawfulPair (length qs)) (instances_of T qs)
+pub lawful_instances : (T : Topology) (qs : List QueryTree) → IsNamedTopology T → All IsLawfulQuery qs
+    → All (λ q. query_atoms q < 2 ^ 19) qs → All (IsLawfulPair (length qs)) (instances_of T qs)
 lawful_instances T qs named lawful few k d within =
     let i = get_or (instances_of T qs) k d in
     let q = get_or qs i.query (leaf InTurn) in

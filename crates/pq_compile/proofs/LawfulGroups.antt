@@ -18,7 +18,8 @@ use Rattle.pq_topo.specs.Naming.{unless, named}
 use Rattle.pq_topo.proofs.Readings.{next_ok, unless_ok}
 use Rattle.pq_pred.specs.Values.{field_at, value_of}
 use Rattle.pq_query.specs.Groups.{Group}
-use Rattle.pq_query.specs.Resolved.{fresh_at, value_at, values_after, is_listed, is_field, is_grouped, grouped_at, unstated, stated, with_values, group_at, groups_after}
+use Rattle.pq_query.specs.Resolved.{fresh_at, value_at, values_after, is_listed, is_field, is_grouped, grouped_at, unstated, stated}
+use Rattle.pq_query.specs.Resolved.{with_values, group_at, groups_after}
 use Rattle.pq_query.specs.Lawful.{AreValuesOver, IsGroupOver, AreGroupsOver}
 use Rattle.pq_compile.proofs.Fits.{ReadsOver}
 use Rattle.pq_compile.proofs.LawfulPreds.{named_ok}
@@ -48,7 +49,8 @@ grouped f [] = refl
 grouped f (g ∷ gs) = ap (λ b. is_field f g.field || b) (grouped f gs)
 
 module _ (T : Topology) (V : Field → ℕ → Type 0) (over : ReadsOver T V) (bytes : List ℕ) where
-  value_kept : (f : Field) (earlier : List ℕ) (t : Token) (n : ℕ) → value_at T bytes f earlier t ≡ Ok n → AreReadValues V f earlier → AreReadValues V f (earlier ++ n ∷ [])
+  value_kept : (f : Field) (earlier : List ℕ) (t : Token) (n : ℕ) → value_at T bytes f earlier t ≡ Ok n → AreReadValues V f earlier
+      → AreReadValues V f (earlier ++ n ∷ [])
   value_kept f earlier t n e are =
       let value = value_of T f (text_in bytes t) in
       let told = next_ok (named t value) (fresh_at earlier t) n e in
@@ -60,7 +62,8 @@ module _ (T : Topology) (V : Field → ℕ → Type 0) (over : ReadsOver T V) (b
         differ = IsDistinct-push nat_eq_equiv earlier m are.differ fresh.0.0;
       })
 
-  values_kept : (f : Field) (earlier : List ℕ) (below : Forest) (ns : List ℕ) → values_after T bytes f earlier below ≡ Ok ns → AreReadValues V f earlier → AreReadValues V f ns × (length earlier ≤ length ns)
+  values_kept : (f : Field) (earlier : List ℕ) (below : Forest) (ns : List ℕ) → values_after T bytes f earlier below ≡ Ok ns
+      → AreReadValues V f earlier → AreReadValues V f ns × (length earlier ≤ length ns)
   values_kept f earlier nothing ns e are = let same : earlier ≡ ns = cc in (subst (AreReadValues V f) same are, omega (arith, ap length same))
   values_kept f earlier (grown t below rest) ns e are =
       let told = next_ok (value_at T bytes f earlier t) (λ n. values_after T bytes f (earlier ++ n ∷ []) rest) ns e in
@@ -89,7 +92,9 @@ module _ (T : Topology) (V : Field → ℕ → Type 0) (over : ReadsOver T V) (b
 
   field_read : (earlier : List Group) (stated : Bool) (t : Token) (f : Field) → grouped_at bytes earlier stated t ≡ Ok f → IsReadField earlier stated f
   field_read earlier stated t f e =
-      let told = next_ok (field_at bytes t) (λ f. unless t ((is_grouped f earlier, Doubled) ∷ (not stated && not (is_listed f), NotListed) ∷ (is_wide f, NotListed) ∷ []) f) f e in
+      let told = next_ok (field_at bytes t)
+      (λ f. unless t ((is_grouped f earlier, Doubled) ∷ (not stated && not (is_listed f), NotListed) ∷ (is_wide f, NotListed) ∷ []) f) f
+      e in
       let g = told.0 in
       let rules = unless_ok t ((is_grouped g earlier, Doubled) ∷ (not stated && not (is_listed g), NotListed) ∷ (is_wide g, NotListed) ∷ []) g f told.2 in
       subst (IsReadField earlier stated) rules.1 (record { new = rules.0.0; listed = rules.0.1.0; narrow = rules.0.1.1.0 })
@@ -99,7 +104,8 @@ module _ (T : Topology) (V : Field → ℕ → Type 0) (over : ReadsOver T V) (b
   kept false e = absurd cc
 
   -- a group whose field is new is lawful
-  group_read : (earlier : List Group) (t : Token) (below : Forest) (g : Group) → group_at T bytes earlier t below ≡ Ok g → IsGroupOver V g × (is_grouped g.field earlier ≡ false)
+  group_read : (earlier : List Group) (t : Token) (below : Forest) (g : Group) → group_at T bytes earlier t below ≡ Ok g
+      → IsGroupOver V g × (is_grouped g.field earlier ≡ false)
   group_read earlier t nothing g e =
       let told = next_ok (grouped_at bytes earlier false t) (λ f. Ok (unstated f)) g e in
       let read = field_read earlier false t told.0 told.1 in
@@ -117,7 +123,8 @@ module _ (T : Topology) (V : Field → ℕ → Type 0) (over : ReadsOver T V) (b
     pub each : AllByRecursion (IsGroupOver V) gs
     pub differ : IsDistinct is_field (map (λ g. g.field) gs)
 
-  groups_kept : (earlier : List Group) (below : Forest) (gs : List Group) → groups_after T bytes earlier below ≡ Ok gs → AreReadGroups earlier → AreReadGroups gs
+  groups_kept : (earlier : List Group) (below : Forest) (gs : List Group) → groups_after T bytes earlier below ≡ Ok gs
+      → AreReadGroups earlier → AreReadGroups gs
   groups_kept earlier nothing gs e are = let same : earlier ≡ gs = cc in subst AreReadGroups same are
   groups_kept earlier (grown t below rest) gs e are =
       let told = next_ok (group_at T bytes earlier t below) (λ g. groups_after T bytes (earlier ++ g ∷ []) rest) gs e in
@@ -126,7 +133,8 @@ module _ (T : Topology) (V : Field → ℕ → Type 0) (over : ReadsOver T V) (b
       let new : list_any (is_field g.field) (map (λ g. g.field) earlier) ≡ false = grouped g.field earlier ∙ read.1 in
       groups_kept (earlier ++ g ∷ []) rest gs told.2 (record {
         each = all_push (IsGroupOver V) earlier g are.each read.0;
-        differ = subst (IsDistinct is_field) (sym (map-append (λ (g : Group). g.field) earlier (g ∷ []))) (IsDistinct-push field_equiv (map (λ g. g.field) earlier) g.field are.differ new);
+        differ = subst (IsDistinct is_field) (sym (map-append (λ (g : Group). g.field) earlier (g ∷ [])))
+            (IsDistinct-push field_equiv (map (λ g. g.field) earlier) g.field are.differ new);
       })
 
   no_groups : AreReadGroups []

@@ -17,7 +17,8 @@ use Rattle.pq_topo.specs.Naming.{Reading, faulty, unless, named, next, gathered}
 use Rattle.pq_topo.proofs.Readings.{next_ok, unless_ok}
 use Rattle.pq_pred.specs.Values.{field_at, value_of, within}
 use Rattle.pq_pred.specs.Predicates.{pred_of}
-use Rattle.pq_policy.specs.Policy.{PolicyTop, Pass, Discard, Spread, Only, Write, Forward, Choose, Either, InTurn, Policies, none, PolicyTree, leaf, policies, is_writable, IsTopOver, ArePoliciesOver, IsPolicyOver}
+use Rattle.pq_policy.specs.Policy.{PolicyTop, Pass, Discard, Spread, Only, Write, Forward, Choose, Either, InTurn, Policies, none}
+use Rattle.pq_policy.specs.Policy.{PolicyTree, leaf, policies, is_writable, IsTopOver, ArePoliciesOver, IsPolicyOver}
 use Rattle.pq_policy.specs.Resolved.{filter_of, writable_at, write_at, write_of, forward_of, choice_of, joined, policy_step, policy_readings, policy_of}
 use Rattle.pq_compile.proofs.Fits.{ReadsOver, within_bounds}
 use Rattle.pq_compile.proofs.LawfulPreds.{named_ok, all_gathered, pred_over}
@@ -30,12 +31,16 @@ all_over V (p ∷ ps) all = (all.0.0, all.0.1, all_over V ps all.1)
 some_below : (p : PolicyTree) (ps : List PolicyTree) → policies (p ∷ ps) ≢ none
 some_below p ps e = absurd cc
 
-joined_over : (V : Field → ℕ → Type 0) (head : Token) (top : PolicyTop) (ps : List PolicyTree) (p : PolicyTree) → ((below : Policies) → below ≢ none → IsTopOver V top below) → AllByRecursion (IsPolicyOver V) ps → joined head top ps ≡ Ok p → IsPolicyOver V p
+joined_over : (V : Field → ℕ → Type 0) (head : Token) (top : PolicyTop) (ps : List PolicyTree) (p : PolicyTree)
+    → ((below : Policies) → below ≢ none → IsTopOver V top below) → AllByRecursion (IsPolicyOver V) ps → joined head top ps ≡ Ok p
+    → IsPolicyOver V p
 joined_over V head top [] p here all e = absurd cc
-joined_over V head top (q ∷ qs) p here all e = let same : record { top = top; below = policies (q ∷ qs) } ≡ p = cc in subst (IsPolicyOver V) same (here (policies (q ∷ qs)) (some_below q qs), all_over V (q ∷ qs) all, tt)
+joined_over V head top (q ∷ qs) p here all e = let same : record { top = top; below = policies (q ∷ qs) } ≡ p = cc in
+    subst (IsPolicyOver V) same (here (policies (q ∷ qs)) (some_below q qs), all_over V (q ∷ qs) all, tt)
 
 -- a choice between lawful policies
-chosen : (V : Field → ℕ → Type 0) (q : PredTree) (a b p : PolicyTree) → IsPredOver V q → IsPolicyOver V a → IsPolicyOver V b → record { top = Choose q; below = policies (a ∷ b ∷ []) } ≡ p → IsPolicyOver V p
+chosen : (V : Field → ℕ → Type 0) (q : PredTree) (a b p : PolicyTree) → IsPredOver V q → IsPolicyOver V a → IsPolicyOver V b
+    → record { top = Choose q; below = policies (a ∷ b ∷ []) } ≡ p → IsPolicyOver V p
 chosen V q a b p test one two same = subst (IsPolicyOver V) same (test, all_over V (a ∷ b ∷ []) (one, (two, tt)), tt)
 
 module _ (T : Topology) (V : Field → ℕ → Type 0) (over : ReadsOver T V) (bytes : List ℕ) where
@@ -59,7 +64,11 @@ module _ (T : Topology) (V : Field → ℕ → Type 0) (over : ReadsOver T V) (b
       let may : is_writable f ≡ true = subst (λ f. is_writable f ≡ true) rules.1 (not-false (is_writable found.0) rules.0.0) in
       let valued = next_ok (named value (value_of T f (text_in bytes value))) (λ n. Ok (leaf (Write f n))) p writable.2 in
       let same : leaf (Write f valued.0) ≡ p = cc in
-      subst (IsPolicyOver V) same ((may, over.values f (text_in bytes value) valued.0 (named_ok value (value_of T f (text_in bytes value)) valued.0 valued.1)), tt, tt)
+      subst (IsPolicyOver V) same (
+        (may, over.values f (text_in bytes value) valued.0 (named_ok value (value_of T f (text_in bytes value)) valued.0 valued.1)),
+        tt,
+        tt,
+      )
 
   writes_over : (head : Token) (below : Forest) → IsReadOver (write_of T bytes head below)
   writes_over head nothing p e = absurd cc
@@ -88,7 +97,9 @@ module _ (T : Topology) (V : Field → ℕ → Type 0) (over : ReadsOver T V) (b
       let same : record { top = Choose tested.0; below = policies (one.0 ∷ two.0 ∷ []) } ≡ p = cc in
       chosen V tested.0 one.0 two.0 p (pred_over T V over bytes tree tested.0 tested.1) (all.1.0 one.0 one.1) (all.1.1.0 two.0 two.1) same
 
-  operands_over : (head : Token) (top : PolicyTop) (rs : List (Reading PolicyTree)) → ((below : Policies) → below ≢ none → IsTopOver V top below) → AllByRecursion IsReadOver rs → IsReadOver (next (gathered rs) (joined head top))
+  operands_over : (head : Token) (top : PolicyTop) (rs : List (Reading PolicyTree))
+      → ((below : Policies) → below ≢ none → IsTopOver V top below) → AllByRecursion IsReadOver rs
+      → IsReadOver (next (gathered rs) (joined head top))
   operands_over head top rs here all p e =
       let told = next_ok (gathered rs) (joined head top) p e in
       joined_over V head top told.0 p here (all_gathered (IsPolicyOver V) rs told.0 all told.1) told.2
@@ -96,9 +107,14 @@ module _ (T : Topology) (V : Field → ℕ → Type 0) (over : ReadsOver T V) (b
   step_over : (head : Token) (below : Forest) (rs : List (Reading PolicyTree)) → AllByRecursion IsReadOver rs → IsReadOver (policy_step T bytes head below rs)
   step_over head below rs all p e =
       let class = class_in_text bytes head in
-      by (is_class class IdentityWord) (is_class class DropWord) (is_class class FloodWord) (is_class class FilterWord) (is_class class ModWord) (is_class class FwdWord) (is_class class IfWord) (is_class class Plus) (is_class class Then) e
+      by (is_class class IdentityWord) (is_class class DropWord) (is_class class FloodWord) (is_class class FilterWord)
+      (is_class class ModWord) (is_class class FwdWord) (is_class class IfWord) (is_class class Plus) (is_class class Then) e
     where
-      by : (a b c d f g h i j : Bool) → (if a then Ok (leaf Pass) else if b then Ok (leaf Discard) else if c then Ok (leaf Spread) else if d then filter_of T bytes head below else if f then write_of T bytes head below else if g then forward_of bytes head below else if h then choice_of T bytes head below rs else if i then next (gathered rs) (joined head Either) else if j then next (gathered rs) (joined head InTurn) else faulty head BadValue) ≡ Ok p → IsPolicyOver V p
+      by : (a b c d f g h i j : Bool)
+          → (if a then Ok (leaf Pass) else if b then Ok (leaf Discard) else if c then Ok
+          (leaf Spread) else if d then filter_of T bytes head below else if f then write_of T bytes head below else if g then forward_of
+          bytes head below else if h then choice_of T bytes head below rs else if i then next (gathered rs)
+          (joined head Either) else if j then next (gathered rs) (joined head InTurn) else faulty head BadValue) ≡ Ok p → IsPolicyOver V p
       by true b c d f g h i j e = let same : leaf Pass ≡ p = cc in subst (IsPolicyOver V) same (tt, tt, tt)
       by false true c d f g h i j e = let same : leaf Discard ≡ p = cc in subst (IsPolicyOver V) same (tt, tt, tt)
       by false false true d f g h i j e = let same : leaf Spread ≡ p = cc in subst (IsPolicyOver V) same (tt, tt, tt)

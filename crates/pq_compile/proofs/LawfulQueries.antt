@@ -3,7 +3,8 @@ use Rattle.std.specs.Prelude.{◌≡◌, ◌≢◌, ℕ, Bool, true, false, if�
 use Rattle.std.specs.List.{AllByRecursion}
 use Rattle.std.proofs.Common.{subst}
 use Rattle.pq_term.specs.declared.token.Token.{Token}
-use Rattle.pq_grammar.specs.declared.class.Class.TheVariants.{InAtom, OutAtom, InOutAtom, EndAtom, InGroup, OutGroup, InOutGroup, Caret, Bar, Ampersand, Tilde, Star}
+use Rattle.pq_grammar.specs.declared.class.Class.TheVariants.{InAtom, OutAtom, InOutAtom, EndAtom, InGroup, OutGroup, InOutGroup, Caret}
+use Rattle.pq_grammar.specs.declared.class.Class.TheVariants.{Bar, Ampersand, Tilde, Star}
 use Rattle.pq_grammar.specs.Tables.{is_class}
 use Rattle.pq_tree.specs.Trees.{Forest, nothing, grown, Tree}
 use Rattle.pq_tree.specs.Texts.{class_in_text}
@@ -15,7 +16,8 @@ use Rattle.pq_topo.specs.Naming.{Reading, faulty, next, gathered}
 use Rattle.pq_topo.proofs.Readings.{next_ok}
 use Rattle.pq_query.specs.Groups.{Group}
 use Rattle.pq_query.specs.Query.{QueryTop, Enters, Leaves, Passes, Ends, InTurn, Either, Both, Other, Repeated, Queries, none, QueryTree, leaf, queries}
-use Rattle.pq_query.specs.Resolved.{Side, later, pred_in, groups_in, bare_in, grouped_in, entering, leaving, passing, hop_of, grouped_hop_of, end_of, single, joined, atom_of, query_step, query_readings, query_of}
+use Rattle.pq_query.specs.Resolved.{Side, later, pred_in, groups_in, bare_in, grouped_in, entering, leaving, passing, hop_of}
+use Rattle.pq_query.specs.Resolved.{grouped_hop_of, end_of, single, joined, atom_of, query_step, query_readings, query_of}
 use Rattle.pq_query.specs.Lawful.{IsTopOver, AreGroupsOver, AreQueriesOver, IsQueryOver}
 use Rattle.pq_compile.proofs.Fits.{ReadsOver}
 use Rattle.pq_compile.proofs.LawfulPreds.{all_gathered, pred_over}
@@ -33,13 +35,17 @@ some_below q qs e = absurd cc
 abbrev IsOperator : (Field → ℕ → Type 0) → QueryTop → Type 0
 IsOperator V top = (below : Queries) → below ≢ none → IsTopOver V top below
 
-joined_over : (V : Field → ℕ → Type 0) (head : Token) (top : QueryTop) (qs : List QueryTree) (q : QueryTree) → IsOperator V top → AllByRecursion (IsQueryOver V) qs → joined head top qs ≡ Ok q → IsQueryOver V q
+joined_over : (V : Field → ℕ → Type 0) (head : Token) (top : QueryTop) (qs : List QueryTree) (q : QueryTree) → IsOperator V top
+    → AllByRecursion (IsQueryOver V) qs → joined head top qs ≡ Ok q → IsQueryOver V q
 joined_over V head top [] q here all e = absurd cc
-joined_over V head top (r ∷ rs) q here all e = let same : record { top = top; below = queries (r ∷ rs) } ≡ q = cc in subst (IsQueryOver V) same (here (queries (r ∷ rs)) (some_below r rs), all_over V (r ∷ rs) all, tt)
+joined_over V head top (r ∷ rs) q here all e = let same : record { top = top; below = queries (r ∷ rs) } ≡ q = cc in
+    subst (IsQueryOver V) same (here (queries (r ∷ rs)) (some_below r rs), all_over V (r ∷ rs) all, tt)
 
-single_over : (V : Field → ℕ → Type 0) (head : Token) (top : QueryTop) (qs : List QueryTree) (q : QueryTree) → IsOperator V top → AllByRecursion (IsQueryOver V) qs → single head top qs ≡ Ok q → IsQueryOver V q
+single_over : (V : Field → ℕ → Type 0) (head : Token) (top : QueryTop) (qs : List QueryTree) (q : QueryTree) → IsOperator V top
+    → AllByRecursion (IsQueryOver V) qs → single head top qs ≡ Ok q → IsQueryOver V q
 single_over V head top [] q here all e = absurd cc
-single_over V head top (r ∷ []) q here all e = let same : record { top = top; below = queries (r ∷ []) } ≡ q = cc in subst (IsQueryOver V) same (here (queries (r ∷ [])) (some_below r []), all_over V (r ∷ []) all, tt)
+single_over V head top (r ∷ []) q here all e = let same : record { top = top; below = queries (r ∷ []) } ≡ q = cc in
+    subst (IsQueryOver V) same (here (queries (r ∷ [])) (some_below r []), all_over V (r ∷ []) all, tt)
 single_over V head top (r ∷ s ∷ rs) q here all e = absurd cc
 
 -- a predicate and grouped fields that are lawful
@@ -101,15 +107,22 @@ module _ (T : Topology) (V : Field → ℕ → Type 0) (over : ReadsOver T V) (b
       subst (IsQueryOver V) same (pred_in_over head below told.0 told.1, tt, tt)
 
   -- an atom of one packet
-  sided : (r : Reading Side) (f : Side → Reading QueryTree) → ((s : Side) → r ≡ Ok s → IsSideOver V s) → ((s : Side) (q : QueryTree) → IsSideOver V s → f s ≡ Ok q → IsQueryOver V q) → IsReadOver (next r f)
+  sided : (r : Reading Side) (f : Side → Reading QueryTree) → ((s : Side) → r ≡ Ok s → IsSideOver V s)
+      → ((s : Side) (q : QueryTree) → IsSideOver V s → f s ≡ Ok q → IsQueryOver V q) → IsReadOver (next r f)
   sided r f side made q e = let told = next_ok r f q e in made told.0 q (side told.0 told.1) told.2
 
   atom_over : (head : Token) (below : Forest) → IsReadOver (atom_of T bytes head below)
   atom_over head below q e =
       let class = class_in_text bytes head in
-      by (is_class class InAtom) (is_class class OutAtom) (is_class class InOutAtom) (is_class class EndAtom) (is_class class InGroup) (is_class class OutGroup) (is_class class InOutGroup) e
+      by (is_class class InAtom) (is_class class OutAtom) (is_class class InOutAtom) (is_class class EndAtom) (is_class class InGroup)
+      (is_class class OutGroup) (is_class class InOutGroup) e
     where
-      by : (a b c d f g h : Bool) → (if a then next (bare_in T bytes head below) entering else if b then next (bare_in T bytes head below) leaving else if c then hop_of T bytes head below else if d then end_of T bytes head below else if f then next (grouped_in T bytes head below) entering else if g then next (grouped_in T bytes head below) leaving else if h then grouped_hop_of T bytes head below else faulty head BadValue) ≡ Ok q → IsQueryOver V q
+      by : (a b c d f g h : Bool)
+          → (if a then next (bare_in T bytes head below) entering else if b then next
+          (bare_in T bytes head below) leaving else if c then hop_of T bytes head below else if d then end_of T bytes head below else if f
+          then next (grouped_in T bytes head below) entering else if g then next
+          (grouped_in T bytes head below) leaving else if h then grouped_hop_of T bytes head below else faulty head BadValue) ≡ Ok q
+          → IsQueryOver V q
       by true b c d f g h e = sided (bare_in T bytes head below) entering (bare_over head below) (entering_over V) q e
       by false true c d f g h e = sided (bare_in T bytes head below) leaving (bare_over head below) (leaving_over V) q e
       by false false true d f g h e = hop_over head below q e
@@ -121,7 +134,9 @@ module _ (T : Topology) (V : Field → ℕ → Type 0) (over : ReadsOver T V) (b
 
   -- Operators.
 
-  operands_over : (rs : List (Reading QueryTree)) (make : List QueryTree → Reading QueryTree) → ((qs : List QueryTree) (q : QueryTree) → AllByRecursion (IsQueryOver V) qs → make qs ≡ Ok q → IsQueryOver V q) → AllByRecursion IsReadOver rs → IsReadOver (next (gathered rs) make)
+  operands_over : (rs : List (Reading QueryTree)) (make : List QueryTree → Reading QueryTree)
+      → ((qs : List QueryTree) (q : QueryTree) → AllByRecursion (IsQueryOver V) qs → make qs ≡ Ok q → IsQueryOver V q)
+      → AllByRecursion IsReadOver rs → IsReadOver (next (gathered rs) make)
   operands_over rs make made all q e =
       let told = next_ok (gathered rs) make q e in
       made told.0 q (all_gathered (IsQueryOver V) rs told.0 all told.1) told.2
@@ -131,7 +146,10 @@ module _ (T : Topology) (V : Field → ℕ → Type 0) (over : ReadsOver T V) (b
       let class = class_in_text bytes head in
       by (is_class class Caret) (is_class class Bar) (is_class class Ampersand) (is_class class Tilde) (is_class class Star) e
     where
-      by : (a b c d f : Bool) → (if a then next (gathered rs) (joined head InTurn) else if b then next (gathered rs) (joined head Either) else if c then next (gathered rs) (joined head Both) else if d then next (gathered rs) (single head Other) else if f then next (gathered rs) (single head Repeated) else atom_of T bytes head below) ≡ Ok q → IsQueryOver V q
+      by : (a b c d f : Bool)
+          → (if a then next (gathered rs) (joined head InTurn) else if b then next (gathered rs) (joined head Either) else if c then next
+          (gathered rs) (joined head Both) else if d then next (gathered rs) (single head Other) else if f then next (gathered rs)
+          (single head Repeated) else atom_of T bytes head below) ≡ Ok q → IsQueryOver V q
       by true b c d f e = operands_over rs (joined head InTurn) (λ qs q. joined_over V head InTurn qs q (λ below some. some)) all q e
       by false true c d f e = operands_over rs (joined head Either) (λ qs q. joined_over V head Either qs q (λ below some. some)) all q e
       by false false true d f e = operands_over rs (joined head Both) (λ qs q. joined_over V head Both qs q (λ below some. some)) all q e

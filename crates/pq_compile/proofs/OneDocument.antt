@@ -44,7 +44,8 @@ not_memory : (f : TermFault) → IsText f → f ≡ MemoryTerm → ⊥
 not_memory f text h = subst IsText h text
 
 -- two faults of a text are one
-same_fault : (bytes : List ℕ) (f g : TermFault) → IsText f → IsText g → IsTextFault DocumentSort bytes f → IsTextFault DocumentSort bytes g → as_document f ≡ as_document g
+same_fault : (bytes : List ℕ) (f g : TermFault) → IsText f → IsText g → IsTextFault DocumentSort bytes f → IsTextFault DocumentSort bytes g
+    → as_document f ≡ as_document g
 same_fault bytes f g some other first second = ap as_document (one_text_fault DocumentSort bytes f g first second (not_memory f some) (not_memory g other))
 
 -- a text with statements has none
@@ -64,7 +65,8 @@ one_name_fault bytes i j k l first second =
     ap fault_in (sym first.faulty ∙ ap (document_of bytes) same ∙ second.faulty)
 
 -- the text has one fault, want of memory aside
-pub one_document_fault : (bytes : List ℕ) (f g : DocumentFault) → IsDocumentFault bytes f → IsDocumentFault bytes g → (f ≡ Memory → ⊥) → (g ≡ Memory → ⊥) → f ≡ g
+pub one_document_fault : (bytes : List ℕ) (f g : DocumentFault) → IsDocumentFault bytes f → IsDocumentFault bytes g → (f ≡ Memory → ⊥)
+    → (g ≡ Memory → ⊥) → f ≡ g
 one_document_fault bytes (Lex i) (Lex j) first second some other = same_fault bytes (LexTerm i) (LexTerm j) tt tt first second
 one_document_fault bytes (Lex i) (Syntax j) first second some other = same_fault bytes (LexTerm i) (SyntaxTerm j) tt tt first second
 one_document_fault bytes (Syntax i) (Lex j) first second some other = same_fault bytes (SyntaxTerm i) (LexTerm j) tt tt first second

@@ -30,14 +30,18 @@ use Rattle.pq_compile.specs.Prepared.{IsPrepareFault, IsWithin, languages_in, pa
 
 -- By whatever tags and departures a document is laid out, its trees are the same, so their fault is.
 
-module _ (T : Topology) (lawful : IsLawfulTopology T) (ps : List PolicyTree) (qs : List QueryTree) (g h : Tagging) (writes more : Departures) (left : IsLaid T ps qs g writes)
+module _ (T : Topology) (lawful : IsLawfulTopology T) (ps : List PolicyTree) (qs : List QueryTree) (g h : Tagging)
+    (writes more : Departures) (left : IsLaid T ps qs g writes)
     (right : IsLaid T ps qs h more) where
   all_same : (ss : List Switch) → AllByRecursion IsLawfulSwitch ss → (ts : List TablesTrees)
       → AllZip (λ s t. AreTrees T g writes s.datapath t.first t.second) ss ts → AllZip (λ s t. AreTrees T h more s.datapath t.first t.second) ss ts
   all_same [] each [] all = tt
   all_same [] each (t ∷ ts) all = absurd all
   all_same (s ∷ ss) each [] all = absurd all
-  all_same (s ∷ ss) each (t ∷ ts) all = (one_set_of_trees T ps qs g h writes more left right s.datapath each.0.0 t.first t.second all.0, all_same ss each.1 ts all.1)
+  all_same (s ∷ ss) each (t ∷ ts) all = (
+    one_set_of_trees T ps qs g h writes more left right s.datapath each.0.0 t.first t.second all.0,
+    all_same ss each.1 ts all.1,
+  )
 
   too_large : (fault : RulesFault) → AreTooLarge T g writes fault → AreTooLarge T h more fault
   too_large fault full = record {
@@ -52,8 +56,10 @@ module _ (T : Topology) (lawful : IsLawfulTopology T) (ps : List PolicyTree) (qs
   emit_fault rules.Memory full = tt
 
 -- where the tables of one laying out are within the limits, those of all are
-pub tables_within : (d : DocumentTree) → IsLawfulTopology d.topology → (g : Tagging) (writes : Departures) → IsLaidFor d g writes → HasNoFault d.topology g writes → AreTablesWithin d
-tables_within d lawful g writes laid none h more other fault full = none fault (emit_fault d.topology lawful (parts_in d) (queries_in d) h g more writes other laid fault full)
+pub tables_within : (d : DocumentTree) → IsLawfulTopology d.topology → (g : Tagging) (writes : Departures) → IsLaidFor d g writes
+    → HasNoFault d.topology g writes → AreTablesWithin d
+tables_within d lawful g writes laid none h more other fault full =
+    none fault (emit_fault d.topology lawful (parts_in d) (queries_in d) h g more writes other laid fault full)
 
 -- for some tags and departures the document's tables are too large
 abbrev AreTooLargeFor : DocumentTree → RulesFault → Type 0
@@ -85,14 +91,21 @@ no_prepare_fault d prepare.Memory is fault = refl
 pub one_prepare_fault : (d : DocumentTree) (f g : PrepareFault) → IsPrepareFault d f → IsPrepareFault d g → f ≢ prepare.Memory → g ≢ prepare.Memory → f ≡ g
 one_prepare_fault d (prepare.ValuesFull f n) (prepare.ValuesFull g m) left right some more =
     let one : Field × ℕ = (f, n) in let other : Field × ℕ = (g, m) in ap values_fault (same_Some one other (sym left ∙ right))
-one_prepare_fault d (prepare.ValuesFull f n) (prepare.InstancesFull m) left right some more = let one : Field × ℕ = (f, n) in absurd (none-some one (sym right.0 ∙ left))
-one_prepare_fault d (prepare.ValuesFull f n) (prepare.TagWidth m) left right some more = let one : Field × ℕ = (f, n) in absurd (none-some one (sym right.0 ∙ left))
-one_prepare_fault d (prepare.InstancesFull n) (prepare.ValuesFull g m) left right some more = let other : Field × ℕ = (g, m) in absurd (none-some other (sym left.0 ∙ right))
+one_prepare_fault d (prepare.ValuesFull f n) (prepare.InstancesFull m) left right some more = let one : Field × ℕ = (f, n) in
+    absurd (none-some one (sym right.0 ∙ left))
+one_prepare_fault d (prepare.ValuesFull f n) (prepare.TagWidth m) left right some more = let one : Field × ℕ = (f, n) in
+    absurd (none-some one (sym right.0 ∙ left))
+one_prepare_fault d (prepare.InstancesFull n) (prepare.ValuesFull g m) left right some more = let other : Field × ℕ = (g, m) in
+    absurd (none-some other (sym left.0 ∙ right))
 one_prepare_fault d (prepare.InstancesFull n) (prepare.InstancesFull m) left right some more = ap (λ c. prepare.InstancesFull c) (left.1.1 ∙ sym right.1.1)
-one_prepare_fault d (prepare.InstancesFull n) (prepare.TagWidth m) left right some more = let above = left.1.0 in let most = right.1 in absurd (omega (arith, above, most))
-one_prepare_fault d (prepare.TagWidth n) (prepare.ValuesFull g m) left right some more = let other : Field × ℕ = (g, m) in absurd (none-some other (sym left.0 ∙ right))
-one_prepare_fault d (prepare.TagWidth n) (prepare.InstancesFull m) left right some more = let above = right.1.0 in let most = left.1 in absurd (omega (arith, above, most))
-one_prepare_fault d (prepare.TagWidth n) (prepare.TagWidth m) left right some more = ap (λ c. prepare.TagWidth c) (one_count (languages_in d) n m left.2 right.2)
+one_prepare_fault d (prepare.InstancesFull n) (prepare.TagWidth m) left right some more = let above = left.1.0 in let most = right.1 in
+    absurd (omega (arith, above, most))
+one_prepare_fault d (prepare.TagWidth n) (prepare.ValuesFull g m) left right some more = let other : Field × ℕ = (g, m) in
+    absurd (none-some other (sym left.0 ∙ right))
+one_prepare_fault d (prepare.TagWidth n) (prepare.InstancesFull m) left right some more = let above = right.1.0 in let most = left.1 in
+    absurd (omega (arith, above, most))
+one_prepare_fault d (prepare.TagWidth n) (prepare.TagWidth m) left right some more =
+    ap (λ c. prepare.TagWidth c) (one_count (languages_in d) n m left.2 right.2)
 one_prepare_fault d prepare.Memory g left right some more = absurd (some refl)
 one_prepare_fault d (prepare.ValuesFull f n) prepare.Memory left right some more = absurd (more refl)
 one_prepare_fault d (prepare.InstancesFull n) prepare.Memory left right some more = absurd (more refl)
@@ -117,9 +130,24 @@ record IsLate (d : DocumentTree) (f : CompileFault) : Type 0 where
 stage_of : (d : DocumentTree) (f : CompileFault) → IsCompileFault d f → f ≢ compile.Memory → IsEarly d f ⊎ IsLate d f
 stage_of d (compile.ValuesFull field count) cause named =
     inl (record { fault = prepare.ValuesFull field count; is = refl; cause = cause; named = λ e. named (ap prepare_fault e) })
-stage_of d (compile.InstancesFull count) cause named = inl (record { fault = prepare.InstancesFull count; is = refl; cause = cause; named = λ e. named (ap prepare_fault e) })
-stage_of d (compile.TagWidth classes) cause named = inl (record { fault = prepare.TagWidth classes; is = refl; cause = cause; named = λ e. named (ap prepare_fault e) })
-stage_of d (compile.TableFull switch table entries) cause named = inr (record { fault = rules.TableFull switch table entries; is = refl; within = cause.0; full = cause.1 })
+stage_of d (compile.InstancesFull count) cause named = inl (record {
+  fault = prepare.InstancesFull count;
+  is = refl;
+  cause = cause;
+  named = λ e. named (ap prepare_fault e);
+})
+stage_of d (compile.TagWidth classes) cause named = inl (record {
+  fault = prepare.TagWidth classes;
+  is = refl;
+  cause = cause;
+  named = λ e. named (ap prepare_fault e);
+})
+stage_of d (compile.TableFull switch table entries) cause named = inr (record {
+  fault = rules.TableFull switch table entries;
+  is = refl;
+  within = cause.0;
+  full = cause.1;
+})
 stage_of d (compile.GroupFull switch copies) cause named = inr (record { fault = rules.GroupFull switch copies; is = refl; within = cause.0; full = cause.1 })
 stage_of d compile.Memory cause named = absurd (named refl)
 
@@ -129,7 +157,8 @@ one_of_stages d lawful f g (inl a) (inr b) = absurd (a.named (no_prepare_fault d
 one_of_stages d lawful f g (inr a) (inl b) = absurd (b.named (no_prepare_fault d b.fault a.within b.cause))
 one_of_stages d lawful f g (inr a) (inr b) = a.is ∙ (ap rules_fault (one_tables_fault d lawful a.fault b.fault a.full b.full) ∙ sym b.is)
 
-pub one_compile_fault : (d : DocumentTree) (f g : CompileFault) → IsLawfulTopology d.topology → IsCompileFault d f → IsCompileFault d g → f ≢ compile.Memory → g ≢ compile.Memory → f ≡ g
+pub one_compile_fault : (d : DocumentTree) (f g : CompileFault) → IsLawfulTopology d.topology → IsCompileFault d f → IsCompileFault d g
+    → f ≢ compile.Memory → g ≢ compile.Memory → f ≡ g
 one_compile_fault d f g lawful left right some more = one_of_stages d lawful f g (stage_of d f left some) (stage_of d g right more)
 
 -- a document within all limits is beyond none
@@ -137,6 +166,8 @@ pub no_compile_fault : (d : DocumentTree) (f : CompileFault) → IsWithinLimits 
 no_compile_fault d (compile.ValuesFull field count) is fault = ap prepare_fault (no_prepare_fault d (prepare.ValuesFull field count) is.within fault)
 no_compile_fault d (compile.InstancesFull count) is fault = ap prepare_fault (no_prepare_fault d (prepare.InstancesFull count) is.within fault)
 no_compile_fault d (compile.TagWidth classes) is fault = ap prepare_fault (no_prepare_fault d (prepare.TagWidth classes) is.within fault)
-no_compile_fault d (compile.TableFull switch table entries) is (within, (g, writes, laid, full)) = ap rules_fault (is.tables g writes laid (rules.TableFull switch table entries) full)
-no_compile_fault d (compile.GroupFull switch copies) is (within, (g, writes, laid, full)) = ap rules_fault (is.tables g writes laid (rules.GroupFull switch copies) full)
+no_compile_fault d (compile.TableFull switch table entries) is (within, (g, writes, laid, full)) =
+    ap rules_fault (is.tables g writes laid (rules.TableFull switch table entries) full)
+no_compile_fault d (compile.GroupFull switch copies) is (within, (g, writes, laid, full)) =
+    ap rules_fault (is.tables g writes laid (rules.GroupFull switch copies) full)
 no_compile_fault d compile.Memory is fault = refl

@@ -45,7 +45,8 @@ stated_are d ps qs ps_is qs_is = ap₂ (stated d.topology) (parts_are d ps ps_is
 -- what holds of each with its name holds without it
 pub bare : {A : Type 0} (P : A → Type 0) (xs : List (Named A)) → All (λ x. P x.1) xs → All P (map (λ x. x.1) xs)
 bare P [] all = All-nil P
-bare {A} P (x ∷ xs) all = All-cons P x.1 (map (λ x. x.1) xs) (All-head (λ (y : Named A). P y.1) x xs all) (bare P xs (All-tail (λ (y : Named A). P y.1) x xs all))
+bare {A} P (x ∷ xs) all = All-cons P x.1 (map (λ x. x.1) xs) (All-head (λ (y : Named A). P y.1) x xs all)
+    (bare P xs (All-tail (λ (y : Named A). P y.1) x xs all))
 
 pub bare_long : {A : Type 0} (xs : List (Named A)) → length (map (λ x. x.1) xs) ≡ length xs
 bare_long {A} xs = length-map xs (λ (x : Named A). x.1)
@@ -73,7 +74,8 @@ module _ (d : DocumentTree) (is : IsCompilable d) where
   query_room few = queries_fit d.topology (parts_in d) (queries_in d) (room few)
 
 -- instances of queries that were given are instances of the document's
-pub within_long : (d : Document) (qs : List (List ℕ × Query)) (is : List Instance) → qs ≡ d.queries.items → All (λ i. i.query < length qs) is → All (λ i. i.query < length (document_tree d).queries) is
+pub within_long : (d : Document) (qs : List (List ℕ × Query)) (is : List Instance) → qs ≡ d.queries.items
+    → All (λ i. i.query < length qs) is → All (λ i. i.query < length (document_tree d).queries) is
 within_long d qs is same all =
     let long : length qs ≡ length (document_tree d).queries = ap length same ∙ sym (length-map d.queries.items named_query_tree) in
     subst (λ n. All (λ i. i.query < n) is) long all

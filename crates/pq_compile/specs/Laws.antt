@@ -20,7 +20,8 @@ HasNoPrepareFault = (d : DocumentTree) (f : PrepareFault) → IsWithin d → IsP
 -- want of memory aside, a document over a lawful topology has one fault of compiling
 abbrev pub HasOneCompileFault : Type 0
 HasOneCompileFault =
-    (d : DocumentTree) (f g : CompileFault) → IsLawfulTopology d.topology → IsCompileFault d f → IsCompileFault d g → f ≢ compile.Memory → g ≢ compile.Memory → f ≡ g
+    (d : DocumentTree) (f g : CompileFault) → IsLawfulTopology d.topology → IsCompileFault d f → IsCompileFault d g → f ≢ compile.Memory
+    → g ≢ compile.Memory → f ≡ g
 
 -- and none where it is within all limits
 abbrev pub HasNoCompileFault : Type 0

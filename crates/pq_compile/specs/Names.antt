@@ -37,11 +37,13 @@ named_from bytes most read names keyword name body =
 abbrev pub named_of : {A : Type 0} → List ℕ → ℕ → (Tree → Reading A) → List (List ℕ) → Token → Forest → Reading (Named A)
 named_of bytes most read names keyword nothing = faulty keyword BadValue
 named_of bytes most read names keyword (grown name x nothing) = faulty keyword BadValue
-named_of bytes most read names keyword (grown name x (grown head below rest)) = named_from bytes most read names keyword name (record { head = head; below = below })
+named_of bytes most read names keyword (grown name x (grown head below rest)) =
+    named_from bytes most read names keyword name (record { head = head; below = below })
 
 -- the statements that begin with the keyword, in text order, after earlier ones
 abbrev pub named_after : {A : Type 0} → List ℕ → Class → ℕ → (Tree → Reading A) → List (Named A) → Forest → Reading (List (Named A))
 named_after bytes class most read earlier nothing = Ok earlier
 named_after bytes class most read earlier (grown head below rest) =
-    if begins_with bytes class head then next (named_of bytes most read (map (λ s. s.0) earlier) head below) (λ s. named_after bytes class most read (earlier ++ s ∷ []) rest)
+    if begins_with bytes class head then next (named_of bytes most read (map (λ s. s.0) earlier) head below)
+    (λ s. named_after bytes class most read (earlier ++ s ∷ []) rest)
     else named_after bytes class most read earlier rest

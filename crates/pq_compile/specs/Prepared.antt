@@ -109,7 +109,8 @@ pub record AreTreeSources (d : DocumentTree) (s : TreeSources) : Type 0 where
   pub classified : IsClassified d s.told
 
 -- the trees of all switches that are made from these; entries can stand for them
-pub record AreNetworkTrees (d : DocumentTree) (forward : List (Tree (List Written))) (policy : ℕ) (a : LettersValue) (m : Machine) (t : NetworkTrees) : Type 0 where
+pub record AreNetworkTrees (d : DocumentTree) (forward : List (Tree (List Written))) (policy : ℕ) (a : LettersValue) (m : Machine)
+    (t : NetworkTrees) : Type 0 where
   pub trees : AreTreesAt d.topology forward policy a m t.first t.second t.switches.items
   pub sound : All (IsSoundAt t.first t.second) t.switches.items
 

@@ -1,5 +1,6 @@
 -- The messages of a switch, appended block after block.
-use Rattle.std.proofs.Common.{◌≡◌, ℕ, zero, suc, ◌+◌, ◌-◌, ◌<◌, ◌≤◌, ◌==◌, true, false, if◌then◌else◌, List, [], ◌∷◌, ◌++◌, length, map, drop, get_or, refl, sym, ap, ◌∙◌, append_assoc, arith, eq-eqb, eqb-true, drop_of_length-le, subst, ◌^◌}
+use Rattle.std.proofs.Common.{◌≡◌, ℕ, zero, suc, ◌+◌, ◌-◌, ◌<◌, ◌≤◌, ◌==◌, true, false, if◌then◌else◌, List, [], ◌∷◌, ◌++◌, length, map}
+use Rattle.std.proofs.Common.{drop, get_or, refl, sym, ap, ◌∙◌, append_assoc, arith, eq-eqb, eqb-true, drop_of_length-le, subst, ◌^◌}
 use Rattle.std.proofs.lemmas.Bool.Decides.{nat_tests}
 use Rattle.std.proofs.lemmas.List.{get_or-map, length-append}
 use Rattle.pq_lists.proofs.Places.{from_place}
@@ -75,13 +76,19 @@ module _ (c : Changes) (m1 m2 m3 m4 m5 m6 m7 : List Message) (h : Appended c m1 
       let filled : length m6 + 1 ≡ suc (suc (suc (length c.removed) + c.gone) + length c.puts) + length c.added = omega (arith, long6) in
       let gone : length m1 + 1 ≡ suc (length c.removed) = omega (arith, long1) in
       h.filled
-      ∙ ap (λ l. l ++ Barrier (length m6 + 1) ∷ []) (h.added ∙ ap (λ l. l ++ map Flow (adds_from (length m5 + 1) c.added)) (h.grouped ∙ ap (λ l. l ++ Barrier (length m4 + 1) ∷ [])
+      ∙ ap (λ l. l ++ Barrier (length m6 + 1) ∷ []) (h.added
+      ∙ ap (λ l. l ++ map Flow (adds_from (length m5 + 1) c.added)) (h.grouped ∙ ap (λ l. l ++ Barrier (length m4 + 1) ∷ [])
       (h.put ∙ ap (λ l. l ++ map Group (group_mods_from (length m3 + 1) c.puts)) (h.parted ∙ ap (λ l. l ++ Barrier (length m2 + 1) ∷ [])
       (h.gone ∙ ap (λ l. l ++ map Group (group_deletes_from (length m1 + 1) (suc c.kept) c.gone)) h.removed)))))
-      ∙ (λ i. (((((map Flow (deletes_from 1 c.removed) ++ map Group (group_deletes_from (gone i) (suc c.kept) c.gone)) ++ Barrier (parted i) ∷ []) ++ map Group (group_mods_from (put i) c.puts)) ++ Barrier (grouped i) ∷ []) ++ map Flow (adds_from (added i) c.added)) ++ Barrier (filled i) ∷ [])
-      ∙ shape (map Flow (deletes_from 1 c.removed) ++ map Group (group_deletes_from (suc (length c.removed)) (suc c.kept) c.gone)) (Barrier (suc (length c.removed) + c.gone)) _ (Barrier (suc (suc (length c.removed) + c.gone) + length c.puts)) _ (Barrier (suc (suc (suc (length c.removed) + c.gone) + length c.puts) + length c.added))
+      ∙ (λ i. (((((map Flow (deletes_from 1 c.removed) ++ map Group (group_deletes_from (gone i) (suc c.kept) c.gone))
+      ++ Barrier (parted i) ∷ []) ++ map Group (group_mods_from (put i) c.puts)) ++ Barrier (grouped i) ∷ [])
+      ++ map Flow (adds_from (added i) c.added)) ++ Barrier (filled i) ∷ [])
+      ∙ shape (map Flow (deletes_from 1 c.removed) ++ map Group (group_deletes_from (suc (length c.removed)) (suc c.kept) c.gone))
+      (Barrier (suc (length c.removed) + c.gone)) _ (Barrier (suc (suc (length c.removed) + c.gone) + length c.puts)) _
+      (Barrier (suc (suc (suc (length c.removed) + c.gone) + length c.puts) + length c.added))
     where
-      shape : (x : List Message) (p : Message) (m : List Message) (g : Message) (a : List Message) (f : Message) → ((((x ++ p ∷ []) ++ m) ++ g ∷ []) ++ a) ++ f ∷ [] ≡ x ++ p ∷ (m ++ g ∷ (a ++ f ∷ []))
+      shape : (x : List Message) (p : Message) (m : List Message) (g : Message) (a : List Message) (f : Message)
+          → ((((x ++ p ∷ []) ++ m) ++ g ∷ []) ++ a) ++ f ∷ [] ≡ x ++ p ∷ (m ++ g ∷ (a ++ f ∷ []))
       shape x p m g a f =
           append_assoc (((x ++ p ∷ []) ++ m) ++ g ∷ []) a (f ∷ [])
           ∙ append_assoc ((x ++ p ∷ []) ++ m) (g ∷ []) (a ++ f ∷ [])
@@ -90,7 +97,8 @@ module _ (c : Changes) (m1 m2 m3 m4 m5 m6 m7 : List Message) (h : Appended c m1 
 
 -- The messages of a switch, from what each call appends to none.
 module _ (old new : List Message) (old_keys new_keys : List Entry) (kept groups : ℕ)
-    (old_keys_is : old_keys ≡ keys_of (entries_added old)) (new_keys_is : new_keys ≡ keys_of (entries_added new)) (kept_is : kept ≡ length (groups_added new)) (groups_is : groups ≡ length (groups_added old)) where
+    (old_keys_is : old_keys ≡ keys_of (entries_added old)) (new_keys_is : new_keys ≡ keys_of (entries_added new))
+    (kept_is : kept ≡ length (groups_added new)) (groups_is : groups ≡ length (groups_added old)) where
   pub appended : (m0 m1 m2 m3 m4 m5 m6 m7 : List Message) → m0 ≡ []
       → m1 ≡ m0 ++ map Flow (deletes_from (length m0 + 1) (others new_keys (entries_added old)))
       → m2 ≡ m1 ++ map Group (group_deletes_from (length m1 + 1) (suc kept) (groups - kept))
@@ -120,7 +128,8 @@ none_where_nothing_changes old new ms long three =
     let nothing : amount (changes old new) ≡ 0 = let is = eqb-true (length ms) 3 three in omega (arith, long, is) in
     sym (ap (λ b. if b then [] else change_messages (changes old new)) (eq-eqb (amount (changes old new)) 0 nothing))
 
-pub all_where_something_changes : (old new ms : List Message) → ms ≡ change_messages (changes old new) → length ms ≡ amount (changes old new) + 3 → (length ms == 3) ≡ false → ms ≡ switch_delta old new
+pub all_where_something_changes : (old new ms : List Message) → ms ≡ change_messages (changes old new)
+    → length ms ≡ amount (changes old new) + 3 → (length ms == 3) ≡ false → ms ≡ switch_delta old new
 unfolding switch_delta
 all_where_something_changes old new ms is long more =
     is ∙ sym (ap (λ b. if b then [] else change_messages (changes old new)) something)
@@ -134,8 +143,10 @@ with_switch-append : (datapath : ℕ) (ms : List Message) (rest : List (ℕ × L
 with_switch-append datapath [] rest = refl
 with_switch-append datapath (m ∷ ms) rest = refl
 
-pub delta_step : (switches : List Switch) (olds news : List (List Message)) (i : ℕ) (s : Switch) (o n : List Message) → i < length switches → i < length olds → i < length news
-    → s ≡ get_or switches i s → o ≡ get_or olds i o → n ≡ get_or news i n → (done after : List (ℕ × List Message)) → after ≡ done ++ with_switch s.datapath (switch_delta o n) []
+pub delta_step : (switches : List Switch) (olds news : List (List Message)) (i : ℕ) (s : Switch) (o n : List Message) → i < length switches
+    → i < length olds → i < length news
+    → s ≡ get_or switches i s → o ≡ get_or olds i o → n ≡ get_or news i n → (done after : List (ℕ × List Message))
+    → after ≡ done ++ with_switch s.datapath (switch_delta o n) []
     → after ++ deltas (drop (i + 1) switches) (drop (i + 1) olds) (drop (i + 1) news) ≡ done ++ deltas (drop i switches) (drop i olds) (drop i news)
 delta_step switches olds news i s o n a b c s_is o_is n_is done after is =
     ap (λ l. l ++ deltas (drop (i + 1) switches) (drop (i + 1) olds) (drop (i + 1) news)) is
@@ -151,7 +162,8 @@ pub read_mapped : {A B : Type 0} (f : A → B) (xs : List A) (i : ℕ) (x : A) �
 read_mapped f xs i x less is = ap f is ∙ sym (get_or-map f xs i x (f x) less)
 
 -- one switch more
-pub one_short_more : (datapath : ℕ) (ms : List Message) (done after : List (ℕ × List Message)) → after ≡ done ++ with_switch datapath ms [] → length ms < 2 ^ 32 → AreShort done → AreShort after
+pub one_short_more : (datapath : ℕ) (ms : List Message) (done after : List (ℕ × List Message)) → after ≡ done ++ with_switch datapath ms []
+    → length ms < 2 ^ 32 → AreShort done → AreShort after
 one_short_more datapath ms done after is short all = subst AreShort (sym is) (joined done (with_switch datapath ms []) (by ms short) all)
   where
     by : (ns : List Message) → length ns < 2 ^ 32 → AreShort (with_switch datapath ns [])

@@ -21,10 +21,13 @@ placed f e table priority matching =
     (subst (λ m. same_match e.matching m ≡ true) matching (match_itself e.matching))
 
 -- a DeleteStrict takes its entry out from among others
-pub taken-out : (xid : ℕ) (front : List Entry) (e : Entry) (back : List Entry) → HaveOwnPriorities (front ++ e ∷ back) → filter (λ d. not (is_placed (delete_of xid e) d)) (front ++ e ∷ back) ≡ front ++ back
+pub taken-out : (xid : ℕ) (front : List Entry) (e : Entry) (back : List Entry) → HaveOwnPriorities (front ++ e ∷ back)
+    → filter (λ d. not (is_placed (delete_of xid e) d)) (front ++ e ∷ back) ≡ front ++ back
 taken-out xid front e back own =
     filter-append (λ d. not (is_placed (delete_of xid e) d)) front (e ∷ back)
-    ∙ ap (λ b. filter (λ d. not (is_placed (delete_of xid e) d)) front ++ cond (not b) (e ∷ filter (λ d. not (is_placed (delete_of xid e) d)) back) (filter (λ d. not (is_placed (delete_of xid e) d)) back))
+    ∙ ap (λ b. filter (λ d. not (is_placed (delete_of xid e) d)) front
+    ++ cond (not b) (e ∷ filter (λ d. not (is_placed (delete_of xid e) d)) back)
+    (filter (λ d. not (is_placed (delete_of xid e) d)) back))
     (placed (delete_of xid e) e refl refl refl)
     ∙ sym (filter-append (λ d. not (is_placed (delete_of xid e) d)) front back)
     ∙ untouched (delete_of xid e) (front ++ back) (all-unplaced (delete_of xid e) (front ++ back) (own-around front e back own).0)
@@ -36,24 +39,36 @@ module _ (groups : Groups) where
   module _ (stays : Entry → Bool) where
     -- DeleteStricts of those entries that don't stay leave those that do
     pub deletes-leave : (xid : ℕ) (front es : List Entry) → HaveOwnPriorities (front ++ es) →
-        applies_all (record { entries = front ++ es; groups = groups }) (map Flow (deletes_from xid (filter (λ e. not (stays e)) es))) ≡ record { entries = front ++ filter stays es; groups = groups }
+        applies_all (record { entries = front ++ es; groups = groups }) (map Flow (deletes_from xid (filter (λ e. not (stays e)) es)))
+        ≡ record { entries = front ++ filter stays es; groups = groups }
     deletes-leave xid front [] own = refl
     deletes-leave xid front (e ∷ es) own =
-        by (stays e) (deletes-leave xid (front ++ e ∷ []) es (subst HaveOwnPriorities (sym (append_assoc front (e ∷ []) es)) own)) (deletes-leave (suc xid) front es (own-around front e es own).1)
+        by (stays e) (deletes-leave xid (front ++ e ∷ []) es (subst HaveOwnPriorities (sym (append_assoc front (e ∷ []) es)) own))
+        (deletes-leave (suc xid) front es (own-around front e es own).1)
       where
         gone : List Entry
         gone = filter (λ d. not (stays d)) es
 
         by : (b : Bool)
-            → applies_all (record { entries = (front ++ e ∷ []) ++ es; groups = groups }) (map Flow (deletes_from xid (filter (λ d. not (stays d)) es))) ≡ record { entries = (front ++ e ∷ []) ++ filter stays es; groups = groups }
-            → applies_all (record { entries = front ++ es; groups = groups }) (map Flow (deletes_from (suc xid) (filter (λ d. not (stays d)) es))) ≡ record { entries = front ++ filter stays es; groups = groups }
-            → applies_all (record { entries = front ++ e ∷ es; groups = groups }) (map Flow (deletes_from xid (cond (not b) (e ∷ filter (λ d. not (stays d)) es) (filter (λ d. not (stays d)) es))))
+            → applies_all (record { entries = (front ++ e ∷ []) ++ es; groups = groups })
+            (map Flow (deletes_from xid (filter (λ d. not (stays d)) es)))
+            ≡ record { entries = (front ++ e ∷ []) ++ filter stays es; groups = groups }
+            → applies_all (record { entries = front ++ es; groups = groups })
+            (map Flow (deletes_from (suc xid) (filter (λ d. not (stays d)) es))) ≡ record {
+              entries = front ++ filter stays es;
+              groups =
+                  groups;
+            }
+            → applies_all (record { entries = front ++ e ∷ es; groups = groups })
+            (map Flow (deletes_from xid (cond (not b) (e ∷ filter (λ d. not (stays d)) es) (filter (λ d. not (stays d)) es))))
             ≡ record { entries = front ++ cond b (e ∷ filter stays es) (filter stays es); groups = groups }
         by true kept away =
-            ap (λ l. applies_all (record { entries = l; groups = groups }) (map Flow (deletes_from xid (filter (λ d. not (stays d)) es)))) (sym (append_assoc front (e ∷ []) es))
+            ap (λ l. applies_all (record { entries = l; groups = groups }) (map Flow (deletes_from xid (filter (λ d. not (stays d)) es))))
+            (sym (append_assoc front (e ∷ []) es))
             ∙ kept ∙ (λ i. record { entries = append_assoc front (e ∷ []) (filter stays es) i; groups = groups })
         by false kept away =
-            ap (λ l. applies_all (record { entries = l; groups = groups }) (map Flow (deletes_from (suc xid) (filter (λ d. not (stays d)) es)))) (taken-out xid front e es own) ∙ away
+            ap (λ l. applies_all (record { entries = l; groups = groups })
+            (map Flow (deletes_from (suc xid) (filter (λ d. not (stays d)) es)))) (taken-out xid front e es own) ∙ away
 
 -- Blocks of flow mods.
 

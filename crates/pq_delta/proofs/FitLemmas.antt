@@ -1,5 +1,6 @@
 -- In the written order each message of a delta does what it says and nothing else.
-use Rattle.std.proofs.Common.{◌≡◌, ℕ, suc, ◌+◌, ◌<◌, ◌≤◌, Bool, true, false, not, cond, List, [], ◌∷◌, ◌++◌, ◌||◌, if◌then◌else◌, length, map, filter, refl, sym, ap, subst, ◌∙◌, append_assoc, arith}
+use Rattle.std.proofs.Common.{◌≡◌, ℕ, suc, ◌+◌, ◌<◌, ◌≤◌, Bool, true, false, not, cond, List, [], ◌∷◌, ◌++◌, ◌||◌, if◌then◌else◌, length}
+use Rattle.std.proofs.Common.{map, filter, refl, sym, ap, subst, ◌∙◌, append_assoc, arith}
 use Rattle.std.specs.List.{AllByRecursion, list_all, list_any}
 use Rattle.std.specs.FinMap.{contains_key}
 use Rattle.std.proofs.lemmas.List.Folds.{list_any-append}
@@ -18,7 +19,8 @@ use Rattle.pq_delta.specs.Equal.{same_buckets}
 use Rattle.pq_delta.specs.Turning.{AllFit}
 use Rattle.pq_delta.proofs.EntriesLemmas.{placed, taken-out}
 use Rattle.pq_delta.specs.Exact.{buckets_exact}
-use Rattle.pq_delta.proofs.GroupsLemmas.{NameBelow, Pairs, Under, added_step, all-not_hit, changed_step, deleted_step, free, groups_with, no_all, numbered_from, there, under-more, under-weaker}
+use Rattle.pq_delta.proofs.GroupsLemmas.{NameBelow, Pairs, Under, added_step, all-not_hit, changed_step, deleted_step, free, groups_with}
+use Rattle.pq_delta.proofs.GroupsLemmas.{no_all, numbered_from, there, under-more, under-weaker}
 use Rattle.pq_delta.proofs.OwnLemmas.{all-unplaced, own-around}
 
 pub fit-append : (t : Tables) (ms ns : List Message) → AllFit t ms → AllFit (applies_all t ms) ns → AllFit t (ms ++ ns)
@@ -38,23 +40,32 @@ any_placed xid front e back =
     ∙ or-true (list_any (is_placed (delete_of xid e)) front)
 
 module _ (groups : Groups) (stays : Entry → Bool) where
-  pub deletes-fit : (xid : ℕ) (front es : List Entry) → HaveOwnPriorities (front ++ es) → AllFit (record { entries = front ++ es; groups = groups }) (map Flow (deletes_from xid (filter (λ e. not (stays e)) es)))
+  pub deletes-fit : (xid : ℕ) (front es : List Entry) → HaveOwnPriorities (front ++ es)
+      → AllFit (record { entries = front ++ es; groups = groups }) (map Flow (deletes_from xid (filter (λ e. not (stays e)) es)))
   deletes-fit xid front [] own = tt
   deletes-fit xid front (e ∷ es) own =
-      by (stays e) (deletes-fit xid (front ++ e ∷ []) es (subst HaveOwnPriorities (sym (append_assoc front (e ∷ []) es)) own)) (deletes-fit (suc xid) front es (own-around front e es own).1)
+      by (stays e) (deletes-fit xid (front ++ e ∷ []) es (subst HaveOwnPriorities (sym (append_assoc front (e ∷ []) es)) own))
+      (deletes-fit (suc xid) front es (own-around front e es own).1)
     where
       by : (b : Bool) → AllFit (record { entries = (front ++ e ∷ []) ++ es; groups = groups }) (map Flow (deletes_from xid (filter (λ d. not (stays d)) es)))
           → AllFit (record { entries = front ++ es; groups = groups }) (map Flow (deletes_from (suc xid) (filter (λ d. not (stays d)) es)))
-          → AllFit (record { entries = front ++ e ∷ es; groups = groups }) (map Flow (deletes_from xid (cond (not b) (e ∷ filter (λ d. not (stays d)) es) (filter (λ d. not (stays d)) es))))
-      by true kept away = subst (λ l. AllFit (record { entries = l; groups = groups }) (map Flow (deletes_from xid (filter (λ d. not (stays d)) es)))) (append_assoc front (e ∷ []) es) kept
-      by false kept away =
-          (any_placed xid front e es, subst (λ l. AllFit (record { entries = l; groups = groups }) (map Flow (deletes_from (suc xid) (filter (λ d. not (stays d)) es)))) (sym (taken-out xid front e es own)) away)
+          → AllFit (record { entries = front ++ e ∷ es; groups = groups })
+          (map Flow (deletes_from xid (cond (not b) (e ∷ filter (λ d. not (stays d)) es) (filter (λ d. not (stays d)) es))))
+      by true kept away = subst
+          (λ l. AllFit (record { entries = l; groups = groups }) (map Flow (deletes_from xid (filter (λ d. not (stays d)) es))))
+          (append_assoc front (e ∷ []) es) kept
+      by false kept away = (
+        any_placed xid front e es,
+        subst (λ l. AllFit (record { entries = l; groups = groups })
+            (map Flow (deletes_from (suc xid) (filter (λ d. not (stays d)) es)))) (sym (taken-out xid front e es own)) away,
+      )
 
 own-front : (front back : List Entry) → HaveOwnPriorities (front ++ back) → HaveOwnPriorities front
 own-front [] back own = tt
 own-front (f ∷ front) back (apart, own) = (all-front _ front back apart, own-front front back own)
 
-pub adds-fit : (xid : ℕ) (es : List Entry) (front : List Entry) (groups : Groups) → AllByRecursion (λ e. list_all (contains_key groups) (groups_named e.actions) ≡ true) es → HaveOwnPriorities (front ++ es)
+pub adds-fit : (xid : ℕ) (es : List Entry) (front : List Entry) (groups : Groups)
+    → AllByRecursion (λ e. list_all (contains_key groups) (groups_named e.actions) ≡ true) es → HaveOwnPriorities (front ++ es)
     → AllFit (record { entries = front; groups = groups }) (map Flow (adds_from xid es))
 adds-fit xid [] front groups named own = tt
 adds-fit xid (e ∷ es) front groups (here, rest) own =
@@ -66,14 +77,21 @@ adds-fit xid (e ∷ es) front groups (here, rest) own =
 
 -- Groups.
 
-pub group_deletes-fit : (xid number : ℕ) (es : List Entry) (done : Pairs) (gone : List Buckets) → Under number done → number + length gone ≤ all_groups → NameBelow number es →
+pub group_deletes-fit : (xid number : ℕ) (es : List Entry) (done : Pairs) (gone : List Buckets) → Under number done
+    → number + length gone ≤ all_groups → NameBelow number es →
     AllFit (record { entries = es; groups = groups_with (done ++ numbered_from number gone) }) (map Group (group_deletes_from xid number (length gone)))
 group_deletes-fit xid number es done [] under few named = tt
 group_deletes-fit xid number es done (b ∷ gone) under few named =
     let less : number < all_groups = omega (arith, few) in (
-      (there done number b (numbered_from (suc number) gone) under, all-not_hit (groups_with (done ++ (number, b) ∷ numbered_from (suc number) gone)) number es (no_all number less) (named number (omega arith))),
-      subst (λ t. AllFit t (map Group (group_deletes_from (suc xid) (suc number) (length gone)))) (sym (deleted_step xid number es done b gone under less named))
-          (group_deletes-fit (suc xid) (suc number) es done gone (under-weaker number done under) (omega (arith, few)) (λ k more. named k (omega (arith, more)))),
+      (
+        there done number b (numbered_from (suc number) gone) under,
+        all-not_hit (groups_with (done ++ (number, b) ∷ numbered_from (suc number) gone)) number es (no_all number less)
+            (named number (omega arith)),
+      ),
+      subst (λ t. AllFit t (map Group (group_deletes_from (suc xid) (suc number) (length gone))))
+          (sym (deleted_step xid number es done b gone under less named))
+          (group_deletes-fit (suc xid) (suc number) es done gone (under-weaker number done under) (omega (arith, few))
+          (λ k more. named k (omega (arith, more)))),
     )
 
 pub puts-fit : (xid number : ℕ) (es : List Entry) (done : Pairs) (olds news : List Buckets) → Under number done → length olds ≤ length news →
@@ -89,13 +107,25 @@ puts-fit xid number es done (o ∷ os) (b ∷ bs) under few =
     (puts-fit (suc xid) (suc number) es (done ++ (number, b) ∷ []) os bs (under-more number done b under) (omega (arith, few)))
   where
     by : (c : Bool) → same_buckets o b ≡ c
-        → AllFit (record { entries = es; groups = groups_with ((done ++ (number, b) ∷ []) ++ numbered_from (suc number) os) }) (map Group (group_mods_from xid (puts_from (suc number) os bs)))
-        → AllFit (record { entries = es; groups = groups_with ((done ++ (number, b) ∷ []) ++ numbered_from (suc number) os) }) (map Group (group_mods_from (suc xid) (puts_from (suc number) os bs)))
+        → AllFit (record {
+          entries = es;
+          groups = groups_with ((done ++ (number, b) ∷ []) ++ numbered_from (suc number) os);
+        }) (map Group (group_mods_from xid (puts_from (suc number) os bs)))
+        → AllFit (record {
+          entries = es;
+          groups = groups_with ((done ++ (number, b) ∷ []) ++ numbered_from (suc number) os);
+        }) (map Group (group_mods_from (suc xid) (puts_from (suc number) os bs)))
         → AllFit (record { entries = es; groups = groups_with (done ++ (number, o) ∷ numbered_from (suc number) os) })
-        (map Group (group_mods_from xid (if c then puts_from (suc number) os bs else record { command = Modify; number = number; buckets = b } ∷ puts_from (suc number) os bs)))
+        (map Group (group_mods_from xid (if c then puts_from (suc number) os bs else record {
+          command = Modify;
+          number = number;
+          buckets =
+              b;
+        } ∷ puts_from (suc number) os bs)))
     by true is same other =
         subst (λ l. AllFit (record { entries = es; groups = groups_with l }) (map Group (group_mods_from xid (puts_from (suc number) os bs))))
-        (append_assoc done ((number, b) ∷ []) (numbered_from (suc number) os) ∙ ap (λ c. done ++ (number, c) ∷ numbered_from (suc number) os) (sym (buckets_exact o b is))) same
+        (append_assoc done ((number, b) ∷ []) (numbered_from (suc number) os)
+        ∙ ap (λ c. done ++ (number, c) ∷ numbered_from (suc number) os) (sym (buckets_exact o b is))) same
     by false is same other = (
       there done number o (numbered_from (suc number) os) under,
       subst (λ t. AllFit t (map Group (group_mods_from (suc xid) (puts_from (suc number) os bs)))) (sym (changed_step xid number es done o b os under)) other,

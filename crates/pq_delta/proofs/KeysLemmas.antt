@@ -16,18 +16,22 @@ or_assoc : (a b c : Bool) → (a || b) || c ≡ a || (b || c)
 or_assoc true b c = refl
 or_assoc false b c = refl
 
-any_inserted : (q : Entry) (keys : List Entry) (k : Entry) → list_any (same_entry q) (insert_key same_entry keys k) ≡ list_any (same_entry q) keys || same_entry q k
+any_inserted : (q : Entry) (keys : List Entry) (k : Entry)
+    → list_any (same_entry q) (insert_key same_entry keys k) ≡ list_any (same_entry q) keys || same_entry q k
 any_inserted q keys k = by (list_any (same_entry k) keys) refl
   where
-    by : (b : Bool) → list_any (same_entry k) keys ≡ b → list_any (same_entry q) (if b then keys else keys ++ k ∷ []) ≡ list_any (same_entry q) keys || same_entry q k
+    by : (b : Bool) → list_any (same_entry k) keys ≡ b
+        → list_any (same_entry q) (if b then keys else keys ++ k ∷ []) ≡ list_any (same_entry q) keys || same_entry q k
     by false is = list_any-append (same_entry q) keys (k ∷ []) ∙ ap (λ b. list_any (same_entry q) keys || b) (or-false (same_entry q k))
     by true is = there (same_entry q k) refl
       where
         there : (c : Bool) → same_entry q k ≡ c → list_any (same_entry q) keys ≡ list_any (same_entry q) keys || c
-        there true same = let one : q ≡ k = entry_exact q k same in let has : list_any (same_entry q) keys ≡ true = subst (λ p. list_any (same_entry p) keys ≡ true) (sym one) is in has ∙ sym (or-true (list_any (same_entry q) keys))
+        there true same = let one : q ≡ k = entry_exact q k same in let has : list_any (same_entry q) keys ≡ true =
+            subst (λ p. list_any (same_entry p) keys ≡ true) (sym one) is in has ∙ sym (or-true (list_any (same_entry q) keys))
         there false same = sym (or-false (list_any (same_entry q) keys))
 
-any_all_inserted : (q : Entry) (keys ks : List Entry) → list_any (same_entry q) (insert_all same_entry keys ks) ≡ list_any (same_entry q) keys || list_any (same_entry q) ks
+any_all_inserted : (q : Entry) (keys ks : List Entry)
+    → list_any (same_entry q) (insert_all same_entry keys ks) ≡ list_any (same_entry q) keys || list_any (same_entry q) ks
 any_all_inserted q keys [] = sym (or-false (list_any (same_entry q) keys))
 any_all_inserted q keys (k ∷ ks) =
     any_all_inserted q (insert_key same_entry keys k) ks ∙ ap (λ b. b || list_any (same_entry q) ks) (any_inserted q keys k)

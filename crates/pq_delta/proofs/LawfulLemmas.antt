@@ -26,7 +26,16 @@ renumbered x y e small h = record {
 }
 
 add_is : (f : FlowValue) → f.command ≡ AddFlow → f ≡ add_of f.xid (entry_of f)
-add_is f is = λ i. record { xid = f.xid; cookie = f.cookie; table = f.table; command = is i; priority = f.priority; matching = f.matching; actions = f.actions; goto = f.goto }
+add_is f is = λ i. record {
+  xid = f.xid;
+  cookie = f.cookie;
+  table = f.table;
+  command = is i;
+  priority = f.priority;
+  matching = f.matching;
+  actions = f.actions;
+  goto = f.goto;
+}
 
 pub lawful_entry : (f : FlowValue) → f.command ≡ AddFlow → IsLawfulMessage (Flow f) → IsLawfulEntry (entry_of f)
 lawful_entry f is h = renumbered f.xid 0 (entry_of f) (omega arith) (subst (λ g. IsLawfulMessage (Flow g)) (add_is f is) h)
@@ -35,7 +44,8 @@ lawful_entry f is h = renumbered f.xid 0 (entry_of f) (omega arith) (subst (λ g
 pub lawful_entries : (ms : List Message) → All IsLawfulMessage ms → AllByRecursion IsLawfulEntry (entries_added ms)
 lawful_entries ms all = each ms (recursion_from_All IsLawfulMessage ms all)
   where
-    added : (c : FlowCommand) (f : FlowValue) (rest : List Entry) → f.command ≡ c → IsLawfulMessage (Flow f) → AllByRecursion IsLawfulEntry rest → AllByRecursion IsLawfulEntry (cons_option (entry_by c f) rest)
+    added : (c : FlowCommand) (f : FlowValue) (rest : List Entry) → f.command ≡ c → IsLawfulMessage (Flow f)
+        → AllByRecursion IsLawfulEntry rest → AllByRecursion IsLawfulEntry (cons_option (entry_by c f) rest)
     added AddFlow f rest is h all = (lawful_entry f is h, all)
     added DeleteAll f rest is h all = all
     added DeleteStrict f rest is h all = all

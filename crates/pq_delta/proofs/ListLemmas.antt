@@ -58,7 +58,8 @@ module _ {A : Type 0} where
         by true here rest = absurd (let no : true || list_any (E f) es ≡ false = sym (ap (λ b. b || list_any (E f) es) here) ∙ none in cc)
         by false here rest = (turned f e here, rest (sym (ap (λ b. b || list_any (E f) es) here) ∙ none))
 
-    distinct-rest : (f : A) (front back : List A) → IsDistinct E (front ++ f ∷ back) → IsDistinct E (front ++ back) × AllByRecursion (λ e. E e f ≡ false) (front ++ back)
+    distinct-rest : (f : A) (front back : List A) → IsDistinct E (front ++ f ∷ back)
+        → IsDistinct E (front ++ back) × AllByRecursion (λ e. E e f ≡ false) (front ++ back)
     unfolding IsDistinct
     distinct-rest f [] back (apart, own) = (own, all-turned back apart)
       where
@@ -74,7 +75,8 @@ module _ {A : Type 0} where
     not-first f fs [] all = tt
     not-first f fs (e ∷ es) (here, rest) = (ap (λ b. b || list_any (E e) fs) here, not-first f fs es rest)
 
-    rest-alike : (f : A) (front back : List A) (fs : List A) → AllByRecursion (λ g. E f g ≡ false) fs → AllByRecursion (λ g. list_any (E g) (front ++ f ∷ back) ≡ list_any (E g) (front ++ back)) fs
+    rest-alike : (f : A) (front back : List A) (fs : List A) → AllByRecursion (λ g. E f g ≡ false) fs
+        → AllByRecursion (λ g. list_any (E g) (front ++ f ∷ back) ≡ list_any (E g) (front ++ back)) fs
     rest-alike f front back [] all = tt
     rest-alike f front back (g ∷ fs) (here, rest) = (among-rest g f front back (turned f g here), rest-alike f front back fs rest)
 
@@ -85,18 +87,25 @@ module _ {A : Type 0} where
     common (f ∷ fs) es (apart, own) other = by (list_any (E f) es) refl (λ ds differ. common fs ds own differ)
       where
         IsCommon : Bool → List A → Type 0
-        IsCommon b ds = IsReordering (cond b (f ∷ filter (λ g. list_any (E g) ds) fs) (filter (λ g. list_any (E g) ds) fs)) (filter (λ e. E e f || list_any (E e) fs) ds)
+        IsCommon b ds = IsReordering (cond b (f ∷ filter (λ g. list_any (E g) ds) fs) (filter (λ g. list_any (E g) ds) fs))
+            (filter (λ e. E e f || list_any (E e) fs) ds)
 
-        there : (front back : List A) → IsDistinct E (front ++ f ∷ back) → ((ds : List A) → IsDistinct E ds → IsReordering (filter (λ g. list_any (E g) ds) fs) (filter (λ e. list_any (E e) fs) ds))
-            → IsReordering (filter (λ g. list_any (E g) (front ++ f ∷ back)) fs) (filter (λ e. E e f || list_any (E e) fs) front ++ filter (λ e. E e f || list_any (E e) fs) back)
+        there : (front back : List A) → IsDistinct E (front ++ f ∷ back)
+            → ((ds : List A) → IsDistinct E ds → IsReordering (filter (λ g. list_any (E g) ds) fs) (filter (λ e. list_any (E e) fs) ds))
+            → IsReordering (filter (λ g. list_any (E g) (front ++ f ∷ back)) fs) (filter (λ e. E e f || list_any (E e) fs) front
+            ++ filter (λ e. E e f || list_any (E e) fs) back)
         there front back differ rest =
             let d = distinct-rest f front back differ in
             subst₂ (λ l m. IsReordering l m)
             (sym (filter_same (λ g. list_any (E g) (front ++ f ∷ back)) (λ g. list_any (E g) (front ++ back)) fs (rest-alike f front back fs apart)))
-            (sym (sym (filter-append (λ e. E e f || list_any (E e) fs) front back) ∙ filter_same (λ e. E e f || list_any (E e) fs) (λ e. list_any (E e) fs) (front ++ back) (not-first f fs (front ++ back) d.1)))
+            (sym (sym (filter-append (λ e. E e f || list_any (E e) fs) front back)
+            ∙ filter_same (λ e. E e f || list_any (E e) fs) (λ e. list_any (E e) fs) (front ++ back)
+            (not-first f fs (front ++ back) d.1)))
             (rest (front ++ back) d.0)
 
-        by : (b : Bool) → list_any (E f) es ≡ b → ((ds : List A) → IsDistinct E ds → IsReordering (filter (λ g. list_any (E g) ds) fs) (filter (λ e. list_any (E e) fs) ds)) → IsCommon b es
+        by : (b : Bool) → list_any (E f) es ≡ b
+            → ((ds : List A) → IsDistinct E ds → IsReordering (filter (λ g. list_any (E g) ds) fs) (filter (λ e. list_any (E e) fs) ds))
+            → IsCommon b es
         by true is rest =
             let s = standing f es is in
             let differ : IsDistinct E (s.front ++ f ∷ s.back) = subst (IsDistinct E) s.is other in
@@ -104,7 +113,8 @@ module _ {A : Type 0} where
               filter (λ e. E e f || list_any (E e) fs) s.front,
               filter (λ e. E e f || list_any (E e) fs) s.back,
               filter-append (λ e. E e f || list_any (E e) fs) s.front (f ∷ s.back)
-                  ∙ ap (λ b. filter (λ e. E e f || list_any (E e) fs) s.front ++ cond (b || list_any (E f) fs) (f ∷ filter (λ e. E e f || list_any (E e) fs) s.back) (filter (λ e. E e f || list_any (E e) fs) s.back)) (itself f),
+                  ∙ ap (λ b. filter (λ e. E e f || list_any (E e) fs) s.front ++ cond (b || list_any (E f) fs)
+                  (f ∷ filter (λ e. E e f || list_any (E e) fs) s.back) (filter (λ e. E e f || list_any (E e) fs) s.back)) (itself f),
               there s.front s.back differ rest,
             )
         by false is rest =

@@ -1,5 +1,6 @@
 -- The messages of a delta are lawful.
-use Rattle.std.proofs.Common.{◌≡◌, ◌≢◌, ℕ, zero, suc, ◌+◌, ◌^◌, ◌<◌, ◌≤◌, ◌==◌, Bool, true, false, if◌then◌else◌, List, [], ◌∷◌, ◌++◌, All, length, map, refl, sym, ap, subst, ◌∙◌, arith, inl}
+use Rattle.std.proofs.Common.{◌≡◌, ◌≢◌, ℕ, zero, suc, ◌+◌, ◌^◌, ◌<◌, ◌≤◌, ◌==◌, Bool, true, false, if◌then◌else◌, List, [], ◌∷◌, ◌++◌, All}
+use Rattle.std.proofs.Common.{length, map, refl, sym, ap, subst, ◌∙◌, arith, inl}
 use Rattle.std.specs.List.{AllByRecursion, cons_option}
 use Rattle.std.proofs.lemmas.List.{length-append}
 use Rattle.std.proofs.lemmas.List.Elements.{All-from_recursion, recursion_from_All}
@@ -15,7 +16,8 @@ use Rattle.pq_model.specs.Spelling.{apply_bytes, flow_body, goto_bytes, group_bo
 use Rattle.pq_model.specs.SwitchMachine.{Entry}
 use Rattle.pq_model.specs.Topology.{Switch}
 use Rattle.pq_delta.specs.Added.{Buckets, entries_added, group_by, groups_added}
-use Rattle.pq_delta.specs.Changes.{Changes, Put, adds_from, amount, change_messages, changes, delete_of, deletes_from, group_delete_of, group_deletes_from, group_mod_of, group_mods_from, puts_from}
+use Rattle.pq_delta.specs.Changes.{Changes, Put, adds_from, amount, change_messages, changes, delete_of, deletes_from, group_delete_of}
+use Rattle.pq_delta.specs.Changes.{group_deletes_from, group_mod_of, group_mods_from, puts_from}
 use Rattle.pq_delta.specs.Delta.{AreShort, delta, deltas, switch_delta, with_switch}
 use Rattle.pq_delta.specs.Equal.{same_buckets}
 use Rattle.pq_delta.specs.Turning.{HasFewGroups}
@@ -34,7 +36,13 @@ lawful_delete x e small h =
     let nothing = length-append (match_bytes e.matching ++ []) [] in
     let short = h.short in
     record {
-      content = record { xid = small; cookie = omega arith; priority = h.content.priority; matching = h.content.matching; command = (refl, h.content.command.0, (refl, refl)) };
+      content = record {
+        xid = small;
+        cookie = omega arith;
+        priority = h.content.priority;
+        matching = h.content.matching;
+        command = (refl, h.content.command.0, (refl, refl));
+      };
       short = omega (arith, long, longer, none, nothing, short);
     }
 
@@ -42,7 +50,8 @@ lawful_delete x e small h =
 abbrev pub IsLawfulPut : Buckets → Type 0
 IsLawfulPut b = IsLawfulMessage (Group (group_mod_of 0 (record { command = AddGroup; number = 1; buckets = b })))
 
-lawful_put : (x : ℕ) (p : Put) → x < 2 ^ 32 → p.command ≢ Delete → 1 ≤ p.number → p.number ≤ 0xffffff00 → IsLawfulPut p.buckets → IsLawfulMessage (Group (group_mod_of x p))
+lawful_put : (x : ℕ) (p : Put) → x < 2 ^ 32 → p.command ≢ Delete → 1 ≤ p.number → p.number ≤ 0xffffff00 → IsLawfulPut p.buckets
+    → IsLawfulMessage (Group (group_mod_of x p))
 unfolding message_bytes with_header group_body
 lawful_put x p small apart low high h = record { content = record { xid = small; command = by p.command apart }; short = h.short }
   where
@@ -61,7 +70,8 @@ lawful_barrier x small = record { content = small; short = omega arith }
 
 -- Blocks of them.
 
-lawful_deletes : (x : ℕ) (es : List Entry) → x + length es ≤ 2 ^ 32 → AllByRecursion IsLawfulEntry es → AllByRecursion IsLawfulMessage (map Flow (deletes_from x es))
+lawful_deletes : (x : ℕ) (es : List Entry) → x + length es ≤ 2 ^ 32 → AllByRecursion IsLawfulEntry es
+    → AllByRecursion IsLawfulMessage (map Flow (deletes_from x es))
 lawful_deletes x [] few all = tt
 lawful_deletes x (e ∷ es) few (here, rest) = (lawful_delete x e (omega (arith, few)) here, lawful_deletes (suc x) es (omega (arith, few)) rest)
 
@@ -69,12 +79,16 @@ lawful_adds : (x : ℕ) (es : List Entry) → x + length es ≤ 2 ^ 32 → AllBy
 lawful_adds x [] few all = tt
 lawful_adds x (e ∷ es) few (here, rest) = (renumbered 0 x e (omega (arith, few)) here, lawful_adds (suc x) es (omega (arith, few)) rest)
 
-lawful_group_deletes : (x number n : ℕ) → x + n ≤ 2 ^ 32 → 1 ≤ number → number + n ≤ 0xffffff01 → AllByRecursion IsLawfulMessage (map Group (group_deletes_from x number n))
+lawful_group_deletes : (x number n : ℕ) → x + n ≤ 2 ^ 32 → 1 ≤ number → number + n ≤ 0xffffff01
+    → AllByRecursion IsLawfulMessage (map Group (group_deletes_from x number n))
 lawful_group_deletes x number zero few low high = tt
-lawful_group_deletes x number (suc n) few low high =
-    (lawful_group_delete x number (omega (arith, few)) low (omega (arith, high)), lawful_group_deletes (suc x) (suc number) n (omega (arith, few)) (omega arith) (omega (arith, high)))
+lawful_group_deletes x number (suc n) few low high = (
+  lawful_group_delete x number (omega (arith, few)) low (omega (arith, high)),
+  lawful_group_deletes (suc x) (suc number) n (omega (arith, few)) (omega arith) (omega (arith, high)),
+)
 
-lawful_puts : (x number : ℕ) (olds news : List Buckets) → x + length (puts_from number olds news) ≤ 2 ^ 32 → 1 ≤ number → number + length news ≤ 0xffffff01 → AllByRecursion IsLawfulPut news
+lawful_puts : (x number : ℕ) (olds news : List Buckets) → x + length (puts_from number olds news) ≤ 2 ^ 32 → 1 ≤ number
+    → number + length news ≤ 0xffffff01 → AllByRecursion IsLawfulPut news
     → AllByRecursion IsLawfulMessage (map Group (group_mods_from x (puts_from number olds news)))
 lawful_puts x number olds [] few low high all = tt
 lawful_puts x number [] (b ∷ bs) few low high (here, rest) = (
@@ -84,11 +98,23 @@ lawful_puts x number [] (b ∷ bs) few low high (here, rest) = (
 lawful_puts x number (o ∷ os) (b ∷ bs) few low high (here, rest) =
     by (same_buckets o b) (λ y less. lawful_puts y (suc number) os bs less (omega arith) (omega (arith, high)) rest) few
   where
-    by : (c : Bool) → ((y : ℕ) → y + length (puts_from (suc number) os bs) ≤ 2 ^ 32 → AllByRecursion IsLawfulMessage (map Group (group_mods_from y (puts_from (suc number) os bs))))
-        → x + length (if c then puts_from (suc number) os bs else record { command = Modify; number = number; buckets = b } ∷ puts_from (suc number) os bs) ≤ 2 ^ 32
-        → AllByRecursion IsLawfulMessage (map Group (group_mods_from x (if c then puts_from (suc number) os bs else record { command = Modify; number = number; buckets = b } ∷ puts_from (suc number) os bs)))
+    by : (c : Bool) → ((y : ℕ) → y + length (puts_from (suc number) os bs) ≤ 2 ^ 32
+        → AllByRecursion IsLawfulMessage (map Group (group_mods_from y (puts_from (suc number) os bs))))
+        → x + length (if c then puts_from (suc number) os bs else record { command = Modify; number = number; buckets = b } ∷ puts_from
+        (suc number) os bs) ≤ 2 ^ 32
+        → AllByRecursion IsLawfulMessage
+        (map Group (group_mods_from x (if c then puts_from (suc number) os bs else record {
+          command = Modify;
+          number = number;
+          buckets =
+              b;
+        } ∷ puts_from (suc number) os bs)))
     by true more less = more x less
-    by false more less = (lawful_put x (record { command = Modify; number = number; buckets = b }) (omega (arith, less)) (λ is. cc) low (omega (arith, high)) here, more (suc x) (omega (arith, less)))
+    by false more less = (
+      lawful_put x (record { command = Modify; number = number; buckets = b }) (omega (arith, less)) (λ is. cc) low
+          (omega (arith, high)) here,
+      more (suc x) (omega (arith, less)),
+    )
 
 -- the groups that lawful messages add
 lawful_groups : (ms : List Message) → All IsLawfulMessage ms → AllByRecursion IsLawfulPut (groups_added ms)
@@ -96,9 +122,13 @@ unfolding message_bytes with_header group_body
 lawful_groups ms all = each ms (recursion_from_All IsLawfulMessage ms all)
   where
     one : (g : GroupValue) → g.command ≡ AddGroup → IsLawfulMessage (Group g) → IsLawfulPut g.buckets
-    one g is h = record { content = record { xid = omega arith; command = ((omega arith, omega arith), (subst (λ c. IsLawfulGrouping c g) is h.content.command).1) }; short = h.short }
+    one g is h = record {
+      content = record { xid = omega arith; command = ((omega arith, omega arith), (subst (λ c. IsLawfulGrouping c g) is h.content.command).1) };
+      short = h.short;
+    }
 
-    added : (c : GroupCommand) (g : GroupValue) (rest : List Buckets) → g.command ≡ c → IsLawfulMessage (Group g) → AllByRecursion IsLawfulPut rest → AllByRecursion IsLawfulPut (cons_option (group_by c g) rest)
+    added : (c : GroupCommand) (g : GroupValue) (rest : List Buckets) → g.command ≡ c → IsLawfulMessage (Group g)
+        → AllByRecursion IsLawfulPut rest → AllByRecursion IsLawfulPut (cons_option (group_by c g) rest)
     added AddGroup g rest is h all = (one g is h, all)
     added Modify g rest is h all = all
     added Delete g rest is h all = all
@@ -138,7 +168,8 @@ total c = sym (ap length (assembled c m1 m2 m3 m4 m5 m6 m7 h)) ∙ assembled_lon
     h : Appended c m1 m2 m3 m4 m5 m6 m7
     h = record { removed = refl; gone = refl; parted = refl; put = refl; grouped = refl; added = refl; filled = refl }
 
-module _ (old new : List Message) (lawful_old : All IsLawfulMessage old) (lawful_new : All IsLawfulMessage new) (few_old : HasFewGroups old) (few_new : HasFewGroups new) where
+module _ (old new : List Message) (lawful_old : All IsLawfulMessage old) (lawful_new : All IsLawfulMessage new) (few_old : HasFewGroups old)
+    (few_new : HasFewGroups new) where
   abbrev c : Changes
   c = changes old new
 
@@ -151,10 +182,12 @@ module _ (old new : List Message) (lawful_old : All IsLawfulMessage old) (lawful
       (lawful_group_deletes (suc (length c.removed)) (suc c.kept) c.gone (omega (arith, short, long)) (omega arith) (omega (arith, few_old, few_new)))) (
         lawful_barrier (suc (length c.removed) + c.gone) (omega (arith, short, long)),
         all_append IsLawfulMessage (map Group (group_mods_from (suc (suc (length c.removed) + c.gone)) c.puts)) _
-            (lawful_puts (suc (suc (length c.removed) + c.gone)) 1 (groups_added old) (groups_added new) (omega (arith, short, long)) (omega arith) (omega (arith, few_new)) (lawful_groups new lawful_new)) (
+            (lawful_puts (suc (suc (length c.removed) + c.gone)) 1 (groups_added old) (groups_added new) (omega (arith, short, long))
+            (omega arith) (omega (arith, few_new)) (lawful_groups new lawful_new)) (
               lawful_barrier (suc (suc (length c.removed) + c.gone) + length c.puts) (omega (arith, short, long)),
               all_append IsLawfulMessage (map Flow (adds_from (suc (suc (suc (length c.removed) + c.gone) + length c.puts)) c.added)) _
-                  (lawful_adds (suc (suc (suc (length c.removed) + c.gone) + length c.puts)) c.added (omega (arith, short, long)) (all_filter IsLawfulEntry _ (entries_added new) (lawful_entries new lawful_new)))
+                  (lawful_adds (suc (suc (suc (length c.removed) + c.gone) + length c.puts)) c.added (omega (arith, short, long))
+                  (all_filter IsLawfulEntry _ (entries_added new) (lawful_entries new lawful_new)))
                   (lawful_barrier (suc (suc (suc (length c.removed) + c.gone) + length c.puts) + length c.added) (omega (arith, short, long)), tt),
             ),
       )
@@ -163,27 +196,32 @@ module _ (old new : List Message) (lawful_old : All IsLawfulMessage old) (lawful
   unfolding switch_delta
   lawful_delta short = (short, All-from_recursion IsLawfulMessage _ (by (amount (changes old new) == 0) short))
     where
-      by : (b : Bool) → length (if b then [] else change_messages (changes old new)) < 2 ^ 32 → AllByRecursion IsLawfulMessage (if b then [] else change_messages (changes old new))
+      by : (b : Bool) → length (if b then [] else change_messages (changes old new)) < 2 ^ 32
+          → AllByRecursion IsLawfulMessage (if b then [] else change_messages (changes old new))
       by true less = tt
       by false less = lawful_messages less
 
 -- The messages of all switches.
 
 lawful_switch : (datapath : ℕ) (ms : List Message) (rest : List (ℕ × List Message)) → (length ms < 2 ^ 32 → IsLawfulList ms)
-    → (AreShort rest → AllByRecursion (λ p. IsLawfulList p.1) rest) → AreShort (with_switch datapath ms rest) → AllByRecursion (λ p. IsLawfulList p.1) (with_switch datapath ms rest)
+    → (AreShort rest → AllByRecursion (λ p. IsLawfulList p.1) rest) → AreShort (with_switch datapath ms rest)
+    → AllByRecursion (λ p. IsLawfulList p.1) (with_switch datapath ms rest)
 lawful_switch datapath [] rest one more short = more short
 lawful_switch datapath (m ∷ ms) rest one more (here, short) = (one here, more short)
 
-lawful_switches : (ss : List Switch) (olds news : List (List Message)) → AllByRecursion IsLawfulList olds → AllByRecursion IsLawfulList news → AllByRecursion HasFewGroups olds → AllByRecursion HasFewGroups news
+lawful_switches : (ss : List Switch) (olds news : List (List Message)) → AllByRecursion IsLawfulList olds → AllByRecursion IsLawfulList news
+    → AllByRecursion HasFewGroups olds → AllByRecursion HasFewGroups news
     → AreShort (deltas ss olds news) → AllByRecursion (λ p. IsLawfulList p.1) (deltas ss olds news)
 lawful_switches [] olds news lawful_old lawful_new few_old few_new short = tt
 lawful_switches (s ∷ ss) [] news lawful_old lawful_new few_old few_new short = tt
 lawful_switches (s ∷ ss) (o ∷ olds) [] lawful_old lawful_new few_old few_new short = tt
 lawful_switches (s ∷ ss) (o ∷ olds) (n ∷ news) (old, lawful_old) (new, lawful_new) (fit_old, few_old) (fit_new, few_new) short =
-    lawful_switch s.datapath (switch_delta o n) (deltas ss olds news) (lawful_delta o n old.1 new.1 fit_old fit_new) (lawful_switches ss olds news lawful_old lawful_new few_old few_new) short
+    lawful_switch s.datapath (switch_delta o n) (deltas ss olds news) (lawful_delta o n old.1 new.1 fit_old fit_new)
+    (lawful_switches ss olds news lawful_old lawful_new few_old few_new) short
 
 pub lawful_install_delta : (old new : Install) → IsLawfulInstall old → IsLawfulInstall new → All HasFewGroups old.messages → All HasFewGroups new.messages
     → AreShort (delta old new) → AllByRecursion (λ p. IsLawfulList p.1) (delta old new)
 lawful_install_delta old new lawful_old lawful_new few_old few_new short =
-    lawful_switches new.topology.switches old.messages new.messages (recursion_from_All IsLawfulList old.messages lawful_old.messages) (recursion_from_All IsLawfulList new.messages lawful_new.messages)
+    lawful_switches new.topology.switches old.messages new.messages (recursion_from_All IsLawfulList old.messages lawful_old.messages)
+    (recursion_from_All IsLawfulList new.messages lawful_new.messages)
     (recursion_from_All HasFewGroups old.messages few_old) (recursion_from_All HasFewGroups new.messages few_new) short

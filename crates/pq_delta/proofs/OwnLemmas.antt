@@ -17,13 +17,15 @@ all-apart-sym d [] all = tt
 all-apart-sym d (e ∷ es) (here, rest) = (apart-sym d e here, all-apart-sym d es rest)
 
 -- the entry is apart from those around it
-pub own-around : (front : List Entry) (e : Entry) (back : List Entry) → HaveOwnPriorities (front ++ e ∷ back) → AllByRecursion (AreApart e) (front ++ back) × HaveOwnPriorities (front ++ back)
+pub own-around : (front : List Entry) (e : Entry) (back : List Entry) → HaveOwnPriorities (front ++ e ∷ back)
+    → AllByRecursion (AreApart e) (front ++ back) × HaveOwnPriorities (front ++ back)
 own-around [] e back own = own
 own-around (f ∷ front) e back (apart, own) =
     let rest = own-around front e back own in
     ((apart-sym f e (all-at (AreApart f) e front back apart), rest.0), (all-rest (AreApart f) e front back apart, rest.1))
 
-own-put : (front : List Entry) (e : Entry) (back : List Entry) → AllByRecursion (AreApart e) (front ++ back) → HaveOwnPriorities (front ++ back) → HaveOwnPriorities (front ++ e ∷ back)
+own-put : (front : List Entry) (e : Entry) (back : List Entry) → AllByRecursion (AreApart e) (front ++ back)
+    → HaveOwnPriorities (front ++ back) → HaveOwnPriorities (front ++ e ∷ back)
 own-put [] e back apart own = (apart, own)
 own-put (f ∷ front) e back (here, there) (apart, own) = (all-put (AreApart f) e front back (apart-sym e f here) apart, own-put front e back there own)
 

@@ -1,5 +1,6 @@
 -- A delta turns the tables of one renewal into those of another.
-use Rattle.std.proofs.Common.{◌≡◌, ℕ, zero, suc, ◌+◌, ◌-◌, ◌≤◌, Bool, true, false, List, [], ◌∷◌, ◌++◌, ◌==◌, if◌then◌else◌, length, map, take, drop, filter, refl, sym, ap, subst, subst₂, ◌∙◌, append-nil, arith, eqb-true}
+use Rattle.std.proofs.Common.{◌≡◌, ℕ, zero, suc, ◌+◌, ◌-◌, ◌≤◌, Bool, true, false, List, [], ◌∷◌, ◌++◌, ◌==◌, if◌then◌else◌, length, map}
+use Rattle.std.proofs.Common.{take, drop, filter, refl, sym, ap, subst, subst₂, ◌∙◌, append-nil, arith, eqb-true}
 use Rattle.std.specs.List.{AllByRecursion, filter_map, list_all}
 use Rattle.std.specs.declared.option.Option.TheVariants.{Some}
 use Rattle.std.specs.FinMap.{contains_key}
@@ -26,7 +27,8 @@ use Rattle.pq_delta.specs.Turning.{AllFit, IsNumberedRenewal}
 use Rattle.pq_delta.proofs.EntriesLemmas.{adds-all, adds-entries, adds-named, deletes-leave, deletes-none}
 use Rattle.pq_delta.specs.Exact.{entry_exact, entry_itself}
 use Rattle.pq_delta.proofs.FitLemmas.{adds-fit, deletes-fit, fit-append, group_deletes-fit, puts-fit}
-use Rattle.pq_delta.proofs.GroupsLemmas.{Under, groups_with, group_deletes-all, group_deletes-leave, mods-distinct, mods-none, all-names-below, divided, numbered_from, puts-front, puts-leave, renewal-numbered, under-take}
+use Rattle.pq_delta.proofs.GroupsLemmas.{Under, groups_with, group_deletes-all, group_deletes-leave, mods-distinct, mods-none}
+use Rattle.pq_delta.proofs.GroupsLemmas.{all-names-below, divided, numbered_from, puts-front, puts-leave, renewal-numbered, under-take}
 use Rattle.pq_delta.proofs.ListLemmas.{common, parted}
 use Rattle.pq_delta.proofs.OwnLemmas.{own-back, own-distinct, own-reordered}
 
@@ -67,7 +69,8 @@ pub renewal-groups : (r : Renewal) → IsRenewing r → groups_added (renewal_me
 renewal-groups r h =
     rw (ap (λ c. group_by c r.groups_away) h.groups_away.0)
     (filter_map-append group_added (map Group r.groups) (Barrier r.grouped ∷ (map Flow r.entries ++ Barrier r.filled ∷ []))
-    ∙ ap (λ l. groups_added (map Group r.groups) ++ l) (filter_map-append group_added (map Flow r.entries) (Barrier r.filled ∷ []) ∙ append-nil (groups_added (map Flow r.entries)) ∙ flows-none r.entries)
+    ∙ ap (λ l. groups_added (map Group r.groups) ++ l) (filter_map-append group_added (map Flow r.entries) (Barrier r.filled ∷ [])
+    ∙ append-nil (groups_added (map Flow r.entries)) ∙ flows-none r.entries)
     ∙ append-nil (groups_added (map Group r.groups))
     ∙ groups-added r.groups h.groups)
 
@@ -82,22 +85,36 @@ module _ (parting grouping filled : ℕ) (away : List FlowValue) (groups_away : 
       free-parted parting (map Group puts ++ Barrier grouping ∷ (map Flow adds ++ Barrier filled ∷ [])) (map Flow away ++ map Group groups_away) first
       (free-parted grouping (map Flow adds ++ Barrier filled ∷ []) (map Group puts) second (free-parted filled [] (map Flow adds) third tt))
 
-  blocks-fit : (t : Tables) → AllFit t (map Flow away) → AllFit (applies_all t (map Flow away)) (map Group groups_away) → AllFit (applies_all (applies_all t (map Flow away)) (map Group groups_away)) (map Group puts)
+  blocks-fit : (t : Tables) → AllFit t (map Flow away) → AllFit (applies_all t (map Flow away)) (map Group groups_away)
+      → AllFit (applies_all (applies_all t (map Flow away)) (map Group groups_away)) (map Group puts)
       → AllFit (applies_all (applies_all (applies_all t (map Flow away)) (map Group groups_away)) (map Group puts)) (map Flow adds) → AllFit t blocks
   blocks-fit t first second third fourth =
-      fit-append t (map Flow away ++ map Group groups_away) (Barrier parting ∷ (map Group puts ++ Barrier grouping ∷ (map Flow adds ++ Barrier filled ∷ []))) (fit-append t (map Flow away) (map Group groups_away) first second) (
+      fit-append t (map Flow away ++ map Group groups_away)
+      (Barrier parting ∷ (map Group puts ++ Barrier grouping ∷ (map Flow adds ++ Barrier filled ∷ [])))
+      (fit-append t (map Flow away) (map Group groups_away) first second) (
         tt,
-        subst (λ u. AllFit u (map Group puts ++ Barrier grouping ∷ (map Flow adds ++ Barrier filled ∷ []))) (sym (applies_all-append t (map Flow away) (map Group groups_away)))
-            (fit-append (applies_all (applies_all t (map Flow away)) (map Group groups_away)) (map Group puts) (Barrier grouping ∷ (map Flow adds ++ Barrier filled ∷ [])) third
-            (tt, fit-append (applies_all (applies_all (applies_all t (map Flow away)) (map Group groups_away)) (map Group puts)) (map Flow adds) (Barrier filled ∷ []) fourth (tt, tt))),
+        subst (λ u. AllFit u (map Group puts ++ Barrier grouping ∷ (map Flow adds ++ Barrier filled ∷ [])))
+            (sym (applies_all-append t (map Flow away) (map Group groups_away)))
+            (fit-append (applies_all (applies_all t (map Flow away)) (map Group groups_away)) (map Group puts)
+            (Barrier grouping ∷ (map Flow adds ++ Barrier filled ∷ [])) third (
+              tt,
+              fit-append (applies_all (applies_all (applies_all t (map Flow away)) (map Group groups_away)) (map Group puts))
+                  (map Flow adds) (Barrier filled ∷ []) fourth (tt, tt),
+            )),
       )
 
-  blocks-leave : (t : Tables) → applies_all t blocks ≡ applies_all (applies_all (applies_all (applies_all t (map Flow away)) (map Group groups_away)) (map Group puts)) (map Flow adds)
+  blocks-leave : (t : Tables)
+      → applies_all t blocks
+      ≡ applies_all (applies_all (applies_all (applies_all t (map Flow away)) (map Group groups_away)) (map Group puts)) (map Flow adds)
   blocks-leave t =
-      applies_all-append t (map Flow away ++ map Group groups_away) (Barrier parting ∷ (map Group puts ++ Barrier grouping ∷ (map Flow adds ++ Barrier filled ∷ [])))
-      ∙ ap (λ u. applies_all u (map Group puts ++ Barrier grouping ∷ (map Flow adds ++ Barrier filled ∷ []))) (applies_all-append t (map Flow away) (map Group groups_away))
-      ∙ applies_all-append (applies_all (applies_all t (map Flow away)) (map Group groups_away)) (map Group puts) (Barrier grouping ∷ (map Flow adds ++ Barrier filled ∷ []))
-      ∙ applies_all-append (applies_all (applies_all (applies_all t (map Flow away)) (map Group groups_away)) (map Group puts)) (map Flow adds) (Barrier filled ∷ [])
+      applies_all-append t (map Flow away ++ map Group groups_away)
+      (Barrier parting ∷ (map Group puts ++ Barrier grouping ∷ (map Flow adds ++ Barrier filled ∷ [])))
+      ∙ ap (λ u. applies_all u (map Group puts ++ Barrier grouping ∷ (map Flow adds ++ Barrier filled ∷ [])))
+      (applies_all-append t (map Flow away) (map Group groups_away))
+      ∙ applies_all-append (applies_all (applies_all t (map Flow away)) (map Group groups_away)) (map Group puts)
+      (Barrier grouping ∷ (map Flow adds ++ Barrier filled ∷ []))
+      ∙ applies_all-append (applies_all (applies_all (applies_all t (map Flow away)) (map Group groups_away)) (map Group puts))
+      (map Flow adds) (Barrier filled ∷ [])
 
 all-back : {A : Type 0} (P : A → Type 0) (front back : List A) → AllByRecursion P (front ++ back) → AllByRecursion P back
 all-back P [] back all = all
@@ -142,7 +159,8 @@ module _ (es fs : List Entry) (bs cs : List Buckets) where
     reordered : IsReordering fs (kept ++ come)
     reordered =
         reordering-trans fs (filter (λ f. is_among f es) fs ++ come) (kept ++ come) (parted (λ f. is_among f es) fs)
-        (reordering-more (filter (λ f. is_among f es) fs) kept come (common same_entry entry_exact entry_itself fs es (own-distinct fs own_new) (own-distinct es own_old)))
+        (reordering-more (filter (λ f. is_among f es) fs) kept come
+        (common same_entry entry_exact entry_itself fs es (own-distinct fs own_new) (own-distinct es own_old)))
 
     own_all : HaveOwnPriorities (kept ++ come)
     own_all = own-reordered fs (kept ++ come) reordered own_new
@@ -150,11 +168,13 @@ module _ (es fs : List Entry) (bs cs : List Buckets) where
     pub messages-free : IsFreeOfOrder (change_messages changed)
     messages-free =
         blocks-free parting grouping filling (deletes_from 1 (others fs es)) group_deletes mods adds
-        (deletes-free (deletes_from 1 (others fs es)) group_deletes (deletes-none 1 (others fs es)) (group_deletes-all (suc (length (others fs es))) (suc (length cs)) (length bs - length cs)))
+        (deletes-free (deletes_from 1 (others fs es)) group_deletes (deletes-none 1 (others fs es))
+        (group_deletes-all (suc (length (others fs es))) (suc (length cs)) (length bs - length cs)))
         (puts-free mods (mods-none (suc parting) 1 bs cs) (mods-distinct (suc parting) 1 bs cs))
         (adds-free adds (adds-all (suc grouping) come) (subst HaveOwnPriorities (sym (adds-entries (suc grouping) come)) (own-back kept come own_all)))
 
-    module _ (named : AllByRecursion (λ e. list_all (contains_key (groups_with (numbered_from 1 cs))) (groups_named e.actions) ≡ true) fs) (few : length bs ≤ 0xffffff00) (few_new : length cs ≤ 0xffffff00) where
+    module _ (named : AllByRecursion (λ e. list_all (contains_key (groups_with (numbered_from 1 cs))) (groups_named e.actions) ≡ true) fs)
+        (few : length bs ≤ 0xffffff00) (few_new : length cs ≤ 0xffffff00) where
       named_all : AllByRecursion (λ e. list_all (contains_key (groups_with (numbered_from 1 cs))) (groups_named e.actions) ≡ true) (kept ++ come)
       named_all = all-reordering _ fs (kept ++ come) reordered named
 
@@ -163,10 +183,15 @@ module _ (es fs : List Entry) (bs cs : List Buckets) where
 
       groups_gone : applies_all (stand kept bs) (map Group group_deletes) ≡ stand kept (take (length cs) bs)
       groups_gone =
-          (λ i. applies_all (record { entries = kept; groups = groups_with (divided (length cs) 1 bs i) }) (map Group (group_deletes_from (suc (length (others fs es))) (suc (length cs)) (sym (length-drop (length cs) bs) i))))
-          ∙ (λ i. applies_all (record { entries = kept; groups = groups_with (numbered_from 1 (take (length cs) bs) ++ numbered_from (next i) (drop (length cs) bs)) }) (map Group (group_deletes_from (suc (length (others fs es))) (suc (length cs)) (length (drop (length cs) bs)))))
+          (λ i. applies_all (record { entries = kept; groups = groups_with (divided (length cs) 1 bs i) })
+          (map Group (group_deletes_from (suc (length (others fs es))) (suc (length cs)) (sym (length-drop (length cs) bs) i))))
+          ∙ (λ i. applies_all (record {
+            entries = kept;
+            groups = groups_with (numbered_from 1 (take (length cs) bs) ++ numbered_from (next i) (drop (length cs) bs));
+          }) (map Group (group_deletes_from (suc (length (others fs es))) (suc (length cs)) (length (drop (length cs) bs)))))
           ∙ group_deletes-leave (suc (length (others fs es))) (suc (length cs)) kept (numbered_from 1 (take (length cs) bs)) (drop (length cs) bs)
-          (subst (λ j. Under j (numbered_from 1 (take (length cs) bs))) next (under-take (length cs) 1 bs)) few_gone (all-names-below cs kept (all-front _ kept come named_all))
+          (subst (λ j. Under j (numbered_from 1 (take (length cs) bs))) next (under-take (length cs) 1 bs)) few_gone
+          (all-names-below cs kept (all-front _ kept come named_all))
         where
           next : 1 + length cs ≡ suc (length cs)
           next = omega arith
@@ -184,7 +209,8 @@ module _ (es fs : List Entry) (bs cs : List Buckets) where
 
       entries_put : applies_all (stand kept cs) (map Flow adds) ≡ stand (kept ++ come) cs
       entries_put =
-          adds-leave adds (stand kept cs) (adds-all (suc grouping) come) (adds-named (groups_with (numbered_from 1 cs)) (suc grouping) come (all-back _ kept come named_all))
+          adds-leave adds (stand kept cs) (adds-all (suc grouping) come)
+          (adds-named (groups_with (numbered_from 1 cs)) (suc grouping) come (all-back _ kept come named_all))
           (subst (λ l. HaveOwnPriorities (kept ++ l)) (sym (adds-entries (suc grouping) come)) own_all)
           ∙ (λ i. stand (kept ++ adds-entries (suc grouping) come i) cs)
 
@@ -198,10 +224,13 @@ module _ (es fs : List Entry) (bs cs : List Buckets) where
 
       groups_gone_fit : AllFit (stand kept bs) (map Group group_deletes)
       groups_gone_fit =
-          subst₂ (λ gs n. AllFit (record { entries = kept; groups = groups_with gs }) (map Group (group_deletes_from (suc (length (others fs es))) (suc (length cs)) n)))
-          (sym (divided (length cs) 1 bs ∙ ap (λ j. numbered_from 1 (take (length cs) bs) ++ numbered_from j (drop (length cs) bs)) next)) (length-drop (length cs) bs)
+          subst₂ (λ gs n. AllFit (record { entries = kept; groups = groups_with gs })
+          (map Group (group_deletes_from (suc (length (others fs es))) (suc (length cs)) n)))
+          (sym (divided (length cs) 1 bs ∙ ap (λ j. numbered_from 1 (take (length cs) bs) ++ numbered_from j (drop (length cs) bs)) next))
+          (length-drop (length cs) bs)
           (group_deletes-fit (suc (length (others fs es))) (suc (length cs)) kept (numbered_from 1 (take (length cs) bs)) (drop (length cs) bs)
-          (subst (λ j. Under j (numbered_from 1 (take (length cs) bs))) next (under-take (length cs) 1 bs)) few_gone (all-names-below cs kept (all-front _ kept come named_all)))
+          (subst (λ j. Under j (numbered_from 1 (take (length cs) bs))) next (under-take (length cs) 1 bs)) few_gone
+          (all-names-below cs kept (all-front _ kept come named_all)))
         where
           next : 1 + length cs ≡ suc (length cs)
           next = omega arith
@@ -223,7 +252,9 @@ module _ (es fs : List Entry) (bs cs : List Buckets) where
           (deletes-fit (groups_with (numbered_from 1 bs)) (λ e. is_among e fs) 1 [] es own_old)
           (subst (λ t. AllFit t (map Group group_deletes)) (sym entries_gone) groups_gone_fit)
           (subst (λ t. AllFit t (map Group mods)) (sym (ap (λ t. applies_all t (map Group group_deletes)) entries_gone ∙ groups_gone)) groups_put_fit)
-          (subst (λ t. AllFit t (map Flow adds)) (sym (ap (λ t. applies_all (applies_all t (map Group group_deletes)) (map Group mods)) entries_gone ∙ ap (λ t. applies_all t (map Group mods)) groups_gone ∙ groups_put))
+          (subst (λ t. AllFit t (map Flow adds))
+          (sym (ap (λ t. applies_all (applies_all t (map Group group_deletes)) (map Group mods)) entries_gone
+          ∙ ap (λ t. applies_all t (map Group mods)) groups_gone ∙ groups_put))
           (adds-fit (suc grouping) come kept (groups_with (numbered_from 1 cs)) (all-back _ kept come named_all) own_all))
 
       pub messages-turn : AreSame (stand fs cs) (applies_all (stand es bs) (change_messages changed))
@@ -255,10 +286,17 @@ module _ (r s : Renewal) (old : IsNumberedRenewal r) (new : IsNumberedRenewal s)
   stands q h = λ i. record { entries = map entry_of q.entries; groups = groups_with (renewal-numbered 1 q.groups h.numbers i) }
 
   the_changes : changes (renewal_messages r) (renewal_messages s) ≡ turning
-  the_changes = λ i. changes_with (renewal-entries r old.renewing i) (renewal-entries s new.renewing i) (renewal-groups r old.renewing i) (renewal-groups s new.renewing i)
+  the_changes = λ i. changes_with (renewal-entries r old.renewing i) (renewal-entries s new.renewing i) (renewal-groups r old.renewing i)
+      (renewal-groups s new.renewing i)
     where
       changes_with : List Entry → List Entry → List Buckets → List Buckets → Changes
-      changes_with es fs bs cs = record { removed = others fs es; kept = length cs; gone = length bs - length cs; puts = puts_from 1 bs cs; added = others es fs }
+      changes_with es fs bs cs = record {
+        removed = others fs es;
+        kept = length cs;
+        gone = length bs - length cs;
+        puts = puts_from 1 bs cs;
+        added = others es fs;
+      }
 
   few_of : (q : Renewal) → IsNumberedRenewal q → length (buckets_of q) ≤ 0xffffff00
   few_of q h = let long = length-map q.groups (λ g. g.buckets) in let few = h.few in omega (arith, long, few)
@@ -268,14 +306,19 @@ module _ (r s : Renewal) (old : IsNumberedRenewal r) (new : IsNumberedRenewal s)
   entries-named [] groups all = tt
   entries-named (f ∷ fs) groups (here, rest) = (here, entries-named fs groups rest)
 
-  named_of : (q : Renewal) → IsNumberedRenewal q → AllByRecursion (λ e. list_all (contains_key (groups_with (numbered_from 1 (buckets_of q)))) (groups_named e.actions) ≡ true) (map entry_of q.entries)
-  named_of q h = subst (λ gs. AllByRecursion (λ e. list_all (contains_key (groups_with gs)) (groups_named e.actions) ≡ true) (map entry_of q.entries)) (renewal-numbered 1 q.groups h.numbers) (entries-named q.entries (added_groups q.groups) h.renewing.named)
+  named_of : (q : Renewal) → IsNumberedRenewal q
+      → AllByRecursion (λ e. list_all (contains_key (groups_with (numbered_from 1 (buckets_of q)))) (groups_named e.actions) ≡ true)
+      (map entry_of q.entries)
+  named_of q h = subst (λ gs. AllByRecursion (λ e. list_all (contains_key (groups_with gs)) (groups_named e.actions) ≡ true)
+      (map entry_of q.entries)) (renewal-numbered 1 q.groups h.numbers) (entries-named q.entries (added_groups q.groups) h.renewing.named)
 
   turned : AreSame (renewed s) (applies_all (renewed r) (change_messages turning))
   turned = subst₂ (λ t u. AreSame t (applies_all u (change_messages turning))) (sym (stands s new)) (sym (stands r old))
-      (messages-turn (map entry_of r.entries) (map entry_of s.entries) (buckets_of r) (buckets_of s) old.renewing.priorities new.renewing.priorities (named_of s new) (few_of r old) (few_of s new))
+      (messages-turn (map entry_of r.entries) (map entry_of s.entries) (buckets_of r)
+      (buckets_of s) old.renewing.priorities new.renewing.priorities (named_of s new) (few_of r old) (few_of s new))
 
-  pub delta-turns : (t : Tables) (order : List Message) → AreSame (renewed r) t → IsLawfulOrder (switch_delta (renewal_messages r) (renewal_messages s)) order → AreSame (renewed s) (applies_all t order)
+  pub delta-turns : (t : Tables) (order : List Message) → AreSame (renewed r) t
+      → IsLawfulOrder (switch_delta (renewal_messages r) (renewal_messages s)) order → AreSame (renewed s) (applies_all t order)
   unfolding switch_delta
   delta-turns t order same lawful = by (amount turning == 0) refl (subst (λ c. IsLawfulOrder (messages_for c) order) the_changes lawful)
     where
@@ -290,7 +333,8 @@ module _ (r s : Renewal) (old : IsNumberedRenewal r) (new : IsNumberedRenewal s)
 
   fitted : AllFit (renewed r) (change_messages turning)
   fitted = subst (λ t. AllFit t (change_messages turning)) (sym (stands r old))
-      (messages-fit (map entry_of r.entries) (map entry_of s.entries) (buckets_of r) (buckets_of s) old.renewing.priorities new.renewing.priorities (named_of s new) (few_of r old) (few_of s new))
+      (messages-fit (map entry_of r.entries) (map entry_of s.entries) (buckets_of r)
+      (buckets_of s) old.renewing.priorities new.renewing.priorities (named_of s new) (few_of r old) (few_of s new))
 
   pub delta-fits : AllFit (renewed r) (switch_delta (renewal_messages r) (renewal_messages s))
   unfolding switch_delta

@@ -1,5 +1,6 @@
 -- Where the same is added, nothing changes.
-use Rattle.std.proofs.Common.{◌≡◌, ℕ, suc, ◌+◌, ◌<◌, Bool, true, false, ◌||◌, List, [], ◌∷◌, ◌++◌, length, take, get_or, refl, sym, ap, ◌∙◌, arith, append_assoc, if◌then◌else◌}
+use Rattle.std.proofs.Common.{◌≡◌, ℕ, suc, ◌+◌, ◌<◌, Bool, true, false, ◌||◌, List, [], ◌∷◌, ◌++◌, length, take, get_or, refl, sym, ap, ◌∙◌}
+use Rattle.std.proofs.Common.{arith, append_assoc, if◌then◌else◌}
 use Rattle.std.proofs.Math.Seq.{take-suc}
 use Rattle.std.proofs.lemmas.Bool.{eq-eqb}
 use Rattle.std.proofs.lemmas.List.Elements.{filter_map-append}
@@ -54,25 +55,31 @@ next_taken ms i m below is =
     let one : i + 1 ≡ suc i = omega arith in
     ap (λ (n : ℕ). take n ms) one ∙ take-suc ms i m below ∙ ap (λ (x : Message). take i ms ++ x ∷ []) (sym is)
 
-entries_more : (ms : List Message) (i : ℕ) (m : Message) → i < length ms → m ≡ get_or ms i m → entries_added (take (i + 1) ms) ≡ entries_added (take i ms) ++ entries_added (m ∷ [])
+entries_more : (ms : List Message) (i : ℕ) (m : Message) → i < length ms → m ≡ get_or ms i m
+    → entries_added (take (i + 1) ms) ≡ entries_added (take i ms) ++ entries_added (m ∷ [])
 entries_more ms i m below is = ap entries_added (next_taken ms i m below is) ∙ filter_map-append entry_added (take i ms) (m ∷ [])
 
-groups_more : (ms : List Message) (i : ℕ) (m : Message) → i < length ms → m ≡ get_or ms i m → groups_added (take (i + 1) ms) ≡ groups_added (take i ms) ++ groups_added (m ∷ [])
+groups_more : (ms : List Message) (i : ℕ) (m : Message) → i < length ms → m ≡ get_or ms i m
+    → groups_added (take (i + 1) ms) ≡ groups_added (take i ms) ++ groups_added (m ∷ [])
 groups_more ms i m below is = ap groups_added (next_taken ms i m below is) ∙ filter_map-append group_added (take i ms) (m ∷ [])
 
 -- so they add the same with messages that do
-pub entries_go_on : (old new : List Message) (i : ℕ) (m n : Message) → i < length old → i < length new → m ≡ get_or old i m → n ≡ get_or new i n → entry_added m ≡ entry_added n
+pub entries_go_on : (old new : List Message) (i : ℕ) (m n : Message) → i < length old → i < length new → m ≡ get_or old i m
+    → n ≡ get_or new i n → entry_added m ≡ entry_added n
     → entries_added (take i old) ≡ entries_added (take i new) → entries_added (take (i + 1) old) ≡ entries_added (take (i + 1) new)
 entries_go_on old new i m n below within is read same before =
-    entries_more old i m below is ∙ ap (λ (es : List Entry). es ++ entries_added (m ∷ [])) before ∙ ap (λ (es : List Entry). entries_added (take i new) ++ es) one ∙ sym (entries_more new i n within read)
+    entries_more old i m below is ∙ ap (λ (es : List Entry). es ++ entries_added (m ∷ [])) before
+    ∙ ap (λ (es : List Entry). entries_added (take i new) ++ es) one ∙ sym (entries_more new i n within read)
   where
     one : entries_added (m ∷ []) ≡ entries_added (n ∷ [])
     one = rw same refl
 
-pub groups_go_on : (old new : List Message) (i : ℕ) (m n : Message) → i < length old → i < length new → m ≡ get_or old i m → n ≡ get_or new i n → group_added m ≡ group_added n
+pub groups_go_on : (old new : List Message) (i : ℕ) (m n : Message) → i < length old → i < length new → m ≡ get_or old i m
+    → n ≡ get_or new i n → group_added m ≡ group_added n
     → groups_added (take i old) ≡ groups_added (take i new) → groups_added (take (i + 1) old) ≡ groups_added (take (i + 1) new)
 groups_go_on old new i m n below within is read same before =
-    groups_more old i m below is ∙ ap (λ (gs : List Buckets). gs ++ groups_added (m ∷ [])) before ∙ ap (λ (gs : List Buckets). groups_added (take i new) ++ gs) one ∙ sym (groups_more new i n within read)
+    groups_more old i m below is ∙ ap (λ (gs : List Buckets). gs ++ groups_added (m ∷ [])) before
+    ∙ ap (λ (gs : List Buckets). groups_added (take i new) ++ gs) one ∙ sym (groups_more new i n within read)
   where
     one : groups_added (m ∷ []) ≡ groups_added (n ∷ [])
     one = rw same refl

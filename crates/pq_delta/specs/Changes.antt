@@ -21,7 +21,12 @@ pub record Put : Type 0 where
 abbrev pub puts_from : ℕ → List Buckets → List Buckets → List Put
 puts_from number olds [] = []
 puts_from number [] (b ∷ bs) = record { command = AddGroup; number = number; buckets = b } ∷ puts_from (suc number) [] bs
-puts_from number (o ∷ os) (b ∷ bs) = if same_buckets o b then puts_from (suc number) os bs else record { command = Modify; number = number; buckets = b } ∷ puts_from (suc number) os bs
+puts_from number (o ∷ os) (b ∷ bs) = if same_buckets o b then puts_from (suc number) os bs else record {
+  command = Modify;
+  number =
+      number;
+  buckets = b;
+} ∷ puts_from (suc number) os bs
 
 pub record Changes : Type 0 where
   -- the old entries that aren't among the new ones, in old order
@@ -51,14 +56,32 @@ amount c = length c.removed + c.gone + length c.puts + length c.added
 -- Messages, with transaction ids from a number on.
 
 abbrev pub delete_of : ℕ → Entry → FlowValue
-delete_of xid e = record { xid = xid; cookie = 0; table = e.table; command = DeleteStrict; priority = e.priority; matching = e.matching; actions = []; goto = None }
+delete_of xid e = record {
+  xid = xid;
+  cookie = 0;
+  table = e.table;
+  command = DeleteStrict;
+  priority = e.priority;
+  matching = e.matching;
+  actions = [];
+  goto = None;
+}
 
 abbrev pub deletes_from : ℕ → List Entry → List FlowValue
 deletes_from xid [] = []
 deletes_from xid (e ∷ es) = delete_of xid e ∷ deletes_from (suc xid) es
 
 abbrev pub add_of : ℕ → Entry → FlowValue
-add_of xid e = record { xid = xid; cookie = e.cookie; table = e.table; command = AddFlow; priority = e.priority; matching = e.matching; actions = e.actions; goto = e.goto }
+add_of xid e = record {
+  xid = xid;
+  cookie = e.cookie;
+  table = e.table;
+  command = AddFlow;
+  priority = e.priority;
+  matching = e.matching;
+  actions = e.actions;
+  goto = e.goto;
+}
 
 abbrev pub adds_from : ℕ → List Entry → List FlowValue
 adds_from xid [] = []

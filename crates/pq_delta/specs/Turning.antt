@@ -34,7 +34,8 @@ FitsFlow DeleteStrict f t = list_any (is_placed f) t.entries ≡ true
 abbrev pub FitsGroup : GroupCommand → GroupValue → Tables → Type 0
 FitsGroup AddGroup g t = contains_key t.groups g.group ≡ false
 FitsGroup Modify g t = contains_key t.groups g.group ≡ true
-FitsGroup Delete g t = (contains_key t.groups g.group ≡ true) × AllByRecursion (λ e. list_any (is_removed t.groups g.group) (groups_named e.actions) ≡ false) t.entries
+FitsGroup Delete g t = (contains_key t.groups g.group ≡ true)
+    × AllByRecursion (λ e. list_any (is_removed t.groups g.group) (groups_named e.actions) ≡ false) t.entries
 
 -- the message does what it says and nothing else
 abbrev pub Fits : Tables → Message → Type 0

@@ -25,7 +25,8 @@ for_both P Q R [] follows ps qs = ps
 for_both P Q R (x ∷ xs) follows ps qs = (follows x ps.0 qs.0, for_both P Q R xs follows ps.1 qs.1)
 
 -- a list that an ordering chooses
-by_order : {X : Type 0} (P : X → Type 0) (o : Ordering) (less equal greater : X) → (o ≡ Less → P less) → (o ≡ Equal → P equal) → (o ≡ Greater → P greater) → P (match_ordering o less equal greater)
+by_order : {X : Type 0} (P : X → Type 0) (o : Ordering) (less equal greater : X) → (o ≡ Less → P less) → (o ≡ Equal → P equal)
+    → (o ≡ Greater → P greater) → P (match_ordering o less equal greater)
 by_order P Less less equal greater a b c = a refl
 by_order P Equal less equal greater a b c = b refl
 by_order P Greater less equal greater a b c = c refl
@@ -36,10 +37,14 @@ module _ {K : Type 0} (cmp : K → K → Ordering) (total : IsTotalOrder cmp) wh
   one_way x y up down = search (sym up ∙ total.antisymm x y ∙ ap ordering_reverse down, rules)
 
   -- of elements that ascend, each behind one of the list is another one of it
-  later : (a x y : K) (all : List K) → AllByRecursion (λ z. cmp a z ≡ Less) all → cmp x y ≡ Less → (a ≡ x) ⊎ IsOneOf all x → (a ≡ y) ⊎ IsOneOf all y → IsOneOf all y
+  later : (a x y : K) (all : List K) → AllByRecursion (λ z. cmp a z ≡ Less) all → cmp x y ≡ Less → (a ≡ x) ⊎ IsOneOf all x
+      → (a ≡ y) ⊎ IsOneOf all y → IsOneOf all y
   later a x y all whole above one (inr other) = other
-  later a x y all whole above (inl is) (inl same) = absurd (one_way x y above (subst (λ (z : K). cmp y z ≡ Less) (sym same ∙ is) (subst (λ (z : K). cmp z y ≡ Less) (sym is ∙ same) above)))
-  later a x y all whole above (inr one) (inl same) = absurd (one_way x y above (subst (λ (z : K). cmp z x ≡ Less) same (of_one (λ z. cmp a z ≡ Less) all x whole one)))
+  later a x y all whole above (inl is) (inl same) =
+      absurd (one_way x y above
+      (subst (λ (z : K). cmp y z ≡ Less) (sym same ∙ is) (subst (λ (z : K). cmp z y ≡ Less) (sym is ∙ same) above)))
+  later a x y all whole above (inr one) (inl same) =
+      absurd (one_way x y above (subst (λ (z : K). cmp z x ≡ Less) same (of_one (λ z. cmp a z ≡ Less) all x whole one)))
 
   -- an ascending list of some elements of an ascending list leaves out the others
   pub one_sublist : (all xs : List K) → IsStrictlySortedBy cmp all → IsStrictlySortedBy cmp xs → AllByRecursion (IsOneOf all) xs → IsOneOf (sublists all) xs
@@ -48,9 +53,12 @@ module _ {K : Type 0} (cmp : K → K → Ordering) (total : IsTotalOrder cmp) wh
   one_sublist [] (x ∷ xs) whole up ones = absurd ones.0
   one_sublist (a ∷ all) [] whole up ones = one_behind (map (λ s. a ∷ s) (sublists all)) (sublists all) [] (one_sublist all [] whole.1 up ones)
   one_sublist (a ∷ all) (x ∷ xs) whole up ones =
-      let rest : AllByRecursion (IsOneOf all) xs = for_both (λ y. cmp x y ≡ Less) (IsOneOf (a ∷ all)) (IsOneOf all) xs (λ y above one. later a x y all whole.0 above ones.0 one) up.0 ones.1 in
+      let rest : AllByRecursion (IsOneOf all) xs = for_both (λ y. cmp x y ≡ Less) (IsOneOf (a ∷ all)) (IsOneOf all) xs
+      (λ y above one. later a x y all whole.0 above ones.0 one) up.0 ones.1 in
       elim ones.0 [
-        | inl is ↦ one_before (map (λ s. a ∷ s) (sublists all)) (sublists all) (x ∷ xs) (subst (λ (z : K). IsOneOf (map (λ s. a ∷ s) (sublists all)) (z ∷ xs)) is (one_changed (λ s. a ∷ s) (sublists all) xs (one_sublist all xs whole.1 up.1 rest)))
+        | inl is ↦ one_before (map (λ s. a ∷ s) (sublists all)) (sublists all) (x ∷ xs)
+            (subst (λ (z : K). IsOneOf (map (λ s. a ∷ s) (sublists all)) (z ∷ xs)) is
+            (one_changed (λ s. a ∷ s) (sublists all) xs (one_sublist all xs whole.1 up.1 rest)))
         | inr one ↦ one_behind (map (λ s. a ∷ s) (sublists all)) (sublists all) (x ∷ xs) (one_sublist all (x ∷ xs) whole.1 up (one, rest))
       ]
 
@@ -62,7 +70,8 @@ module _ {K : Type 0} (cmp : K → K → Ordering) (total : IsTotalOrder cmp) wh
   pub all_inserted : (P : K → Type 0) (xs : List K) (k : K) → AllByRecursion P xs → P k → AllByRecursion P (insert_key cmp xs k)
   all_inserted P [] k all also = (also, tt)
   all_inserted P (x ∷ xs) k all also =
-      by_order (AllByRecursion P) (cmp k x) (k ∷ x ∷ xs) (x ∷ xs) (x ∷ insert_key cmp xs k) (λ is. (also, all)) (λ is. all) (λ is. (all.0, all_inserted P xs k all.1 also))
+      by_order (AllByRecursion P) (cmp k x) (k ∷ x ∷ xs) (x ∷ xs) (x ∷ insert_key cmp xs k) (λ is. (also, all)) (λ is. all)
+      (λ is. (all.0, all_inserted P xs k all.1 also))
 
   pub ascends_inserted : (xs : List K) (k : K) → IsStrictlySortedBy cmp xs → IsStrictlySortedBy cmp (insert_key cmp xs k)
   unfolding IsStrictlySortedBy

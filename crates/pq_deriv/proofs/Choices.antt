@@ -22,10 +22,12 @@ one_behind [] ys x one = one
 one_behind (y ∷ xs) ys x one = inr (one_behind xs ys x one)
 
 -- one of the choices
-pub one_chosen : {X : Type 0} (xs : List X) (cs : List (List X)) (x : X) (c : List X) → IsOneOf xs x → IsOneOf cs c → IsOneOf (flat_map (λ x. map (λ c. x ∷ c) cs) xs) (x ∷ c)
+pub one_chosen : {X : Type 0} (xs : List X) (cs : List (List X)) (x : X) (c : List X) → IsOneOf xs x → IsOneOf cs c
+    → IsOneOf (flat_map (λ x. map (λ c. x ∷ c) cs) xs) (x ∷ c)
 one_chosen [] cs x c one other = absurd one
 one_chosen {X} (y ∷ xs) cs x c (inl is) other =
-    one_before (map (λ c. y ∷ c) cs) (flat_map (λ x. map (λ c. x ∷ c) cs) xs) (x ∷ c) (subst (λ (z : X). IsOneOf (map (λ c. y ∷ c) cs) (z ∷ c)) is (one_changed (λ c. y ∷ c) cs c other))
+    one_before (map (λ c. y ∷ c) cs) (flat_map (λ x. map (λ c. x ∷ c) cs) xs) (x ∷ c)
+    (subst (λ (z : X). IsOneOf (map (λ c. y ∷ c) cs) (z ∷ c)) is (one_changed (λ c. y ∷ c) cs c other))
 one_chosen (y ∷ xs) cs x c (inr one) other = one_behind (map (λ c. y ∷ c) cs) (flat_map (λ x. map (λ c. x ∷ c) cs) xs) (x ∷ c) (one_chosen xs cs x c one other)
 
 -- how many choices there are

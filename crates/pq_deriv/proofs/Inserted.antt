@@ -9,14 +9,16 @@ use Rattle.std.proofs.lemmas.List.Sorted.{searchable_from_sorted}
 use Rattle.pq_deriv.proofs.Ascending.{for_all}
 
 -- what is true of all elements, and of one that is put in
-pub all_put : {V K : Type 0} (key : V → K) (P : K → Type 0) (vs : List V) (v : V) (i : ℕ) → AllByRecursion P (map key vs) → P (key v) → AllByRecursion P (map key (take i vs ++ (v ∷ drop i vs)))
+pub all_put : {V K : Type 0} (key : V → K) (P : K → Type 0) (vs : List V) (v : V) (i : ℕ) → AllByRecursion P (map key vs) → P (key v)
+    → AllByRecursion P (map key (take i vs ++ (v ∷ drop i vs)))
 all_put key P [] v zero all also = (also, tt)
 all_put key P [] v (suc i) all also = (also, tt)
 all_put key P (u ∷ vs) v zero all also = (also, all)
 all_put key P (u ∷ vs) v (suc i) all also = (all.0, all_put key P vs v i all.1 also)
 
 module _ {V K : Type 0} (key : V → K) (cmp : K → K → Ordering) (total : IsTotalOrder cmp) where
-  no_fall : (vs : List V) (k : ℕ) (d : V) → IsStrictlySortedBy cmp (map key vs) → suc k < length vs → is_lt (cmp (key (get_or vs (suc k) d)) (key (get_or vs k d))) ≡ false
+  no_fall : (vs : List V) (k : ℕ) (d : V) → IsStrictlySortedBy cmp (map key vs) → suc k < length vs
+      → is_lt (cmp (key (get_or vs (suc k) d)) (key (get_or vs k d))) ≡ false
   unfolding IsStrictlySortedBy
   no_fall [] k d up within = absurd (omega (arith, within))
   no_fall (u ∷ []) k d up within = absurd (omega (arith, within))
@@ -28,7 +30,8 @@ module _ {V K : Type 0} (key : V → K) (cmp : K → K → Ordering) (total : Is
   searchable vs r up = searchable_from_sorted total key vs r (λ k d low within. rw (add-one k) (no_fall vs k d up (omega (arith, within))))
 
   -- with an element at the place between those below it and those above it, it ascends
-  pub ascends_put : (vs : List V) (v : V) (i : ℕ) → IsStrictlySortedBy cmp (map key vs) → i ≤ length vs → IsPartitionPoint (λ u. cmp (key u) (key v) ≡ Less) (λ u. cmp (key u) (key v) ≡ Greater) vs i →
+  pub ascends_put : (vs : List V) (v : V) (i : ℕ) → IsStrictlySortedBy cmp (map key vs) → i ≤ length vs
+      → IsPartitionPoint (λ u. cmp (key u) (key v) ≡ Less) (λ u. cmp (key u) (key v) ≡ Greater) vs i →
       IsStrictlySortedBy cmp (map key (take i vs ++ (v ∷ drop i vs)))
   unfolding IsStrictlySortedBy
   ascends_put [] v zero up within place = (tt, tt)
@@ -38,5 +41,8 @@ module _ {V K : Type 0} (key : V → K) (cmp : K → K → Ordering) (total : Is
       ((below, for_all (λ z. cmp (key u) z ≡ Less) (λ z. cmp (key v) z ≡ Less) (map key vs) (λ z. total.trans (key v) (key u) z below) up.0), up)
   ascends_put (u ∷ vs) v (suc i) up within place = (
     all_put key (λ z. cmp (key u) z ≡ Less) vs v i up.0 (place.0 0 u (omega arith) (omega arith)),
-    ascends_put vs v i up.1 (omega (arith, within)) (λ k d low short. place.0 (suc k) d (omega arith) (omega (arith, short)), λ k d low short. place.1 (suc k) d (omega (arith, low)) (omega (arith, short))),
+    ascends_put vs v i up.1 (omega (arith, within)) (
+      λ k d low short. place.0 (suc k) d (omega arith) (omega (arith, short)),
+      λ k d low short. place.1 (suc k) d (omega (arith, low)) (omega (arith, short)),
+    ),
   )

@@ -1,5 +1,6 @@
 -- Rests and sets of rests after a half step, one more at a time.
-use Rattle.std.proofs.Common.{◌≡◌, ℕ, zero, suc, Bool, true, false, ◌&&◌, ◌||◌, ◌==◌, ◌<◌, ◌≤◌, ◌+◌, ◌⊎◌, inl, inr, List, [], ◌∷◌, ◌++◌, ◌-◌, rules, take, drop, length, refl, sym, subst, ◌∙◌, arith}
+use Rattle.std.proofs.Common.{◌≡◌, ℕ, zero, suc, Bool, true, false, ◌&&◌, ◌||◌, ◌==◌, ◌<◌, ◌≤◌, ◌+◌, ◌⊎◌, inl, inr, List, [], ◌∷◌, ◌++◌}
+use Rattle.std.proofs.Common.{◌-◌, rules, take, drop, length, refl, sym, subst, ◌∙◌, arith}
 use Rattle.std.proofs.Math.Bool.{or-true, or_comm, and-false, or-false, and-true}
 use Rattle.std.proofs.Math.Seq.{take-length, take-append_seam, drop-append_seam}
 use Rattle.std.proofs.lemmas.List.{drop-drop, length-drop}
@@ -28,49 +29,60 @@ member_more left l part rest old new later steps puts P w =
       moved false s u = refl
 
 -- a set to which nothing is added
-pub set_kept : (l : HalfStep) (e : ExprTree) (old stepped : List (List ℕ)) (r : List ℕ) → ((P : Language) (w : Word) → set_left (left e) P stepped w ≡ stepped_left l (left e) P old w) → r ≡ set_of stepped →
+pub set_kept : (l : HalfStep) (e : ExprTree) (old stepped : List (List ℕ)) (r : List ℕ)
+    → ((P : Language) (w : Word) → set_left (left e) P stepped w ≡ stepped_left l (left e) P old w) → r ≡ set_of stepped →
     IsSetStepped l e false old (members r)
 set_kept l e old stepped r steps spelled P w = rw (spelled, members_read stepped, steps P w) (sym (or-false (stepped_left l (left e) P old w)))
 
 -- a set to which the begun rest is added
-pub set_begun : (l : HalfStep) (e : ExprTree) (old stepped new : List (List ℕ)) (start begun r : List ℕ) → ((P : Language) (w : Word) → set_left (left e) P stepped w ≡ stepped_left l (left e) P old w) →
+pub set_begun : (l : HalfStep) (e : ExprTree) (old stepped new : List (List ℕ)) (start begun r : List ℕ)
+    → ((P : Language) (w : Word) → set_left (left e) P stepped w ≡ stepped_left l (left e) P old w) →
     ((v : Word) → left e start v ≡ holds e v) → ((v : Word) → left e begun v ≡ left e start (l ∷ v)) →
-    ((P : Language) (w : Word) → set_left (left e) P new w ≡ (joined (left e begun) P w || set_left (left e) P stepped w)) → r ≡ set_of new → IsSetStepped l e true old (members r)
+    ((P : Language) (w : Word) → set_left (left e) P new w ≡ (joined (left e begun) P w || set_left (left e) P stepped w)) → r ≡ set_of new
+    → IsSetStepped l e true old (members r)
 set_begun l e old stepped new start begun r steps starts begins puts spelled P w =
     let same : left e begun ≡ (λ v. holds e (l ∷ v)) = one_language (λ v. begins v ∙ starts (l ∷ v)) in
     rw (spelled, members_read new, puts P w, same, steps P w) (or_comm (joined (λ v. holds e (l ∷ v)) P w) (stepped_left l (left e) P old w))
 
 -- an operand in turn more
-pub turn_more : (l : HalfStep) (e : Expr) (es : List Expr) (begins : Bool) (old set more : List ℕ) → IsSetStepped l (expr_tree e) begins (members (first_set old)) (members set) →
+pub turn_more : (l : HalfStep) (e : Expr) (es : List Expr) (begins : Bool) (old set more : List ℕ)
+    → IsSetStepped l (expr_tree e) begins (members (first_set old)) (members set) →
     AreSetsStepped l (expr_trees es) ((begins && holds (expr_tree e) []) || some_ends (left (expr_tree e)) (members (first_set old))) (behind_set old) more →
     AreSetsStepped l (expr_trees (e ∷ es)) begins old (set_before set more)
 turn_more l e es begins old set more steps rest w =
     let Ps = languages (expr_trees es) in
     let ls = lefts (expr_trees es) in
     rw (first_read set more, behind_read set more, steps (in_turn Ps) w, rest w)
-    (turn_stepped begins (holds (expr_tree e)) Ps (left (expr_tree e)) (members (first_set old)) l w (turn_left Ps ls (spread (length Ps) (behind_set old)) (l ∷ w)))
+    (turn_stepped begins (holds (expr_tree e)) Ps (left (expr_tree e)) (members (first_set old)) l w
+    (turn_left Ps ls (spread (length Ps) (behind_set old)) (l ∷ w)))
 
 -- the number of empty sets apart from what stands behind it
-pub sets_whole : (l : HalfStep) (es : Exprs) (begins : Bool) (old new : List ℕ) → AreSetsStepped l es begins (first_gap old ∷ behind_gap old) new → AreSetsStepped l es begins old new
+pub sets_whole : (l : HalfStep) (es : Exprs) (begins : Bool) (old new : List ℕ)
+    → AreSetsStepped l es begins (first_gap old ∷ behind_gap old) new → AreSetsStepped l es begins old new
 sets_whole l es begins old new steps w = rw (← spread_gap (length (languages es)) old) (steps w)
 
 -- behind an empty set
-sets_behind : (l : HalfStep) (es : Exprs) (gap : ℕ) (left new : List ℕ) → (0 < gap) ⊎ (length left ≡ 0) → AreSetsStepped l es false ((gap - 1) ∷ left) new → AreSetsStepped l es false (behind_set (gap ∷ left)) new
+sets_behind : (l : HalfStep) (es : Exprs) (gap : ℕ) (left new : List ℕ) → (0 < gap) ⊎ (length left ≡ 0)
+    → AreSetsStepped l es false ((gap - 1) ∷ left) new → AreSetsStepped l es false (behind_set (gap ∷ left)) new
 sets_behind l es gap left new (inl some) steps = rw (behind_none gap left some) steps
 sets_behind l es gap (n ∷ left) new (inr none) steps = absurd (omega (arith, none))
 sets_behind l es zero [] new (inr none) steps = sets_whole l es false [] new steps
 sets_behind l es (suc gap) [] new (inr none) steps = let less : suc gap - 1 ≡ gap = omega arith in rw (← less) steps
 
 -- operands that aren't begun, and don't begin
-pub sets_skipped : (l : HalfStep) (k gap : ℕ) (left more : List ℕ) (es : List Expr) → k ≤ length es → (k ≤ gap) ⊎ (length left ≡ 0) → AreSetsStepped l (expr_trees (drop k es)) false ((gap - k) ∷ left) more → AreSetsStepped l (expr_trees es) false (gap ∷ left) (wide k more)
+pub sets_skipped : (l : HalfStep) (k gap : ℕ) (left more : List ℕ) (es : List Expr) → k ≤ length es → (k ≤ gap) ⊎ (length left ≡ 0)
+    → AreSetsStepped l (expr_trees (drop k es)) false ((gap - k) ∷ left) more
+    → AreSetsStepped l (expr_trees es) false (gap ∷ left) (wide k more)
 sets_skipped l zero gap left more es few idle steps = let all : gap - 0 ≡ gap = omega arith in rw (wide_none more) (rw all at steps)
 sets_skipped l (suc k) gap left more [] few idle steps = absurd (omega (arith, few))
 sets_skipped l (suc k) gap left more (e ∷ es) few idle steps =
     let less : gap - suc k ≡ gap - 1 - k = omega arith in
-    let later : AreSetsStepped l (expr_trees es) false ((gap - 1) ∷ left) (wide k more) = sets_skipped l k (gap - 1) left more es (omega (arith, few)) (fewer idle) (rw less at steps) in
+    let later : AreSetsStepped l (expr_trees es) false ((gap - 1) ∷ left) (wide k more) =
+    sets_skipped l k (gap - 1) left more es (omega (arith, few)) (fewer idle) (rw less at steps) in
     let none : first_set (gap ∷ left) ≡ [] = first_idle gap left (some idle) in
     subst (AreSetsStepped l (expr_trees (e ∷ es)) false (gap ∷ left)) (widened_wide k more)
-    (turn_more l e es false (gap ∷ left) [] (wide k more) (rw none (λ P w. refl)) (rw none (sets_behind l (expr_trees es) gap left (wide k more) (some idle) later)))
+    (turn_more l e es false (gap ∷ left) [] (wide k more) (rw none (λ P w. refl))
+    (rw none (sets_behind l (expr_trees es) gap left (wide k more) (some idle) later)))
   where
     some : (suc k ≤ gap) ⊎ (length left ≡ 0) → (0 < gap) ⊎ (length left ≡ 0)
     some (inl h) = inl (omega (arith, h))
@@ -81,7 +93,9 @@ sets_skipped l (suc k) gap left more (e ∷ es) few idle steps =
     fewer (inr h) = inr h
 
 -- where operands begin, none is passed over
-pub sets_idle : (l : HalfStep) (begins : Bool) (k gap : ℕ) (left more : List ℕ) (es : List Expr) → k ≤ length es → (begins ≡ true → k ≡ 0) → (k ≤ gap) ⊎ (length left ≡ 0) → AreSetsStepped l (expr_trees (drop k es)) begins ((gap - k) ∷ left) more → AreSetsStepped l (expr_trees es) begins (gap ∷ left) (wide k more)
+pub sets_idle : (l : HalfStep) (begins : Bool) (k gap : ℕ) (left more : List ℕ) (es : List Expr) → k ≤ length es → (begins ≡ true → k ≡ 0)
+    → (k ≤ gap) ⊎ (length left ≡ 0) → AreSetsStepped l (expr_trees (drop k es)) begins ((gap - k) ∷ left) more
+    → AreSetsStepped l (expr_trees es) begins (gap ∷ left) (wide k more)
 sets_idle l false k gap left more es few none idle steps = sets_skipped l k gap left more es few idle steps
 sets_idle l true k gap left more es few none idle steps =
     let zero_is : k ≡ 0 = none refl in
@@ -89,12 +103,14 @@ sets_idle l true k gap left more es few none idle steps =
     rw (zero_is, wide_none more) (rw (zero_is, all) at steps)
 
 -- operands that are passed over, behind others
-pub idle_left : (l : HalfStep) (begins : Bool) (i k gap empties : ℕ) (left out : List ℕ) (es : List Expr) (W : List ℕ → Type 0) → k ≤ length es - i → (begins ≡ true → k ≡ 0) → (k ≤ gap) ⊎ (length left ≡ 0)
+pub idle_left : (l : HalfStep) (begins : Bool) (i k gap empties : ℕ) (left out : List ℕ) (es : List Expr) (W : List ℕ → Type 0)
+    → k ≤ length es - i → (begins ≡ true → k ≡ 0) → (k ≤ gap) ⊎ (length left ≡ 0)
     → ((more : List ℕ) → AreSetsStepped l (expr_trees (drop i es)) begins (gap ∷ left) more → W (out ++ wide empties more))
     → (more : List ℕ) → AreSetsStepped l (expr_trees (drop (i + k) es)) begins ((gap - k) ∷ left) more → W (out ++ wide (empties + k) more)
 idle_left l begins i k gap empties left out es W few none idle before more steps =
     let here : AreSetsStepped l (expr_trees (drop k (drop i es))) begins ((gap - k) ∷ left) more = rw (drop-drop k i es) steps in
-    subst (λ r. W (out ++ r)) (wide_wide empties k more) (before (wide k more) (sets_idle l begins k gap left more (drop i es) (omega (arith, few, length-drop i es)) none idle here))
+    subst (λ r. W (out ++ r)) (wide_wide empties k more)
+    (before (wide k more) (sets_idle l begins k gap left more (drop i es) (omega (arith, few, length-drop i es)) none idle here))
 
 -- no operand is left
 pub turn_over : (l : HalfStep) (begins : Bool) (old new : List ℕ) → AreSetsStepped l (expr_trees []) begins old new
@@ -106,15 +122,18 @@ turn_whole l [] old new some steps w = absurd (search (some, rules))
 turn_whole l (e ∷ es) old new some steps w = steps w
 
 -- a rest more
-pub rest_more : (l : HalfStep) (e : Expr) (es : List Expr) (old r more : List ℕ) → ((w : Word) → left (expr_tree e) r w ≡ left (expr_tree e) (first_part old) (l ∷ w)) →
+pub rest_more : (l : HalfStep) (e : Expr) (es : List Expr) (old r more : List ℕ)
+    → ((w : Word) → left (expr_tree e) r w ≡ left (expr_tree e) (first_part old) (l ∷ w)) →
     AreStepped l (expr_trees es) (behind_part old) more → AreStepped l (expr_trees (e ∷ es)) old ((length r ∷ r) ++ more)
 rest_more l e es old r more steps rest w =
     rw (take-append_seam r more, drop-append_seam r more, parts_front (length (lefts (expr_trees es))) old, steps w, rest w) refl
 
-pub either_steps : (l : HalfStep) (es : Exprs) (old new : List ℕ) → AreStepped l es old new → (w : Word) → top_left Either (languages es) (lefts es) new w ≡ top_left Either (languages es) (lefts es) old (l ∷ w)
+pub either_steps : (l : HalfStep) (es : Exprs) (old new : List ℕ) → AreStepped l es old new → (w : Word)
+    → top_left Either (languages es) (lefts es) new w ≡ top_left Either (languages es) (lefts es) old (l ∷ w)
 either_steps l es old new steps w = rw (steps w) refl
 
-pub both_step : (l : HalfStep) (es : Exprs) (old new : List ℕ) → AreStepped l es old new → (w : Word) → top_left Both (languages es) (lefts es) new w ≡ top_left Both (languages es) (lefts es) old (l ∷ w)
+pub both_step : (l : HalfStep) (es : Exprs) (old new : List ℕ) → AreStepped l es old new → (w : Word)
+    → top_left Both (languages es) (lefts es) new w ≡ top_left Both (languages es) (lefts es) old (l ∷ w)
 both_step l es old new steps w = rw (steps w) refl
 
 -- a repetition

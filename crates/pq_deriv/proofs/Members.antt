@@ -1,5 +1,6 @@
 -- Members that a set has twice.
-use Rattle.std.proofs.Common.{Equal, ◌≡◌, ℕ, zero, suc, Bool, true, false, ◌||◌, ◌<◌, List, [], ◌∷◌, length, map, get_or, take, drop, ◌++◌, refl, sym, ap, ◌∙◌, arith}
+use Rattle.std.proofs.Common.{Equal, ◌≡◌, ℕ, zero, suc, Bool, true, false, ◌||◌, ◌<◌, List, [], ◌∷◌, length, map, get_or, take, drop, ◌++◌}
+use Rattle.std.proofs.Common.{refl, sym, ap, ◌∙◌, arith}
 use Rattle.std.specs.List.{list_any}
 use Rattle.pq_expr.specs.Word.{Word}
 use Rattle.pq_expr.specs.Language.{Language, joined}
@@ -24,7 +25,8 @@ later true false c h = refl
 later false b c h = h
 
 -- a member that the set has already tells no test anything
-pub had : {V : Type 0} (items : V → List ℕ) (t : List ℕ → Bool) (r : List ℕ) (vs : List V) (i : ℕ) → i < length vs → ((d : V) → slice_cmp nat_cmp (items (get_or vs i d)) r ≡ Equal) →
+pub had : {V : Type 0} (items : V → List ℕ) (t : List ℕ → Bool) (r : List ℕ) (vs : List V) (i : ℕ) → i < length vs
+    → ((d : V) → slice_cmp nat_cmp (items (get_or vs i d)) r ≡ Equal) →
     list_any t (map items vs) ≡ (t r || list_any t (map items vs))
 had items t r [] i within equal = absurd (omega (arith, within))
 had items t r (v ∷ vs) zero within equal = let same = same_lists (items v) r (equal v) in rw same (twice (t r) (list_any t (map items vs)))
@@ -34,11 +36,12 @@ had items t r (v ∷ vs) (suc i) within equal = later (t (items v)) (t r) (list_
 pub put_in : {V : Type 0} (items : V → List ℕ) (t : List ℕ → Bool) (v : V) (before behind : List V) →
     list_any t (map items (before ++ (v ∷ behind))) ≡ (t (items v) || list_any t (map items (before ++ behind)))
 put_in items t v [] behind = refl
-put_in items t v (u ∷ before) behind = rw (put_in items t v before behind) (swapped (t (items u)) (t (items v)) (list_any t (map items (before ++ behind)))) where
-  swapped : (a b c : Bool) → (a || (b || c)) ≡ (b || (a || c))
-  swapped true true c = refl
-  swapped true false c = refl
-  swapped false b c = refl
+put_in items t v (u ∷ before) behind =
+    rw (put_in items t v before behind) (swapped (t (items u)) (t (items v)) (list_any t (map items (before ++ behind)))) where
+      swapped : (a b c : Bool) → (a || (b || c)) ≡ (b || (a || c))
+      swapped true true c = refl
+      swapped true false c = refl
+      swapped false b c = refl
 
 pub inserted : {V : Type 0} (items : V → List ℕ) (t : List ℕ → Bool) (v : V) (vs : List V) (i : ℕ) →
     list_any t (map items (take i vs ++ (v ∷ drop i vs))) ≡ (t (items v) || list_any t (map items vs))

@@ -10,7 +10,8 @@ use Rattle.std.proofs.lemmas.List.Sums.{sum_by-cons}
 use Rattle.std.proofs.lemmas.Map.Made.{length-le_from_is_member}
 use Rattle.std.proofs.lemmas.Nat.{mul-le, pow-add}
 use Rattle.std.proofs.Math.Nat.{pow-le-pow_right, pow-succ'}
-use Rattle.pq_expr.specs.Expr.{ExprTop, NoWord, EmptyWord, Enters, Leaves, InTurn, Either, Both, Other, Repeated, Exprs, none, put, ExprTree, HasOperands, AreLawful, IsLawful}
+use Rattle.pq_expr.specs.Expr.{ExprTop, NoWord, EmptyWord, Enters, Leaves, InTurn, Either, Both, Other, Repeated, Exprs, none, put}
+use Rattle.pq_expr.specs.Expr.{ExprTree, HasOperands, AreLawful, IsLawful}
 use Rattle.pq_deriv.specs.Parts.{spelled, set_of, packed}
 use Rattle.pq_deriv.specs.Choices.{IsOneOf, choices, sublists}
 use Rattle.pq_deriv.specs.Most.{product, first_number, top_most, mosts, most}
@@ -38,7 +39,8 @@ count_ascending (r ∷ U) = omega (arith, count_ascending U, count_inserted (sli
 pub one_set : (U set : List (List ℕ)) → AreMembers U set → IsOneOf (sets U) (set_of set)
 one_set U set members =
     one_changed set_of (sublists (ascending U)) set
-    (one_sublist (slice_cmp nat_cmp) nat_list_cmp_total (ascending U) set (ascends U) members.0 (for_all (IsOneOf U) (IsOneOf (ascending U)) set (one_ascending U) members.1))
+    (one_sublist (slice_cmp nat_cmp) nat_list_cmp_total (ascending U) set (ascends U) members.0
+    (for_all (IsOneOf U) (IsOneOf (ascending U)) set (one_ascending U) members.1))
 
 count_sets : (U : List (List ℕ)) (n : ℕ) → length U ≤ n → length (sets U) ≤ 2 ^ n
 count_sets U n few =
@@ -84,7 +86,8 @@ count_repeated Us ns few =
     let fresh = length-map all (λ (set : List ℕ). 1 ∷ set) in
     omega (arith, both, begun, fresh, count_sets (first_rests Us) (first_number ns) (count_first Us ns few), pow-succ' 2 (first_number ns))
 
-count_top : (top : ExprTop) (below : Exprs) (ns : List ℕ) → HasOperands top below → AreFew (rests below) ns → length (top_rests top (rests below)) ≤ top_most top ns
+count_top : (top : ExprTop) (below : Exprs) (ns : List ℕ) → HasOperands top below → AreFew (rests below) ns
+    → length (top_rests top (rests below)) ≤ top_most top ns
 count_top NoWord below ns some few = omega arith
 count_top EmptyWord below ns some few = omega arith
 count_top (Enters p) below ns some few = omega arith
@@ -109,11 +112,15 @@ count_rests e lawful = (count_each (put e.top e.below none) lawful).0
 -- elements that are found
 found : (P : List ℕ → Type 0) (rs : List (List ℕ)) (r : List ℕ) → AllByRecursion P rs → list_any (pointwise nat_eq r) rs ≡ true → P r
 found P [] r all is = absurd (search (is, rules))
-found P (s ∷ rs) r all is = elim (or_cases (pointwise nat_eq r s) (list_any (pointwise nat_eq r) rs) is) [ inl same ↦ subst P (sym (same_text r s (sym same))) all.0 | inr later ↦ found P rs r all.1 later ]
+found P (s ∷ rs) r all is = elim (or_cases (pointwise nat_eq r s) (list_any (pointwise nat_eq r) rs) is) [
+  | inl same ↦ subst P (sym (same_text r s (sym same))) all.0
+  | inr later ↦ found P rs r all.1 later
+]
 
 pub finds : (rs : List (List ℕ)) (r : List ℕ) → IsOneOf rs r → list_any (pointwise nat_eq r) rs ≡ true
 finds [] r one = absurd one
-finds (s ∷ rs) r (inl is) = or_left (pointwise nat_eq r s) (list_any (pointwise nat_eq r) rs) (subst (λ (z : List ℕ). pointwise nat_eq r z ≡ true) (sym is) (nat_list_eq_equiv.refl r))
+finds (s ∷ rs) r (inl is) = or_left (pointwise nat_eq r s) (list_any (pointwise nat_eq r) rs)
+    (subst (λ (z : List ℕ). pointwise nat_eq r z ≡ true) (sym is) (nat_list_eq_equiv.refl r))
 finds (s ∷ rs) r (inr one) = or_right (pointwise nat_eq r s) (list_any (pointwise nat_eq r) rs) (finds rs r one)
 
 -- so rests of which no two are equal are at most so many

@@ -1,5 +1,6 @@
 -- Numbers that are rests: in parts, and with sets.
-use Rattle.std.proofs.Common.{◌≡◌, ◌==◌, true, false, rules, ℕ, zero, suc, ◌<◌, ◌≤◌, ◌+◌, ◌-◌, inl, inr, List, [], ◌∷◌, ◌++◌, length, map, drop, get_or, arith, refl, subst}
+use Rattle.std.proofs.Common.{◌≡◌, ◌==◌, true, false, rules, ℕ, zero, suc, ◌<◌, ◌≤◌, ◌+◌, ◌-◌, inl, inr, List, [], ◌∷◌, ◌++◌, length, map}
+use Rattle.std.proofs.Common.{drop, get_or, arith, refl, subst}
 use Rattle.std.proofs.lemmas.List.{append-nil, drop-drop, length-drop}
 use Rattle.std.specs.List.Sorted.{IsStrictlySortedBy}
 use Rattle.pq_expr.specs.declared.expr.Expr.{Expr}
@@ -21,10 +22,12 @@ from_changed f (x ∷ xs) y (inr one) = let later = from_changed f xs y one in (
 pub no_part : IsOneOf (in_parts []) []
 no_part = inl refl
 
-pub part_more : (U : List (List ℕ)) (Us : List (List (List ℕ))) (r more : List ℕ) → IsOneOf U r → IsOneOf (in_parts Us) more → IsOneOf (in_parts (U ∷ Us)) ((length r ∷ r) ++ more)
+pub part_more : (U : List (List ℕ)) (Us : List (List (List ℕ))) (r more : List ℕ) → IsOneOf U r → IsOneOf (in_parts Us) more
+    → IsOneOf (in_parts (U ∷ Us)) ((length r ∷ r) ++ more)
 part_more U Us r more one others =
     let c = from_changed spelled (choices Us) more others in
-    subst (λ (z : List ℕ). IsOneOf (in_parts (U ∷ Us)) ((length r ∷ r) ++ z)) c.2 (one_changed spelled (choices (U ∷ Us)) (r ∷ c.0) (one_chosen U (choices Us) r c.0 one c.1))
+    subst (λ (z : List ℕ). IsOneOf (in_parts (U ∷ Us)) ((length r ∷ r) ++ z)) c.2
+    (one_changed spelled (choices (U ∷ Us)) (r ∷ c.0) (one_chosen U (choices Us) r c.0 one c.1))
 
 -- sets without members, and with one
 pub no_members : (U : List (List ℕ)) → AreMembers U []
@@ -39,17 +42,21 @@ one_member U r one = ((tt, tt), (one, tt))
 pub no_set : IsOneOf (in_sets []) []
 no_set = inl refl
 
-pub set_more : (U : List (List ℕ)) (Us : List (List (List ℕ))) (r more : List ℕ) → IsOneOf U r → IsOneOf (in_sets Us) more → IsOneOf (in_sets (U ∷ Us)) (set_before r more)
+pub set_more : (U : List (List ℕ)) (Us : List (List (List ℕ))) (r more : List ℕ) → IsOneOf U r → IsOneOf (in_sets Us) more
+    → IsOneOf (in_sets (U ∷ Us)) (set_before r more)
 set_more U Us r more one others =
     let c = from_changed packed (choices Us) more others in
-    subst (λ (z : List ℕ). IsOneOf (in_sets (U ∷ Us)) (set_before r z)) c.2 (one_changed packed (choices (U ∷ Us)) (r ∷ c.0) (one_chosen U (choices Us) r c.0 one c.1))
+    subst (λ (z : List ℕ). IsOneOf (in_sets (U ∷ Us)) (set_before r z)) c.2
+    (one_changed packed (choices (U ∷ Us)) (r ∷ c.0) (one_chosen U (choices Us) r c.0 one c.1))
 
 none_have : (Us : List (List (List ℕ))) → IsOneOf (in_sets (map sets Us)) []
 none_have [] = no_set
 none_have (U ∷ Us) = set_more (sets U) (map sets Us) [] [] (one_set U [] (no_members U)) (none_have Us)
 
 -- operands whose sets are empty
-pub sets_before : (k : ℕ) (es : List Expr) (more : List ℕ) → k ≤ length es → IsOneOf (in_sets (map sets (rests (expr_trees (drop k es))))) more → IsOneOf (in_sets (map sets (rests (expr_trees es)))) (wide k more)
+pub sets_before : (k : ℕ) (es : List Expr) (more : List ℕ) → k ≤ length es
+    → IsOneOf (in_sets (map sets (rests (expr_trees (drop k es))))) more
+    → IsOneOf (in_sets (map sets (rests (expr_trees es)))) (wide k more)
 sets_before zero es more few one = rw (wide_none more) one
 sets_before (suc k) [] more few one = absurd (omega (arith, few))
 sets_before (suc k) (e ∷ es) more few one =
@@ -65,12 +72,14 @@ idle_before i k empties out es W few before more one =
     subst (λ r. W (out ++ r)) (wide_wide empties k more) (before (wide k more) (sets_before k (drop i es) more (omega (arith, few, length-drop i es)) here))
 
 -- operands of which the first is begun
-pub turn_shaped : (es : List Expr) (e : Expr) (r : List ℕ) → 0 < length es → e ≡ get_or es 0 e → IsRest (expr_tree e) r → IsOneOf (top_rests InTurn (rests (expr_trees es))) (0 ∷ length (1 ∷ length r ∷ r) ∷ 1 ∷ length r ∷ r)
+pub turn_shaped : (es : List Expr) (e : Expr) (r : List ℕ) → 0 < length es → e ≡ get_or es 0 e → IsRest (expr_tree e) r
+    → IsOneOf (top_rests InTurn (rests (expr_trees es))) (0 ∷ length (1 ∷ length r ∷ r) ∷ 1 ∷ length r ∷ r)
 turn_shaped [] e r some is one = absurd (omega (arith, some))
 turn_shaped (x ∷ es) e r some is one =
     let first : IsRest (expr_tree x) r = subst (λ (y : Expr). IsRest (expr_tree y) r) is one in
     let set : IsOneOf (sets (all_rests (expr_tree x))) (1 ∷ length r ∷ r) =
-    subst (λ (z : List ℕ). IsOneOf (sets (all_rests (expr_tree x))) (1 ∷ length r ∷ z)) (append-nil r) (one_set (all_rests (expr_tree x)) (r ∷ []) (one_member (all_rests (expr_tree x)) r first)) in
+    subst (λ (z : List ℕ). IsOneOf (sets (all_rests (expr_tree x))) (1 ∷ length r ∷ z)) (append-nil r)
+    (one_set (all_rests (expr_tree x)) (r ∷ []) (one_member (all_rests (expr_tree x)) r first)) in
     subst (λ (z : List ℕ). IsOneOf (top_rests InTurn (rests (expr_trees (x ∷ es)))) (0 ∷ length (1 ∷ length r ∷ r) ∷ z)) (append-nil (1 ∷ length r ∷ r))
     (set_more (sets (all_rests (expr_tree x))) (map sets (rests (expr_trees es))) (1 ∷ length r ∷ r) [] set (none_have (rests (expr_trees es))))
 
@@ -86,7 +95,8 @@ turn_some (e ∷ es) some = refl
 -- the rests of a repetition
 pub repeated_begun : (Us : List (List (List ℕ))) (r : List ℕ) → IsOneOf (sets (first_rests Us)) r → IsOneOf (top_rests Repeated Us) (0 ∷ r)
 repeated_begun Us r one =
-    one_before (map (λ (set : List ℕ). 0 ∷ set) (sets (first_rests Us))) (map (λ (set : List ℕ). 1 ∷ set) (sets (first_rests Us))) (0 ∷ r) (one_changed (λ (set : List ℕ). 0 ∷ set) (sets (first_rests Us)) r one)
+    one_before (map (λ (set : List ℕ). 0 ∷ set) (sets (first_rests Us))) (map (λ (set : List ℕ). 1 ∷ set) (sets (first_rests Us))) (0 ∷ r)
+    (one_changed (λ (set : List ℕ). 0 ∷ set) (sets (first_rests Us)) r one)
 
 pub repeated_fresh : (Us : List (List (List ℕ))) → IsOneOf (top_rests Repeated Us) (1 ∷ [])
 repeated_fresh Us =

@@ -38,13 +38,17 @@ mixed true false true A J = rw (and-true A, or-true A) refl
 mixed true false false A J = refl
 
 -- a set behind a half step
-pub set_cons : (left : Left) (P : Language) (l : HalfStep) (w : Word) (set : List (List ℕ)) → set_left left P set (l ∷ w) ≡ ((some_ends left set && P (l ∷ w)) || stepped_left l left P set w)
+pub set_cons : (left : Left) (P : Language) (l : HalfStep) (w : Word) (set : List (List ℕ))
+    → set_left left P set (l ∷ w) ≡ ((some_ends left set && P (l ∷ w)) || stepped_left l left P set w)
 set_cons left P l w [] = refl
-set_cons left P l w (r ∷ set) = rw (joined_cons (left r) P l w, set_cons left P l w set) (mixed (P (l ∷ w)) (left r []) (joined (λ v. left r (l ∷ v)) P w) (some_ends left set) (stepped_left l left P set w))
+set_cons left P l w (r ∷ set) =
+    rw (joined_cons (left r) P l w, set_cons left P l w set)
+    (mixed (P (l ∷ w)) (left r []) (joined (λ v. left r (l ∷ v)) P w) (some_ends left set) (stepped_left l left P set w))
 
 -- the first operand's set, and the later ones
 pub turn_front : (P : Language) (Ps : List Language) (left : Left) (lefts : List Left) (n : ℕ) (r : List ℕ) (w : Word) →
-    turn_left (P ∷ Ps) (left ∷ lefts) (spread (suc n) r) w ≡ (set_left left (in_turn Ps) (members (first_set r)) w || turn_left Ps lefts (spread n (behind_set r)) w)
+    turn_left (P ∷ Ps) (left ∷ lefts) (spread (suc n) r) w
+    ≡ (set_left left (in_turn Ps) (members (first_set r)) w || turn_left Ps lefts (spread n (behind_set r)) w)
 turn_front P Ps left lefts n r w = refl
 
 -- a set that operands follow, before the empty word
@@ -56,7 +60,8 @@ ended true true true a u = refl
 
 pub turn_passed : (begins : Bool) (P : Language) (Ps : List Language) (left : Left) (set : List (List ℕ)) (u : Bool) →
     ((((begins && P []) || some_ends left set) && in_turn Ps []) || u) ≡ ((begins && in_turn (P ∷ Ps) []) || (set_left left (in_turn Ps) set [] || u))
-turn_passed begins P Ps left set u = rw (joined_empty P (in_turn Ps), set_ends left (in_turn Ps) set) (ended begins (P []) (in_turn Ps []) (some_ends left set) u)
+turn_passed begins P Ps left set u = rw (joined_empty P (in_turn Ps), set_ends left (in_turn Ps) set)
+    (ended begins (P []) (in_turn Ps []) (some_ends left set) u)
 
 -- a set that operands follow, behind a half step
 juggled : (u s q b j a p : Bool) → ((s || (b && j)) || ((((b && p) || a) && q) || u)) ≡ ((b && ((p && q) || j)) || (((a && q) || s) || u))
@@ -68,7 +73,8 @@ juggled false false true true false a p = simp (or-false, and-true) refl
 juggled false false true false j a p = simp (or-false, and-true) refl
 
 pub turn_stepped : (begins : Bool) (P : Language) (Ps : List Language) (left : Left) (set : List (List ℕ)) (l : HalfStep) (w : Word) (u : Bool) →
-    ((stepped_left l left (in_turn Ps) set w || (begins && joined (λ v. P (l ∷ v)) (in_turn Ps) w)) || ((((begins && P []) || some_ends left set) && in_turn Ps (l ∷ w)) || u))
+    ((stepped_left l left (in_turn Ps) set w || (begins && joined (λ v. P (l ∷ v)) (in_turn Ps) w)) ||
+    ((((begins && P []) || some_ends left set) && in_turn Ps (l ∷ w)) || u))
     ≡ ((begins && in_turn (P ∷ Ps) (l ∷ w)) || (set_left left (in_turn Ps) set (l ∷ w) || u))
 turn_stepped begins P Ps left set l w u =
     rw (joined_cons P (in_turn Ps) l w, set_cons left (in_turn Ps) l w set)

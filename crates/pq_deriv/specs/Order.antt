@@ -3,7 +3,8 @@ use Rattle.std.specs.Prelude.{◌≡◌, ◌++◌, ℕ, Bool, true, List, nat_eq
 use mathlib.Core.Path.{sym, ap₂}
 use Rattle.std.specs.Hash as fed
 use Rattle.std.specs.Ordering.{on, eq_of_both, then_cmp, is_eq, nat_cmp}
-use Rattle.std.specs.Cmp.{IsPartialEquivalence, IsEquivalence, IsTotalOrder, and_per, and_equiv, on_per, on_equiv, on_total, then_total, both_tied, first_so, second_so, partial_equiv_from_equiv}
+use Rattle.std.specs.Cmp.{IsPartialEquivalence, IsEquivalence, IsTotalOrder, and_per, and_equiv, on_per, on_equiv, on_total, then_total}
+use Rattle.std.specs.Cmp.{both_tied, first_so, second_so, partial_equiv_from_equiv}
 use Rattle.std.specs.Cmp.Lexicographic.{pointwise, slice_cmp, nat_list_eq_equiv, nat_list_cmp_total, texts_ties, same_text}
 use Rattle.std.specs.declared.cmp.Ordering.{Ordering}
 use Rattle.pq_expr.specs.declared.expr.Expr.{Expr}
@@ -49,7 +50,8 @@ state_total = then_total (on_total (λ s. s.expr) order.Laws.total-law) (on_tota
 
 -- equal states are those between which the order tells nothing
 pub state_ties : (a b : StateValue) → state_eq a b ≡ is_eq (state_cmp a b)
-state_ties a b = both_tied (expr_eq a.expr b.expr) (pointwise nat_eq a.rest b.rest) (expr_cmp a.expr b.expr) (slice_cmp nat_cmp a.rest b.rest) (order.Laws.matches_eq-law a.expr b.expr) (texts_ties a.rest b.rest)
+state_ties a b = both_tied (expr_eq a.expr b.expr) (pointwise nat_eq a.rest b.rest) (expr_cmp a.expr b.expr)
+    (slice_cmp nat_cmp a.rest b.rest) (order.Laws.matches_eq-law a.expr b.expr) (texts_ties a.rest b.rest)
 
 -- equal states have one rest
 pub state_rests : (a b : StateValue) → state_eq a b ≡ true → a.rest ≡ b.rest
@@ -61,4 +63,7 @@ same_state a b expr same = ap₂ (λ e r. record { expr = e; rest = r }) expr (s
 
 -- equal states write the same
 pub state_hashes : (a b : StateValue) → state_eq a b ≡ true → state_hash a ≡ state_hash b
-state_hashes a b same = ap₂ (λ h r. h ++ fed.slice fed.u64 r) (hashes.Laws.respects_eq-law a.expr b.expr (first_so (expr_eq a.expr b.expr) (pointwise nat_eq a.rest b.rest) same)) (state_rests a b same)
+state_hashes a b same =
+    ap₂ (λ h r. h ++ fed.slice fed.u64 r)
+    (hashes.Laws.respects_eq-law a.expr b.expr (first_so (expr_eq a.expr b.expr) (pointwise nat_eq a.rest b.rest) same))
+    (state_rests a b same)

@@ -17,7 +17,8 @@ stepped_left l left P set w = list_any (λ r. joined (λ v. left r (l ∷ v)) P 
 
 -- the new set has the members after the half step, and the begun one where one begins
 abbrev pub IsSetStepped : HalfStep → ExprTree → Bool → List (List ℕ) → List (List ℕ) → Type 0
-IsSetStepped l e begins old new = (P : Language) (w : Word) → set_left (left e) P new w ≡ (stepped_left l (left e) P old w || (begins && joined (λ v. holds e (l ∷ v)) P w))
+IsSetStepped l e begins old new = (P : Language) (w : Word)
+    → set_left (left e) P new w ≡ (stepped_left l (left e) P old w || (begins && joined (λ v. holds e (l ∷ v)) P w))
 
 -- each part is a rest that accepts what its expression holds
 abbrev pub AreStarts : Exprs → List ℕ → Type 0

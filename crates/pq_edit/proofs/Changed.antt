@@ -32,7 +32,8 @@ module _ {A : Type 0} where
   names_kept p [] among = absurd cc
   names_kept p (n ∷ ns) among = by (bytes_eq n.0 p.0) refl (names_kept p ns)
     where
-      by : (b : Bool) → bytes_eq n.0 p.0 ≡ b → (is_among p.0 (names_in ns) ≡ true → names_in (put p ns) ≡ names_in ns) → names_in (if b then p ∷ ns else n ∷ put p ns) ≡ n.0 ∷ names_in ns
+      by : (b : Bool) → bytes_eq n.0 p.0 ≡ b → (is_among p.0 (names_in ns) ≡ true → names_in (put p ns) ≡ names_in ns)
+          → names_in (if b then p ∷ ns else n ∷ put p ns) ≡ n.0 ∷ names_in ns
       by true same more = ap (λ name. name ∷ names_in ns) (sym ((bytes_eq-Decides n.0 p.0).0 same))
       by false other more = ap (λ names. n.0 ∷ names) (more (second (bytes_eq p.0 n.0) (is_among p.0 (names_in ns)) among (turned n.0 p.0 false other)))
 
@@ -65,7 +66,8 @@ module _ {A : Type 0} where
       by false more = All-cons P n (without name ns) (All-head P n ns all) more
 
   -- its names are some of them
-  pub names_without : (P : List ℕ → Type 0) (name : List ℕ) (ns : List (Named A)) → AllByRecursion P (names_in ns) → AllByRecursion P (names_in (without name ns))
+  pub names_without : (P : List ℕ → Type 0) (name : List ℕ) (ns : List (Named A)) → AllByRecursion P (names_in ns)
+      → AllByRecursion P (names_in (without name ns))
   names_without P name [] all = tt
   names_without P name (n ∷ ns) all = by (bytes_eq n.0 name) (names_without P name ns all.1)
     where
@@ -83,7 +85,8 @@ module _ {A : Type 0} where
 
       by : (b : Bool) → IsDistinct bytes_eq (names_in (without name ns)) → IsDistinct bytes_eq (names_in (if b then ns else n ∷ without name ns))
       by true more = rest
-      by false more = IsDistinct-cons bytes_eq n.0 (names_in (without name ns)) (names_without (λ other. bytes_eq n.0 other ≡ false) name ns (IsDistinct-head bytes_eq n.0 (names_in ns) differ)) more
+      by false more = IsDistinct-cons bytes_eq n.0 (names_in (without name ns))
+          (names_without (λ other. bytes_eq n.0 other ≡ false) name ns (IsDistinct-head bytes_eq n.0 (names_in ns) differ)) more
 
   -- there are no more than before
   pub without_few : (name : List ℕ) (ns : List (Named A)) → length (without name ns) ≤ length ns

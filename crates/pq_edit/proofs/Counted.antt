@@ -23,7 +23,8 @@ use Rattle.pq_edit.specs.Reading.{keyword_at, put_of, put_under}
 
 module _ (T : Topology) (bytes : List ℕ) where
   -- what is put under a name has at most as many atoms as its tree has nodes
-  under_few : (names : List (List ℕ)) (keyword t : Token) (body : Tree) (text : List ℕ) (q : Named QueryTree) → put_under 256 (query_of T bytes) names keyword t body (name_in text) ≡ Ok q
+  under_few : (names : List (List ℕ)) (keyword t : Token) (body : Tree) (text : List ℕ) (q : Named QueryTree)
+      → put_under 256 (query_of T bytes) names keyword t body (name_in text) ≡ Ok q
       → query_atoms q.1 ≤ suc (nodes body.below)
   under_few names keyword t body text q e = by (is_name text) e
     where
@@ -35,7 +36,8 @@ module _ (T : Topology) (bytes : List ℕ) where
           subst (λ (q : Named QueryTree). query_atoms q.1 ≤ suc (nodes body.below)) same (query_few T bytes body valued.0 valued.1)
       by false e = absurd cc
 
-  statement_few : (names : List (List ℕ)) (keyword : Token) (below : Forest) (q : Named QueryTree) → put_of bytes 256 (query_of T bytes) names keyword below ≡ Ok q → query_atoms q.1 ≤ nodes below
+  statement_few : (names : List (List ℕ)) (keyword : Token) (below : Forest) (q : Named QueryTree)
+      → put_of bytes 256 (query_of T bytes) names keyword below ≡ Ok q → query_atoms q.1 ≤ nodes below
   statement_few names keyword nothing q e = absurd cc
   statement_few names keyword (grown name x nothing) q e = absurd cc
   statement_few names keyword (grown name x (grown head below rest)) q e =
@@ -43,7 +45,8 @@ module _ (T : Topology) (bytes : List ℕ) where
       omega (arith, few)
 
   -- so a query that is put has fewer atoms than its text has bytes
-  pub put_few : (sort : Sort) (names : List (List ℕ)) (keyword : Token) (below rest : Forest) (q : Named QueryTree) → IsForestOf sort bytes (grown keyword below rest)
+  pub put_few : (sort : Sort) (names : List (List ℕ)) (keyword : Token) (below rest : Forest) (q : Named QueryTree)
+      → IsForestOf sort bytes (grown keyword below rest)
       → put_of bytes 256 (query_of T bytes) names keyword below ≡ Ok q → query_atoms q.1 < length bytes
   put_few sort names keyword below rest q is e =
       let trees : nodes (grown keyword below rest) ≤ tokens_in is.marks = subst (λ f. nodes f ≤ tokens_in is.marks) (sym is.grown) (forest_size is.marks) in

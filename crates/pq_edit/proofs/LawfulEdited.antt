@@ -41,7 +41,8 @@ module _ {A : Type 0} where
   -- a fact of all bodies is one of all that is named
   of_named : (P : A → Type 0) (ns : List (Named A)) → All P (map (λ n. n.1) ns) → All (λ (n : Named A). P n.1) ns
   of_named P [] all = All-nil (λ (n : Named A). P n.1)
-  of_named P (n ∷ ns) all = All-cons (λ (n : Named A). P n.1) n ns (All-head P n.1 (map (λ n. n.1) ns) all) (of_named P ns (All-tail P n.1 (map (λ n. n.1) ns) all))
+  of_named P (n ∷ ns) all = All-cons (λ (n : Named A). P n.1) n ns (All-head P n.1 (map (λ n. n.1) ns) all)
+      (of_named P ns (All-tail P n.1 (map (λ n. n.1) ns) all))
 
 -- the query has fewer than 2^19 atoms
 abbrev HasFewAtoms : Named QueryTree → Type 0

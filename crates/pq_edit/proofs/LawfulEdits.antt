@@ -28,7 +28,8 @@ use Rattle.pq_compile.specs.Documents.{DocumentTree}
 use Rattle.pq_compile.specs.Lawful.{IsLawfulDocument, names_in}
 use Rattle.pq_compile.specs.Names.{Named}
 use Rattle.pq_edit.specs.Edits.{EditTree, PartPut, PartRemoved, QueryPut, QueryRemoved, IsLawfulEdit, IsLawfulPart, IsLawfulNamedQuery, put}
-use Rattle.pq_edit.specs.Reading.{is_among, keyword_at, put_of, put_part, put_query, put_under, remove_part, remove_query, removed_name, removed_of, removal_at, removal_of, statement_of, edit_of}
+use Rattle.pq_edit.specs.Reading.{is_among, keyword_at, put_of, put_part, put_query, put_under, remove_part, remove_query, removed_name}
+use Rattle.pq_edit.specs.Reading.{removed_of, removal_at, removal_of, statement_of, edit_of}
 use Rattle.pq_edit.proofs.Counted.{put_few}
 use Rattle.pq_edit.proofs.Changed.{names_kept, names_long, names_more}
 
@@ -48,13 +49,15 @@ module _ {A : Type 0} (bytes : List ℕ) (most : ℕ) (read : Tree → Reading A
     pub body : Tree
     pub is_read : read body ≡ Ok p.1
 
-  under_put : (keyword t : Token) (body : Tree) (text : List ℕ) (p : Named A) → put_under most read (names_in earlier) keyword t body (name_in text) ≡ Ok p → IsPut p
+  under_put : (keyword t : Token) (body : Tree) (text : List ℕ) (p : Named A)
+      → put_under most read (names_in earlier) keyword t body (name_in text) ≡ Ok p → IsPut p
   under_put keyword t body text p e = by (is_name text) refl e
     where
       by : (b : Bool) → is_name text ≡ b → put_under most read (names_in earlier) keyword t body (if b then Some text else None) ≡ Ok p → IsPut p
       by true is e =
           let begun = next_ok (keyword_at most (names_in earlier) keyword text) (λ _. next (read body) (λ value. Ok (text, value))) p e in
-          let room = unless_ok keyword ((nat_le most (length (names_in earlier)) && not (is_among text (names_in earlier)), Many) ∷ []) keyword begun.0 begun.1 in
+          let room = unless_ok keyword ((nat_le most (length (names_in earlier)) && not (is_among text (names_in earlier)), Many) ∷ [])
+          keyword begun.0 begun.1 in
           let valued = next_ok (read body) (λ value. Ok (text, value)) p begun.2 in
           let same : (text, valued.0) ≡ p = cc in
           subst IsPut same (record { name = is; room = room.0.0; body = body; is_read = valued.1 })
@@ -76,15 +79,18 @@ module _ {A : Type 0} (bytes : List ℕ) (most : ℕ) (read : Tree → Reading A
       before = names_long earlier
 
       by : (b : Bool) → is_among p.0 (names_in earlier) ≡ b → length (put p earlier) ≤ most
-      by true among = let kept : length (names_in (put p earlier)) ≡ length (names_in earlier) = ap length (names_kept p earlier among) in omega (arith, kept, long, before, few)
+      by true among = let kept : length (names_in (put p earlier)) ≡ length (names_in earlier) = ap length (names_kept p earlier among) in
+          omega (arith, kept, long, before, few)
       by false new =
-          let more : length (names_in (put p earlier)) ≡ length (names_in earlier) + 1 = ap length (names_more p earlier new) ∙ length-append (names_in earlier) (p.0 ∷ []) in
+          let more : length (names_in (put p earlier)) ≡ length (names_in earlier) + 1 = ap length (names_more p earlier new)
+          ∙ length-append (names_in earlier) (p.0 ∷ []) in
           let full = only (nat_le most (length (names_in earlier))) (is_among p.0 (names_in earlier)) is.room new in
           grind (arith, nat_tests, full, more, long, before)
 
 -- What is removed.
 
-name_is : (kind : NameKind) (names : List (List ℕ)) (t : Token) (text name : List ℕ) → removed_name kind names t (name_in text) ≡ Ok name → IsTrue (is_among name names)
+name_is : (kind : NameKind) (names : List (List ℕ)) (t : Token) (text name : List ℕ) → removed_name kind names t (name_in text) ≡ Ok name
+    → IsTrue (is_among name names)
 name_is kind names t text name e = by (is_name text) e
   where
     opposite : (b : Bool) → not b ≡ false → b ≡ true
@@ -97,7 +103,8 @@ name_is kind names t text name e = by (is_name text) e
         subst (λ name. IsTrue (is_among name names)) told.1 (opposite (is_among text names) told.0.0)
     by false e = absurd cc
 
-removed_is : (bytes : List ℕ) (kind : NameKind) (names : List (List ℕ)) (keyword : Token) (below : Forest) (name : List ℕ) → removed_of bytes kind names keyword below ≡ Ok name
+removed_is : (bytes : List ℕ) (kind : NameKind) (names : List (List ℕ)) (keyword : Token) (below : Forest) (name : List ℕ)
+    → removed_of bytes kind names keyword below ≡ Ok name
     → IsTrue (is_among name names)
 removed_is bytes kind names keyword nothing name e = absurd cc
 removed_is bytes kind names keyword (grown t x rest) name e = name_is kind names t (text_in bytes t) name e
@@ -112,7 +119,8 @@ pub record AreReadLawful : Type 0 where
   pub named_query : (T : Topology) (bytes : List ℕ) (t : Tree) (q : QueryTree) → query_of T bytes t ≡ Ok q → IsQueryOver (MayStand T) q
 
 module _ (laws : AreReadLawful) (d : DocumentTree) (lawful : IsLawfulDocument d) (bytes : List ℕ) where
-  part_lawful : (keyword : Token) (below : Forest) (p : Named PolicyTree) → put_of bytes 1024 (policy_of d.topology bytes) (names_in d.parts) keyword below ≡ Ok p → IsLawfulPart d p
+  part_lawful : (keyword : Token) (below : Forest) (p : Named PolicyTree)
+      → put_of bytes 1024 (policy_of d.topology bytes) (names_in d.parts) keyword below ≡ Ok p → IsLawfulPart d p
   part_lawful keyword below p e =
       let is = put_is bytes 1024 (policy_of d.topology bytes) d.parts keyword below p e in
       record {
@@ -122,7 +130,8 @@ module _ (laws : AreReadLawful) (d : DocumentTree) (lawful : IsLawfulDocument d)
         few = put_fits bytes 1024 (policy_of d.topology bytes) d.parts p is lawful.few_parts;
       }
 
-  query_lawful : (keyword : Token) (below : Forest) (q : Named QueryTree) → put_of bytes 256 (query_of d.topology bytes) (names_in d.queries) keyword below ≡ Ok q → query_atoms q.1 < 524288
+  query_lawful : (keyword : Token) (below : Forest) (q : Named QueryTree)
+      → put_of bytes 256 (query_of d.topology bytes) (names_in d.queries) keyword below ≡ Ok q → query_atoms q.1 < 524288
       → IsLawfulNamedQuery d q
   query_lawful keyword below q e few =
       let is = put_is bytes 256 (query_of d.topology bytes) d.queries keyword below q e in
@@ -137,7 +146,8 @@ module _ (laws : AreReadLawful) (d : DocumentTree) (lawful : IsLawfulDocument d)
   removal_lawful : (keyword : Token) (below : Forest) (e : EditTree) → removal_at d bytes keyword below ≡ Ok e → IsLawfulEdit d e
   removal_lawful keyword below e read = by (begins_with bytes PartWord keyword) (begins_with bytes QueryWord keyword) read
     where
-      by : (a b : Bool) → (if a then remove_part d bytes keyword below else if b then remove_query d bytes keyword below else faulty keyword BadValue) ≡ Ok e → IsLawfulEdit d e
+      by : (a b : Bool) → (if a then remove_part d bytes keyword below else if b then remove_query d bytes keyword below else faulty keyword
+          BadValue) ≡ Ok e → IsLawfulEdit d e
       by true b read =
           let told = next_ok (removed_of bytes UnknownPart (names_in d.parts) keyword below) (λ name. Ok (PartRemoved name)) e read in
           let same : PartRemoved told.0 ≡ e = cc in
@@ -154,10 +164,12 @@ module _ (laws : AreReadLawful) (d : DocumentTree) (lawful : IsLawfulDocument d)
 
   statement_lawful : (keyword : Token) (below rest : Forest) (e : EditTree) → IsForestOf EditSort bytes (grown keyword below rest) → length bytes ≤ 524288
       → statement_of d bytes keyword below ≡ Ok e → IsLawfulEdit d e
-  statement_lawful keyword below rest e is short read = by (begins_with bytes PartWord keyword) (begins_with bytes QueryWord keyword) (begins_with bytes RemoveWord keyword) read
+  statement_lawful keyword below rest e is short read = by (begins_with bytes PartWord keyword) (begins_with bytes QueryWord keyword)
+      (begins_with bytes RemoveWord keyword) read
     where
       by : (a b c : Bool)
-          → (if a then put_part d bytes keyword below else if b then put_query d bytes keyword below else if c then removal_of d bytes keyword below else faulty keyword BadValue) ≡ Ok e
+          → (if a then put_part d bytes keyword below else if b then put_query d bytes keyword below else if c then removal_of d bytes
+          keyword below else faulty keyword BadValue) ≡ Ok e
           → IsLawfulEdit d e
       by true b c read =
           let told = next_ok (put_of bytes 1024 (policy_of d.topology bytes) (names_in d.parts) keyword below) (λ p. Ok (PartPut p)) e read in
@@ -172,7 +184,8 @@ module _ (laws : AreReadLawful) (d : DocumentTree) (lawful : IsLawfulDocument d)
       by false false false read = absurd cc
 
 -- an edit that a text spells of a lawful document is lawful
-pub edit_lawful : AreReadLawful → (d : DocumentTree) → IsLawfulDocument d → (bytes : List ℕ) (f : Forest) (e : EditTree) → IsForestOf EditSort bytes f → length bytes ≤ 524288
+pub edit_lawful : AreReadLawful → (d : DocumentTree) → IsLawfulDocument d → (bytes : List ℕ) (f : Forest) (e : EditTree)
+    → IsForestOf EditSort bytes f → length bytes ≤ 524288
     → edit_of d bytes f ≡ Ok e → IsLawfulEdit d e
 edit_lawful laws d lawful bytes nothing e is short read = absurd cc
 edit_lawful laws d lawful bytes (grown keyword below rest) e is short read = statement_lawful laws d lawful bytes keyword below rest e is short read

@@ -28,12 +28,14 @@ query_names [] = refl
 query_names (q ∷ qs) = ap (λ names. q.0 ∷ names) (query_names qs)
 
 -- two children are a name and a body
-pub put_two : {A : Type 0} (bytes : List ℕ) (most : ℕ) (read : Tree → Reading A) (names : List (List ℕ)) (keyword : Token) (ts : List Term) (d : Term) → 2 ≤ length ts
+pub put_two : {A : Type 0} (bytes : List ℕ) (most : ℕ) (read : Tree → Reading A) (names : List (List ℕ)) (keyword : Token) (ts : List Term)
+    (d : Term) → 2 ≤ length ts
     → put_of bytes most read names keyword (trees ts) ≡ put_under most read names keyword (out-Term (get_or ts 0 d)).head
     (tree (get_or ts 1 d)) (name_in (text_in bytes (out-Term (get_or ts 0 d)).head))
 put_two bytes most read names keyword [] d long = absurd (omega (arith, long))
 put_two bytes most read names keyword (x ∷ []) d long = absurd (omega (arith, long))
-put_two bytes most read names keyword (x ∷ y ∷ zs) d long = ap (λ (t : Tree). put_under most read names keyword t.head (tree y) (name_in (text_in bytes t.head))) (tree_out x)
+put_two bytes most read names keyword (x ∷ y ∷ zs) d long =
+    ap (λ (t : Tree). put_under most read names keyword t.head (tree y) (name_in (text_in bytes t.head))) (tree_out x)
 
 -- fewer children are none
 pub put_few : {A : Type 0} (bytes : List ℕ) (most : ℕ) (read : Tree → Reading A) (names : List (List ℕ)) (keyword : Token) (ts : List Term) → length ts < 2
@@ -44,7 +46,8 @@ put_few bytes most read names keyword (x ∷ y ∷ zs) short = absurd (omega (ar
 
 -- the first child is the name of what is removed
 pub removed_one : (bytes : List ℕ) (kind : NameKind) (names : List (List ℕ)) (keyword : Token) (ts : List Term) (d : Term) → 1 ≤ length ts
-    → removed_of bytes kind names keyword (trees ts) ≡ removed_name kind names (out-Term (get_or ts 0 d)).head (name_in (text_in bytes (out-Term (get_or ts 0 d)).head))
+    → removed_of bytes kind names keyword (trees ts) ≡ removed_name kind names (out-Term (get_or ts 0 d)).head
+    (name_in (text_in bytes (out-Term (get_or ts 0 d)).head))
 removed_one bytes kind names keyword [] d long = absurd (omega (arith, long))
 removed_one bytes kind names keyword (x ∷ xs) d long = ap (λ (t : Tree). removed_name kind names t.head (name_in (text_in bytes t.head))) (tree_out x)
 

@@ -41,7 +41,8 @@ put_under most read names keyword t body (Some name) =
 abbrev pub put_of : {A : Type 0} → List ℕ → ℕ → (Tree → Reading A) → List (List ℕ) → Token → Forest → Reading (Named A)
 put_of bytes most read names keyword nothing = faulty keyword BadValue
 put_of bytes most read names keyword (grown name x nothing) = faulty keyword BadValue
-put_of bytes most read names keyword (grown name x (grown head below rest)) = put_under most read names keyword name (record { head = head; below = below }) (name_in (text_in bytes name))
+put_of bytes most read names keyword (grown name x (grown head below rest)) =
+    put_under most read names keyword name (record { head = head; below = below }) (name_in (text_in bytes name))
 
 -- the name of what is removed, which is one of these; what is no name stands in no sentence
 abbrev pub removed_name : NameKind → List (List ℕ) → Token → Option (List ℕ) → Reading (List ℕ)

@@ -29,7 +29,8 @@ messages_each T g writes (s ∷ ss) (t ∷ ts) (m ∷ ms) trees filled = (
   messages_each T g writes ss ts ms trees.1 filled.1,
 )
 
-pub all_filled : (T : Topology) (g : Tagging) (writes : Departures) (ts : List TablesTrees) (ms : List (List Message)) → AreAllTrees T g writes ts → AllZip IsFilledBy ts ms
+pub all_filled : (T : Topology) (g : Tagging) (writes : Departures) (ts : List TablesTrees) (ms : List (List Message))
+    → AreAllTrees T g writes ts → AllZip IsFilledBy ts ms
     → AllZip (λ s m. (a : AreMessages T g writes s.datapath m) × AreFilled a.first a.second) T.switches ms
 all_filled T g writes ts ms trees filled = messages_each T g writes T.switches ts ms trees filled
 
@@ -40,7 +41,8 @@ only_messages T g writes [] (m ∷ ms) all = absurd all
 only_messages T g writes (s ∷ ss) [] all = absurd all
 only_messages T g writes (s ∷ ss) (m ∷ ms) all = (all.0.0, only_messages T g writes ss ms all.1)
 
-pub all_messages_of : (T : Topology) (g : Tagging) (writes : Departures) (ts : List TablesTrees) (ms : List (List Message)) → AreAllTrees T g writes ts → AllZip IsFilledBy ts ms
+pub all_messages_of : (T : Topology) (g : Tagging) (writes : Departures) (ts : List TablesTrees) (ms : List (List Message))
+    → AreAllTrees T g writes ts → AllZip IsFilledBy ts ms
     → AllZip (λ s m. AreMessages T g writes s.datapath m) T.switches ms
 all_messages_of T g writes ts ms trees filled = only_messages T g writes T.switches ms (all_filled T g writes ts ms trees filled)
 
@@ -76,7 +78,8 @@ none_else T g writes ts trees none fault large =
     let same = one_all T g writes large.trees ts large.all trees in
     absurd (none-some fault (sym none ∙ ap (fault_of T.switches) (sym same) ∙ large.first))
 
-pub no_fault : (T : Topology) (g : Tagging) (writes : Departures) (ts : List TablesTrees) → AreAllTrees T g writes ts → fault_of T.switches ts ≡ None → HasNoFault T g writes
+pub no_fault : (T : Topology) (g : Tagging) (writes : Departures) (ts : List TablesTrees) → AreAllTrees T g writes ts
+    → fault_of T.switches ts ≡ None → HasNoFault T g writes
 no_fault T g writes ts trees none (TableFull d k n) large = none_else T g writes ts trees none (TableFull d k n) large
 no_fault T g writes ts trees none (GroupFull d n) large = none_else T g writes ts trees none (GroupFull d n) large
 no_fault T g writes ts trees none Memory cause = refl

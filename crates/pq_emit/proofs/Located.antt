@@ -35,14 +35,16 @@ located {A} {L} word F ts (k ∷ ks) (p ∷ ids) all =
     subst (λ o. AllZip (λ k p. (p.0 ≡ word k) × IsTreeOf (F k) p.1) (k ∷ ks) (with_word {L = L} (word p.0) o ++ rest)) (sym one.1) both
 
 -- the trees at the ids of a switch are its trees
-pub switch_located : (T : Topology) (g : Tagging) (writes : Departures) (firsts : List (Tree (Option Arrive))) (seconds : List (Tree (List Outgoing))) (s : Switch) (t : SwitchTrees)
+pub switch_located : (T : Topology) (g : Tagging) (writes : Departures) (firsts : List (Tree (Option Arrive)))
+    (seconds : List (Tree (List Outgoing))) (s : Switch) (t : SwitchTrees)
     → IsSwitchAt T g writes firsts seconds s t → AreTrees T g writes s.datapath (arriving_trees firsts t.arriving.items) (leaving_trees seconds t.leaving.items)
 switch_located T g writes firsts seconds s t at = record {
   arriving = located key_word (λ k z. arrival T g k (at_switch s.datapath z)) firsts (keys_of g) t.arriving.items at.0;
   leaving = located tag_word (λ k z. leaving T g writes k (at_switch s.datapath z)) seconds (odd_tags g) t.leaving.items at.1;
 }
 
-each_located : (T : Topology) (g : Tagging) (writes : Departures) (firsts : List (Tree (Option Arrive))) (seconds : List (Tree (List Outgoing))) (ss : List Switch) (ts : List SwitchTrees)
+each_located : (T : Topology) (g : Tagging) (writes : Departures) (firsts : List (Tree (Option Arrive)))
+    (seconds : List (Tree (List Outgoing))) (ss : List Switch) (ts : List SwitchTrees)
     → AllZip (IsSwitchAt T g writes firsts seconds) ss ts → AllZip (λ s t. AreTrees T g writes s.datapath t.first t.second) ss (trees_of firsts seconds ts)
 each_located T g writes firsts seconds [] [] all = tt
 each_located T g writes firsts seconds [] (t ∷ ts) all = absurd all
@@ -51,7 +53,8 @@ each_located T g writes firsts seconds (s ∷ ss) (t ∷ ts) all =
     (switch_located T g writes firsts seconds s t all.0, each_located T g writes firsts seconds ss ts all.1)
 
 -- the trees at the ids of all switches are the trees of the network
-pub all_located : (T : Topology) (g : Tagging) (writes : Departures) (firsts : List (Tree (Option Arrive))) (seconds : List (Tree (List Outgoing))) (trees : List SwitchTrees)
+pub all_located : (T : Topology) (g : Tagging) (writes : Departures) (firsts : List (Tree (Option Arrive)))
+    (seconds : List (Tree (List Outgoing))) (trees : List SwitchTrees)
     → AreSwitchesAt T g writes firsts seconds trees → AreAllTrees T g writes (trees_of firsts seconds trees)
 all_located T g writes firsts seconds trees all = each_located T g writes firsts seconds T.switches trees all
 
@@ -65,7 +68,8 @@ kept_ids F old new keeps (k ∷ ks) [] all = absurd all
 kept_ids F old new keeps (k ∷ ks) (p ∷ ids) all =
     ((all.0.0, (all.0.1.0, keeps p.1 all.0.1.0 all.0.1.1, all.0.1.2)), kept_ids F old new keeps ks ids all.1)
 
-kept_switches : (T : Topology) (g : Tagging) (writes : Departures) (firsts more : List (Tree (Option Arrive))) (seconds others : List (Tree (List Outgoing))) → Keeps firsts more → Keeps seconds others
+kept_switches : (T : Topology) (g : Tagging) (writes : Departures) (firsts more : List (Tree (Option Arrive)))
+    (seconds others : List (Tree (List Outgoing))) → Keeps firsts more → Keeps seconds others
     → (ss : List Switch) (ts : List SwitchTrees) → AllZip (IsSwitchAt T g writes firsts seconds) ss ts → AllZip (IsSwitchAt T g writes more others) ss ts
 kept_switches T g writes firsts more seconds others left right [] [] all = tt
 kept_switches T g writes firsts more seconds others left right [] (t ∷ ts) all = absurd all
@@ -79,7 +83,8 @@ kept_switches T g writes firsts more seconds others left right (s ∷ ss) (t ∷
 )
 
 -- one more switch, whose trees are added to the stores
-pub one_more : (T : Topology) (g : Tagging) (writes : Departures) (firsts more : List (Tree (Option Arrive))) (seconds others : List (Tree (List Outgoing))) → Keeps firsts more → Keeps seconds others
+pub one_more : (T : Topology) (g : Tagging) (writes : Departures) (firsts more : List (Tree (Option Arrive)))
+    (seconds others : List (Tree (List Outgoing))) → Keeps firsts more → Keeps seconds others
     → (ss : List Switch) (k : ℕ) (s : Switch) (ts pushed : List SwitchTrees) (t : SwitchTrees) → k < length ss → s ≡ get_or ss k s → pushed ≡ ts ++ t ∷ []
     → AreArriving T g s.datapath more t.arriving.items → AreLeaving T g writes s.datapath others t.leaving.items
     → AllZip (IsSwitchAt T g writes firsts seconds) (take k ss) ts → AllZip (IsSwitchAt T g writes more others) (take (k + 1) ss) pushed

@@ -1,5 +1,6 @@
 -- The first fault of a network, switch after switch.
-use Rattle.std.proofs.Common.{◌≡◌, ◌<◌, ◌≤◌, ◌+◌, ℕ, true, false, if◌then◌else◌, nat_lt, List, ◌∷◌, drop, length, get_or, refl, sym, ap, ap₂, inl, inr, ◌∙◌, arith, true≢false}
+use Rattle.std.proofs.Common.{◌≡◌, ◌<◌, ◌≤◌, ◌+◌, ℕ, true, false, if◌then◌else◌, nat_lt, List, ◌∷◌, drop, length, get_or, refl, sym, ap}
+use Rattle.std.proofs.Common.{ap₂, inl, inr, ◌∙◌, arith, true≢false}
 use Rattle.std.specs.declared.option.Option.{Option}
 use Rattle.std.specs.declared.option.Option.TheVariants.{None, Some}
 use Rattle.std.specs.Option.{is_some, option_map, option_or}
@@ -35,7 +36,8 @@ met_one met s ss t ts none =
     ∙ ap (option_or tables) (or_assoc met (group_fault s t) groups)
 
 -- a switch with a table that is too large
-full_one : (met : Option RulesFault) (s : Switch) (ss : List Switch) (t : TablesTrees) (ts : List TablesTrees) (fault : RulesFault) → table_fault s t ≡ Some fault
+full_one : (met : Option RulesFault) (s : Switch) (ss : List Switch) (t : TablesTrees) (ts : List TablesTrees) (fault : RulesFault)
+    → table_fault s t ≡ Some fault
     → with_met met (s ∷ ss) (t ∷ ts) ≡ Some fault
 full_one met s ss t ts fault some =
     ap (λ o. option_or (option_or o (first_fault table_fault ss ts)) (option_or met (option_or (group_fault s t) (first_fault group_fault ss ts)))) some
@@ -48,11 +50,13 @@ met_next met ss ts k s t whole below at among here none so_far =
     ∙ sym (ap₂ (with_met met) (from_place ss k s below at) (from_place ts k t among here))
     ∙ so_far
 
-pub full_here : (met : Option RulesFault) (ss : List Switch) (ts : List TablesTrees) (k : ℕ) (s : Switch) (t : TablesTrees) (whole : Option RulesFault) (fault : RulesFault)
+pub full_here : (met : Option RulesFault) (ss : List Switch) (ts : List TablesTrees) (k : ℕ) (s : Switch) (t : TablesTrees)
+    (whole : Option RulesFault) (fault : RulesFault)
     → k < length ss → s ≡ get_or ss k s → k < length ts → t ≡ get_or ts k t → table_fault s t ≡ Some fault
     → with_met met (drop k ss) (drop k ts) ≡ whole → whole ≡ Some fault
 full_here met ss ts k s t whole fault below at among here some so_far =
-    sym so_far ∙ ap₂ (with_met met) (from_place ss k s below at) (from_place ts k t among here) ∙ full_one met s (drop (k + 1) ss) t (drop (k + 1) ts) fault some
+    sym so_far ∙ ap₂ (with_met met) (from_place ss k s below at) (from_place ts k t among here)
+    ∙ full_one met s (drop (k + 1) ss) t (drop (k + 1) ts) fault some
 
 -- What is said of one switch.
 
@@ -83,7 +87,8 @@ group_met s t d n is = (
 )
 
 -- a table is too large
-pub table_met : (s : Switch) (t : TablesTrees) (d k n : ℕ) → IsRulesFault s.datapath s.limit t.first t.second (TableFull d k n) → table_fault s t ≡ Some (TableFull d k n)
+pub table_met : (s : Switch) (t : TablesTrees) (d k n : ℕ) → IsRulesFault s.datapath s.limit t.first t.second (TableFull d k n)
+    → table_fault s t ≡ Some (TableFull d k n)
 table_met s t d k n (same, inl (first, many, counted)) =
     ap (λ o. option_or o (full_table s.datapath s.limit 1 (leaving_count t.second))) (over s.datapath s.limit 0 (arriving_count t.first) many)
     ∙ λ i. Some (TableFull (sym same i) (sym first i) (sym counted i))
@@ -100,7 +105,8 @@ module _ (ss : List Switch) (ts : List TablesTrees) (k : ℕ) (s : Switch) (t : 
   pub fits_next : (new : Option (ℕ × ℕ)) → new ≡ full → FitRules s.limit t.first t.second → with_met (met_fault new) (drop (k + 1) ss) (drop (k + 1) ts) ≡ whole
   fits_next new same fit =
       let none = fits_none s t fit in
-      let kept : option_or (met_fault full) (group_fault s t) ≡ met_fault new = ap (option_or (met_fault full)) none.1 ∙ or_none (met_fault full) ∙ ap met_fault (sym same) in
+      let kept : option_or (met_fault full) (group_fault s t) ≡ met_fault new = ap (option_or (met_fault full)) none.1
+      ∙ or_none (met_fault full) ∙ ap met_fault (sym same) in
       ap (λ o. with_met o (drop (k + 1) ss) (drop (k + 1) ts)) (sym kept) ∙ met_next (met_fault full) ss ts k s t whole below at among here none.0 so_far
 
   -- which is the first with an entry with too many copies

@@ -29,7 +29,8 @@ module _ {A L : Type 0} (F : A → Tree L → Type 0) where
       All-cons (λ p. HasAt TestsPortsOrZero ts p.1) p ids (one.0, one.1, All-head (λ p. TestPortsAt ts p.1) p ids each one.0 one.1)
       (placed ts ks ids all.1 (All-tail (λ p. TestPortsAt ts p.1) p ids each))
 
-pub placed_ports : (T : Topology) (g : Tagging) (writes : Departures) (firsts : List (Tree (Option Arrive))) (seconds : List (Tree (List Outgoing))) (d : ℕ) (t : SwitchTrees)
+pub placed_ports : (T : Topology) (g : Tagging) (writes : Departures) (firsts : List (Tree (Option Arrive)))
+    (seconds : List (Tree (List Outgoing))) (d : ℕ) (t : SwitchTrees)
     → AreArriving T g d firsts t.arriving.items → AreLeaving T g writes d seconds t.leaving.items
     → All (λ p. TestPortsAt firsts p.1) t.arriving.items × All (λ p. TestPortsAt seconds p.1) t.leaving.items → TestPortsOf firsts seconds t
 placed_ports T g writes firsts seconds d t arriving leaving each = (
@@ -38,15 +39,19 @@ placed_ports T g writes firsts seconds d t arriving leaving each = (
 )
 
 -- they stay where they are
-module _ (firsts more : List (Tree (Option Arrive))) (seconds others : List (Tree (List Outgoing))) (left : Keeps firsts more) (right : Keeps seconds others) where
+module _ (firsts more : List (Tree (Option Arrive))) (seconds others : List (Tree (List Outgoing))) (left : Keeps firsts more)
+    (right : Keeps seconds others) where
   kept_ports : (t : SwitchTrees) → TestPortsOf firsts seconds t → TestPortsOf more others t
   kept_ports t ports = (
-    All-weaker (λ p. HasAt TestsPortsOrZero firsts p.1) (λ p. HasAt TestsPortsOrZero more p.1) (λ p at. (at.0, left p.1 at.0 at.1, at.2)) t.arriving.items ports.0,
-    All-weaker (λ p. HasAt TestsPortsOrZero seconds p.1) (λ p. HasAt TestsPortsOrZero others p.1) (λ p at. (at.0, right p.1 at.0 at.1, at.2)) t.leaving.items ports.1,
+    All-weaker (λ p. HasAt TestsPortsOrZero firsts p.1) (λ p. HasAt TestsPortsOrZero more p.1)
+        (λ p at. (at.0, left p.1 at.0 at.1, at.2)) t.arriving.items ports.0,
+    All-weaker (λ p. HasAt TestsPortsOrZero seconds p.1) (λ p. HasAt TestsPortsOrZero others p.1)
+        (λ p at. (at.0, right p.1 at.0 at.1, at.2)) t.leaving.items ports.1,
   )
 
   -- with one switch more
-  pub one_more_ports : (ts pushed : List SwitchTrees) (t : SwitchTrees) → pushed ≡ ts ++ t ∷ [] → TestPortsOf more others t → All (TestPortsOf firsts seconds) ts → All (TestPortsOf more others) pushed
+  pub one_more_ports : (ts pushed : List SwitchTrees) (t : SwitchTrees) → pushed ≡ ts ++ t ∷ [] → TestPortsOf more others t
+      → All (TestPortsOf firsts seconds) ts → All (TestPortsOf more others) pushed
   one_more_ports ts pushed t push one all =
       subst (All (TestPortsOf more others)) (sym push)
       (All-push (TestPortsOf more others) ts t (All-weaker (TestPortsOf firsts seconds) (TestPortsOf more others) kept_ports ts all) one)
@@ -58,5 +63,6 @@ tests_with word ts [] all = All-nil (λ q. TestsPortsOrZero q.1)
 tests_with {A} {L} word ts (p ∷ ids) all =
     let one = All-head (λ p. HasAt TestsPortsOrZero ts p.1) p ids all in
     let rest = trees_with ts (map (λ p. (word p.0, p.1)) ids) in
-    let both = All-cons (λ q. TestsPortsOrZero q.1) (word p.0, one.0) rest one.2 (tests_with word ts ids (All-tail (λ p. HasAt TestsPortsOrZero ts p.1) p ids all)) in
+    let both = All-cons (λ q. TestsPortsOrZero q.1) (word p.0, one.0) rest one.2
+    (tests_with word ts ids (All-tail (λ p. HasAt TestsPortsOrZero ts p.1) p ids all)) in
     subst (λ o. All (λ q. TestsPortsOrZero q.1) (with_word {L = L} (word p.0) o ++ rest)) (sym one.1) both

@@ -33,7 +33,8 @@ one_row m is c =
     rows : ℕ → List Row
     rows d = if captures_at m d then record { tag = suc c; pairs = instances_at is (accepted_at m d) } ∷ [] else []
 
-    by : (b : Bool) → map (row_of m is) (cond b (suc c ∷ []) []) ≡ (if b then record { tag = suc c; pairs = instances_at is (accepted_at m (suc c - 1)) } ∷ [] else [])
+    by : (b : Bool) → map (row_of m is) (cond b (suc c ∷ []) [])
+        ≡ (if b then record { tag = suc c; pairs = instances_at is (accepted_at m (suc c - 1)) } ∷ [] else [])
     by true = refl
     by false = refl
 
@@ -70,7 +71,8 @@ module _ {A : Type 0} (key : A → List ℕ) where
   rest_ascends x [] ascend = tt
   rest_ascends x (y ∷ ys) ascend = ascend.1
 
-  before_at : (xs : List A) (i j : ℕ) (x y : A) → AscendsBy key xs → i < j → slice_get xs i ≡ Some x → slice_get xs j ≡ Some y → is_before (key x) (key y) ≡ true
+  before_at : (xs : List A) (i j : ℕ) (x y : A) → AscendsBy key xs → i < j → slice_get xs i ≡ Some x → slice_get xs j ≡ Some y
+      → is_before (key x) (key y) ≡ true
   before_at [] i j x y ascend below at_x at_y = absurd (none-some x at_x)
   before_at (z ∷ zs) zero zero x y ascend below at_x at_y = absurd (omega (arith, below))
   before_at (z ∷ zs) zero (suc j) x y ascend below at_x at_y =
@@ -125,11 +127,13 @@ few_numbers n (i ∷ is) ascend below = let h = long_from n i is ascend below in
 
 -- Rows are lawful.
 
-module _ (m : Machine) (xs : List Instance) (queries : ℕ) (few : length m.rows ≤ 4094) (instances : AreInstances queries xs) (held : AreHeldBelow (length xs) m) where
+module _ (m : Machine) (xs : List Instance) (queries : ℕ) (few : length m.rows ≤ 4094) (instances : AreInstances queries xs)
+    (held : AreHeldBelow (length xs) m) where
   lawful_row : (c : ℕ) → c < length m.rows → All (IsLawfulRow queries) (row_at m xs c)
   lawful_row c within = by (accepted_at m c) (held c within)
     where
-      by : (is : List ℕ) → Ascends is × All (λ i. i < length xs) is → All (IsLawfulRow queries) (if not (is_empty is) then record { tag = suc c; pairs = instances_at xs is } ∷ [] else [])
+      by : (is : List ℕ) → Ascends is × All (λ i. i < length xs) is
+          → All (IsLawfulRow queries) (if not (is_empty is) then record { tag = suc c; pairs = instances_at xs is } ∷ [] else [])
       by [] all = All-nil (IsLawfulRow queries)
       by (i ∷ is) all =
           let long = long_at instance_numbers xs (i ∷ is) all.1 in

@@ -35,9 +35,11 @@ within_store F ts (k ∷ ks) (p ∷ ids) all =
     All-cons (λ p. p.1 < length ts) p ids (slice_get_within ts p.1 all.0.1.0 all.0.1.1) (within_store F ts ks ids all.1)
 
 module _ (T : Topology) (g : Tagging) (writes : Departures) (firsts : List (Tree (Option Arrive))) (seconds : List (Tree (List Outgoing)))
-    (sound : (d : ℕ) (a : ArrivingTrees) (b : LeavingTrees) → d < 2 ^ 64 → AreTrees T g writes d a b → All (λ q. TestsPortsOrZero q.1) a → All (λ q. TestsPortsOrZero q.1) b
+    (sound : (d : ℕ) (a : ArrivingTrees) (b : LeavingTrees) → d < 2 ^ 64 → AreTrees T g writes d a b → All (λ q. TestsPortsOrZero q.1) a
+    → All (λ q. TestsPortsOrZero q.1) b
     → AreSoundArriving a × AreSoundLeaving b) where
-  sound_each : (ss : List Switch) (ts : List SwitchTrees) → All IsLawfulSwitch ss → All (TestPortsOf firsts seconds) ts → AllZip (IsSwitchAt T g writes firsts seconds) ss ts
+  sound_each : (ss : List Switch) (ts : List SwitchTrees) → All IsLawfulSwitch ss → All (TestPortsOf firsts seconds) ts
+      → AllZip (IsSwitchAt T g writes firsts seconds) ss ts
       → All (IsSoundAt firsts seconds) ts
   sound_each [] [] lawful ports all = All-nil (IsSoundAt firsts seconds)
   sound_each [] (t ∷ ts) lawful ports all = absurd all
@@ -55,5 +57,6 @@ module _ (T : Topology) (g : Tagging) (writes : Departures) (firsts : List (Tree
       }) (sound_each ss ts (All-tail IsLawfulSwitch s ss lawful) (All-tail (TestPortsOf firsts seconds) t ts ports) all.1)
 
   -- where entries can stand for the trees of a switch, the trees at the ids of all switches are sound
-  pub sound_all : (ts : List SwitchTrees) → All IsLawfulSwitch T.switches → All (TestPortsOf firsts seconds) ts → AreSwitchesAt T g writes firsts seconds ts → All (IsSoundAt firsts seconds) ts
+  pub sound_all : (ts : List SwitchTrees) → All IsLawfulSwitch T.switches → All (TestPortsOf firsts seconds) ts
+      → AreSwitchesAt T g writes firsts seconds ts → All (IsSoundAt firsts seconds) ts
   sound_all ts lawful ports all = sound_each T.switches ts lawful ports all

@@ -1,5 +1,6 @@
 -- Layouts whose trees entries can stand for.
-use Rattle.std.proofs.Common.{◌≡◌, ◌<◌, ◌≤◌, ◌+◌, ◌∙◌, ℕ, zero, suc, Bool, true, false, cond, not, List, [], ◌∷◌, ◌++◌, map, filter, length, nat_eq, refl, sym, ap, ap₂, subst, inl, inr, arith, ◌^◌}
+use Rattle.std.proofs.Common.{◌≡◌, ◌<◌, ◌≤◌, ◌+◌, ◌∙◌, ℕ, zero, suc, Bool, true, false, cond, not, List, [], ◌∷◌, ◌++◌, map, filter, length}
+use Rattle.std.proofs.Common.{nat_eq, refl, sym, ap, ap₂, subst, inl, inr, arith, ◌^◌}
 use Rattle.std.specs.Prelude.{◌⊎◌, All}
 use Rattle.std.specs.List.{AllByRecursion, AllZip, IsDistinct}
 use Rattle.std.proofs.lemmas.Bool.Decides.{nat_tests}
@@ -59,7 +60,8 @@ module _ (p : ℕ → Bool) where
   apart_push : (n : ℕ) (b : Bool) (xs : List ℕ) → AreApart n xs → AreApart (suc n) (xs ++ map tag_word (cond b (suc n ∷ []) []))
   apart_push n true xs apart = (
     distinct_push (tag_word (suc n)) (tag_word (suc n)) xs refl apart.1 apart.0,
-    below_push (tag_word (suc (suc n))) (tag_word (suc n)) xs (subst (λ k. AreBelow k xs) (omega arith) (below_more (tag_word (suc n)) xs apart.1)) (omega arith) (omega arith),
+    below_push (tag_word (suc (suc n))) (tag_word (suc n)) xs
+        (subst (λ k. AreBelow k xs) (omega arith) (below_more (tag_word (suc n)) xs apart.1)) (omega arith) (omega arith),
   )
   apart_push n false xs apart =
       subst (AreApart (suc n)) (sym (append-nil xs)) (apart.0, subst (λ k. AreBelow k xs) (omega arith) (below_more (tag_word (suc n)) xs apart.1))
@@ -67,7 +69,8 @@ module _ (p : ℕ → Bool) where
   words_apart : (n : ℕ) → AreApart n (map tag_word (filter p (up_to n)))
   words_apart zero = (none_apart, tt)
   words_apart (suc n) =
-      subst (AreApart (suc n)) (sym (ap (map tag_word) (filter-append p (up_to n) (suc n ∷ [])) ∙ map-append tag_word (filter p (up_to n)) (filter p (suc n ∷ []))))
+      subst (AreApart (suc n)) (sym (ap (map tag_word) (filter-append p (up_to n) (suc n ∷ []))
+      ∙ map-append tag_word (filter p (up_to n)) (filter p (suc n ∷ []))))
       (apart_push n (p (suc n)) (map tag_word (filter p (up_to n))) (words_apart n))
 
 others_of : (n : ℕ) (xs : List ℕ) → AreBelow n xs → AllByRecursion (λ z. nat_eq 0 z ≡ false) xs
@@ -86,7 +89,8 @@ keys_apart g =
 
 -- Each tree.
 
-words_of : {A B : Type 0} (word : A → ℕ) (R : A → B → Type 0) (ks : List A) (ps : List (ℕ × B)) → AllZip (λ k p. (p.0 ≡ word k) × R k p.1) ks ps → map (λ p. p.0) ps ≡ map word ks
+words_of : {A B : Type 0} (word : A → ℕ) (R : A → B → Type 0) (ks : List A) (ps : List (ℕ × B))
+    → AllZip (λ k p. (p.0 ≡ word k) × R k p.1) ks ps → map (λ p. p.0) ps ≡ map word ks
 words_of word R [] [] all = refl
 words_of word R [] (p ∷ ps) all = absurd all
 words_of word R (k ∷ ks) [] all = absurd all
@@ -104,7 +108,8 @@ each_of K R P Q makes (k ∷ ks) (p ∷ ps) keys all each =
 tags_within : (p : ℕ → Bool) (m : Machine) (n : ℕ) → n ≤ length m.rows → AllByRecursion (IsTagOf m) (filter p (up_to n))
 tags_within p m zero few = tt
 tags_within p m (suc n) few =
-    subst (AllByRecursion (IsTagOf m)) (sym (filter-append p (up_to n) (suc n ∷ []))) (push (p (suc n)) (filter p (up_to n)) (tags_within p m n (omega (arith, few))))
+    subst (AllByRecursion (IsTagOf m)) (sym (filter-append p (up_to n) (suc n ∷ [])))
+    (push (p (suc n)) (filter p (up_to n)) (tags_within p m n (omega (arith, few))))
   where
     at_end : (xs : List ℕ) → AllByRecursion (IsTagOf m) xs → AllByRecursion (IsTagOf m) (xs ++ suc n ∷ [])
     at_end [] all = ((omega arith, few), tt)
@@ -133,7 +138,8 @@ module _ (T : Topology) (a : LettersValue) (m : Machine) (p : Tree (List Written
   key_is_word (Tag t) word is same = inr (subst IsTagWord (sym same) (tag_is_word t is))
 
   -- entries can stand for the trees of a switch that test numbers of ports alone, or 0
-  pub sound_layout : (d : ℕ) (firsts : ArrivingTrees) (seconds : LeavingTrees) → d < 2 ^ 64 → AreTrees T (tagging_of a m) (departing T (value p)) d firsts seconds
+  pub sound_layout : (d : ℕ) (firsts : ArrivingTrees) (seconds : LeavingTrees) → d < 2 ^ 64
+      → AreTrees T (tagging_of a m) (departing T (value p)) d firsts seconds
       → All (λ q. TestsPortsOrZero q.1) firsts → All (λ q. TestsPortsOrZero q.1) seconds → AreSoundArriving firsts × AreSoundLeaving seconds
   sound_layout d firsts seconds fits trees first_ports second_ports =
       let stand = below d in (
@@ -142,14 +148,22 @@ module _ (T : Topology) (a : LettersValue) (m : Machine) (p : Tree (List Written
           each = each_of (IsKeyOf m) (λ k q. (q.0 ≡ key_word k) × IsArriving T g d k q.1) (λ q. TestsPortsOrZero q.1) (λ q. IsSoundArriving q.0 q.1)
               (λ k q is tree tests. let sound = arriving_sound T a m d tags fits k q.1 is tree.1 in record {
                 vlan = key_is_word k q.0 is tree.0;
-                matchable = record { diagram = tree.1.diagram; switch = sound.switch; prerequisites = (stand fits).0 k q.1 tree.1; ports = arriving_ports T a m d tags.lawful fits k q.1 tree.1 tests };
+                matchable = record {
+                  diagram = tree.1.diagram;
+                  switch = sound.switch;
+                  prerequisites = (stand fits).0 k q.1 tree.1;
+                  ports = arriving_ports T a m d tags.lawful fits k q.1 tree.1 tests;
+                };
                 leaves = sound.leaves;
               })
               (keys_of g) firsts (tt, keys_within m (even_tags g) (tags_within g.is_even m (length m.rows) (omega arith))) trees.arriving first_ports;
         },
         record {
-          words = subst (IsDistinct nat_eq) (sym (words_of tag_word (IsLeaving T g (departing T (value p)) d) (odd_tags g) seconds trees.leaving)) (words_apart (λ t. not (g.is_even t)) g.count).0;
-          each = each_of (IsTagOf m) (λ t q. (q.0 ≡ tag_word t) × IsLeaving T g (departing T (value p)) d t q.1) (λ q. TestsPortsOrZero q.1) (λ q. IsSoundLeaving q.0 q.1)
+          words = subst (IsDistinct nat_eq)
+              (sym (words_of tag_word (IsLeaving T g (departing T (value p)) d) (odd_tags g) seconds trees.leaving))
+              (words_apart (λ t. not (g.is_even t)) g.count).0;
+          each = each_of (IsTagOf m) (λ t q. (q.0 ≡ tag_word t) × IsLeaving T g (departing T (value p)) d t q.1) (λ q. TestsPortsOrZero q.1)
+              (λ q. IsSoundLeaving q.0 q.1)
               (λ t q is tree tests. let sound = leaving_sound T a m d tags fits p idle_free t q.1 is tree.1 in record {
                 vlan = subst IsTagWord (sym tree.0) (tag_is_word t is);
                 matchable = record {

@@ -28,7 +28,8 @@ AreTreesAt T forward policy a m firsts seconds trees =
     (p : Tree (List Written)) → slice_get forward policy ≡ Some p → AreSwitchesAt T (tagging_of a m) (departing T (value p)) firsts seconds trees
 
 -- so it is for the tags of the classes, over whatever letters, and for all departures whose trees stand at the ids
-abbrev pub IfTreesAt : Topology → Machine → List (Tree (Option Arrive)) → List (Tree (List Outgoing)) → List SwitchTrees → (Tagging → Departures → Type 0) → Type 0
+abbrev pub IfTreesAt : Topology → Machine → List (Tree (Option Arrive)) → List (Tree (List Outgoing)) → List SwitchTrees
+    → (Tagging → Departures → Type 0) → Type 0
 IfTreesAt T m firsts seconds trees Holds =
     (a : LettersValue) (writes : Departures) → AreSwitchesAt T (tagging_of a m) writes firsts seconds trees → Holds (tagging_of a m) writes
 
@@ -45,7 +46,8 @@ TestPortsOf firsts seconds t =
     All (λ p. HasAt TestsPortsOrZero firsts p.1) t.arriving.items × All (λ p. HasAt TestsPortsOrZero seconds p.1) t.leaving.items
 
 -- so do those of all switches, where the policy and the letters test only such ports
-abbrev pub AllTestPortsOf : List (Tree (List Written)) → ℕ → LettersValue → List (Tree (Option Arrive)) → List (Tree (List Outgoing)) → List SwitchTrees → Type 0
+abbrev pub AllTestPortsOf : List (Tree (List Written)) → ℕ → LettersValue → List (Tree (Option Arrive)) → List (Tree (List Outgoing))
+    → List SwitchTrees → Type 0
 AllTestPortsOf forward policy a firsts seconds ts = TestPortsAt forward policy → TestPortsAt a.trees a.root → All (TestPortsOf firsts seconds) ts
 
 -- so it is for what leaves by the policy's writes, and for the tags of the classes

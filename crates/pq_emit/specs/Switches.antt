@@ -63,4 +63,5 @@ IsFilled T g writes i = AllZip (λ s ms. (a : AreMessages T g writes s.datapath 
 -- the trees of a switch's two tables are the only ones
 abbrev pub HaveOneTree : Type 0
 HaveOneTree =
-    (T : Topology) (g : Tagging) (writes : Departures) (d : ℕ) (a x : ArrivingTrees) (b y : LeavingTrees) → AreTrees T g writes d a b → AreTrees T g writes d x y → (a ≡ x) × (b ≡ y)
+    (T : Topology) (g : Tagging) (writes : Departures) (d : ℕ) (a x : ArrivingTrees) (b y : LeavingTrees) → AreTrees T g writes d a b
+    → AreTrees T g writes d x y → (a ≡ x) × (b ≡ y)

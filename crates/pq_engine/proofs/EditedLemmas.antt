@@ -72,7 +72,8 @@ module _ {A B : Type 0} (f : A → B) where
     pub plain_put : (x : A) (ys : List (List ℕ × A)) → ys ≡ replaced place ((name, x) ∷ []) xs → map plain ys ≡ put (name, f x) (map plain xs)
     plain_put x ys now =
         let new : Named B = (name, f x) in
-        ap (map plain) now ∙ map_replaced plain place ((name, x) ∷ []) xs ∙ ap (λ i. replaced i (new ∷ []) (map plain xs)) plain_place ∙ sym (put_is new (map plain xs))
+        ap (map plain) now ∙ map_replaced plain place ((name, x) ∷ []) xs ∙ ap (λ i. replaced i (new ∷ []) (map plain xs)) plain_place
+        ∙ sym (put_is new (map plain xs))
 
     -- with one taken out of it
     pub plain_without : (ys : List (List ℕ × A)) → ys ≡ replaced place [] xs → map plain ys ≡ without name (map plain xs)
@@ -87,5 +88,6 @@ module _ {A B : Type 0} (f : A → B) where
         omega (arith, within, long, plain_place)
 
 -- a document as plain data is told by its parts and its queries
-pub same_document : (d e : Document) → e.topology ≡ d.topology → e.parts.items ≡ d.parts.items → e.queries.items ≡ d.queries.items → document_tree e ≡ document_tree d
+pub same_document : (d e : Document) → e.topology ≡ d.topology → e.parts.items ≡ d.parts.items → e.queries.items ≡ d.queries.items
+    → document_tree e ≡ document_tree d
 same_document d e topology parts queries = cc (topology, ap (map part_tree) parts, ap (map named_query_tree) queries)

@@ -86,7 +86,8 @@ module _ (d : DocumentTree) (k : Kept) (is : IsEngine (engine_of d k)) where
         ∙ map_replaced (λ (n : Named PolicyTree). n.1) place (p ∷ []) d.parts;
   }
 
-  pub removal_awaits : (name : List ℕ) (place : ℕ) → place ≡ place_in name (names_in d.parts) → IsNamedIn name d.parts → AwaitsRemoval (edited d (PartRemoved name)) k.forward k.sum place
+  pub removal_awaits : (name : List ℕ) (place : ℕ) → place ≡ place_in name (names_in d.parts) → IsNamedIn name d.parts
+      → AwaitsRemoval (edited d (PartRemoved name)) k.forward k.sum place
   removal_awaits name place at there = record {
     before = parts_in d;
     summed = is.summed;
@@ -98,8 +99,10 @@ module _ (d : DocumentTree) (k : Kept) (is : IsEngine (engine_of d k)) where
   }
 
   -- the engine after a change of the parts
-  pub parts_engine : (ps : List (Named PolicyTree)) (c : PartsChange) → IsPartsChange (record { topology = d.topology; parts = ps; queries = d.queries }) k.install c
-      → IsEngine (engine_of (record { topology = d.topology; parts = ps; queries = d.queries }) (record { forward = c.forward; sum = c.sum; told = k.told; install = c.renewed.install }))
+  pub parts_engine : (ps : List (Named PolicyTree)) (c : PartsChange)
+      → IsPartsChange (record { topology = d.topology; parts = ps; queries = d.queries }) k.install c
+      → IsEngine (engine_of (record { topology = d.topology; parts = ps; queries = d.queries })
+      (record { forward = c.forward; sum = c.sum; told = k.told; install = c.renewed.install }))
   parts_engine ps c change = record {
     compilable = change.renewed.compilable;
     within = change.renewed.within;
@@ -124,7 +127,13 @@ pub is_before : (d : DocumentTree) (k : Kept) → (was : WasKept d k) → (forwa
     → ((ps : List PolicyTree) → IsSummed d.topology k.forward ps k.sum → UnitesParts d.topology forward ps before) → IsBefore d forward before k.install
 is_before d k was forward before stays =
     let engine = was.engine in
-    record { parts = was.parts; forwards = stays (parts_in (with_parts d was.parts)) engine.summed; installed = engine.installed; within = engine.within.tables }
+    record {
+      parts = was.parts;
+      forwards = stays (parts_in (with_parts d was.parts)) engine.summed;
+      installed = engine.installed;
+      within =
+          engine.within.tables;
+    }
 
 -- Work.
 

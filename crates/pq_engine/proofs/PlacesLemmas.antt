@@ -19,7 +19,8 @@ module _ {A : Type 0} where
   put_again (suc i) new (x ∷ xs) within = ap (λ l. x ∷ l) (put_again i new xs (omega arith))
 
   -- and so is what is taken out
-  pub inserted_again : (i : ℕ) (old : A) (xs : List A) → i < length xs → old ∷ [] ≡ take 1 (drop i xs) → take i (replaced i [] xs) ++ (old ∷ drop i (replaced i [] xs)) ≡ xs
+  pub inserted_again : (i : ℕ) (old : A) (xs : List A) → i < length xs → old ∷ [] ≡ take 1 (drop i xs)
+      → take i (replaced i [] xs) ++ (old ∷ drop i (replaced i [] xs)) ≡ xs
   inserted_again zero old [] within is = absurd (omega arith)
   inserted_again zero old (x ∷ xs) within is = ap (λ l. l ++ xs) is
   inserted_again (suc i) old [] within is = absurd (omega arith)

@@ -54,7 +54,8 @@ pub part_fits : (T : Topology) (ps : List PolicyTree) (i : ℕ) → FitAsParts T
 part_fits T ps i fits = room_for (λ ns (topology, within). (topology, all_at_place (IsPolicyWithin ns) i ps within)) fits
 
 -- the part of a place, as the slice of parts that the program takes
-pub part_sliced : (d : Document) (ps : List (List ℕ × Policy)) (i : ℕ) → ps ≡ d.parts.items → part_trees (take (i + 1 - i) (drop i ps)) ≡ at_place i (parts_in (document_tree d))
+pub part_sliced : (d : Document) (ps : List (List ℕ × Policy)) (i : ℕ) → ps ≡ d.parts.items
+    → part_trees (take (i + 1 - i) (drop i ps)) ≡ at_place i (parts_in (document_tree d))
 part_sliced d ps i same =
     let one : i + 1 - i ≡ 1 = omega arith in
     ap (λ n. part_trees (take n (drop i ps))) one ∙ map_at_place (λ (part : List ℕ × Policy). policy_tree part.1) i ps ∙ ap (at_place i) (parts_are d ps same)
@@ -92,7 +93,8 @@ parts_more T ts i ps ids id within all has =
     let one : suc i ≡ i + 1 = omega arith in
     subst (λ n. AreParts T ts (take n ps) (ids ++ id ∷ [])) one (parts_next T ts i ps ids id within all has)
 
-module _ (d : DocumentTree) (can : IsCompilable d) (few : HasFewValues d) (old new : Trees) (s : Sum) (place id : ℕ) (awaits : AwaitsPart d old s place) (keeps : Keeps old new)
+module _ (d : DocumentTree) (can : IsCompilable d) (few : HasFewValues d) (old new : Trees) (s : Sum) (place id : ℕ)
+    (awaits : AwaitsPart d old s place) (keeps : Keeps old new)
     (part : UnitesParts d.topology new (at_place place (parts_in d)) id) where
   -- the part that is awaited may be put
   pub puttable : IsPuttableAt d.topology new s place id awaits.before awaits.part
@@ -123,7 +125,8 @@ put_copied d old new s t place same awaits = record {
   put = awaits.put;
 }
 
-pub removal_copied : (d : DocumentTree) (old new : Trees) (s t : Sum) (place : ℕ) → IsSameSum old s new t → AwaitsRemoval d old s place → AwaitsRemoval d new t place
+pub removal_copied : (d : DocumentTree) (old new : Trees) (s t : Sum) (place : ℕ) → IsSameSum old s new t → AwaitsRemoval d old s place
+    → AwaitsRemoval d new t place
 removal_copied d old new s t place same awaits = record {
   before = awaits.before;
   summed = same d.topology awaits.before awaits.summed;
@@ -141,18 +144,21 @@ awaited_within d ts s place awaits =
     omega (arith, within, long, parts)
 
 -- there were at most as many parts before one was put
-pub awaited_few : (d : Document) (ts : Trees) (s : Sum) (place : ℕ) (awaits : AwaitsPart (document_tree d) ts s place) → length awaits.before ≤ length d.parts.items
+pub awaited_few : (d : Document) (ts : Trees) (s : Sum) (place : ℕ) (awaits : AwaitsPart (document_tree d) ts s place)
+    → length awaits.before ≤ length d.parts.items
 awaited_few d ts s place awaits =
     let more = put_long place awaits.part awaits.before awaits.within in
     let long = ap length awaits.put in
     let parts = parts_long d in
     omega (arith, more, long, parts)
 
-pub replaced_long : (d : Document) (ts : Trees) (s : Sum) (place : ℕ) (awaits : AwaitsPart (document_tree d) ts s place) → length (replaced place (awaits.part ∷ []) awaits.before) ≡ length d.parts.items
+pub replaced_long : (d : Document) (ts : Trees) (s : Sum) (place : ℕ) (awaits : AwaitsPart (document_tree d) ts s place)
+    → length (replaced place (awaits.part ∷ []) awaits.before) ≡ length d.parts.items
 replaced_long d ts s place awaits = sym (ap length awaits.put) ∙ parts_long d
 
 -- and one more before one was taken out
-pub removed_before : (d : Document) (ts : Trees) (s : Sum) (place : ℕ) (awaits : AwaitsRemoval (document_tree d) ts s place) → length awaits.before ≡ suc (length d.parts.items)
+pub removed_before : (d : Document) (ts : Trees) (s : Sum) (place : ℕ) (awaits : AwaitsRemoval (document_tree d) ts s place)
+    → length awaits.before ≡ suc (length d.parts.items)
 removed_before d ts s place awaits =
     let less = removed_long place awaits.before awaits.within in
     let long = ap length awaits.removed in
@@ -160,5 +166,6 @@ removed_before d ts s place awaits =
     omega (arith, less, long, parts)
 
 -- a union of parts stays where it is
-pub kept_union : (T : Topology) (ps : List PolicyTree) (old new : List (Tree (List Written))) (id : ℕ) → Keeps old new → UnitesParts T old ps id → UnitesParts T new ps id
+pub kept_union : (T : Topology) (ps : List PolicyTree) (old new : List (Tree (List Written))) (id : ℕ) → Keeps old new
+    → UnitesParts T old ps id → UnitesParts T new ps id
 kept_union T ps old new id keeps at = (at.0, keeps id at.0 at.1, at.2)

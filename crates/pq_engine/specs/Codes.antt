@@ -65,7 +65,8 @@ top_again Negated = refl
 
 abbrev pred_top_code : Coded PredTop
 pred_top_code =
-    code_by (ℕ × (Field × (ℕ × ℕ))) (coded× coded_ℕ (coded× fields.the_row.coded (coded× coded_ℕ coded_ℕ))) top_parts (λ p. top_by p.0 p.1.0 p.1.1.0 p.1.1.1) top_again
+    code_by (ℕ × (Field × (ℕ × ℕ))) (coded× coded_ℕ (coded× fields.the_row.coded (coded× coded_ℕ coded_ℕ))) top_parts
+    (λ p. top_by p.0 p.1.0 p.1.1.0 p.1.1.1) top_again
 
 abbrev code_preds : Preds → Gv
 code_preds pred.none = gnil
@@ -123,7 +124,8 @@ policy_again policy.InTurn = refl
 
 abbrev policy_top_code : Coded PolicyTop
 policy_top_code =
-    code_by (ℕ × (PredTree × (Field × ℕ))) (coded× coded_ℕ (coded× pred_code (coded× fields.the_row.coded coded_ℕ))) policy_parts (λ p. policy_by p.0 p.1.0 p.1.1.0 p.1.1.1) policy_again
+    code_by (ℕ × (PredTree × (Field × ℕ))) (coded× coded_ℕ (coded× pred_code (coded× fields.the_row.coded coded_ℕ))) policy_parts
+    (λ p. policy_by p.0 p.1.0 p.1.1.0 p.1.1.1) policy_again
 
 abbrev code_policies : Policies → Gv
 code_policies policy.none = gnil
@@ -222,7 +224,8 @@ pub record EngineValue : Type 0 where
   pub classes : Machine
 
 abbrev sum_code : Coded Sum
-sum_code = code_by (List ℕ × List ℕ) (coded× (coded_list coded_ℕ) (coded_list coded_ℕ)) (λ s. (s.cells, s.slots)) (λ p. record { cells = p.0; slots = p.1 }) (λ _. refl)
+sum_code = code_by (List ℕ × List ℕ) (coded× (coded_list coded_ℕ) (coded_list coded_ℕ)) (λ s. (s.cells, s.slots))
+    (λ p. record { cells = p.0; slots = p.1 }) (λ _. refl)
 
 abbrev pub engine_code : Coded EngineValue
 engine_code =

@@ -4,7 +4,8 @@ use Rattle.std.specs.List.{list_any, list_all}
 use Rattle.pq_expr.specs.declared.side.Side.{Side}
 use Rattle.pq_expr.specs.declared.side.Side.TheVariants.{In, Out}
 use Rattle.pq_expr.specs.Word.{Word, AgreeBelow}
-use Rattle.pq_expr.specs.Expr.{ExprTop, NoWord, EmptyWord, Enters, Leaves, InTurn, Either, Both, Other, Repeated, Exprs, none, put, ExprTree, exprs, bounds, top_bound, bound}
+use Rattle.pq_expr.specs.Expr.{ExprTop, NoWord, EmptyWord, Enters, Leaves, InTurn, Either, Both, Other, Repeated, Exprs, none, put}
+use Rattle.pq_expr.specs.Expr.{ExprTree, exprs, bounds, top_bound, bound}
 use Rattle.pq_expr.specs.Language.{Language, is_empty, is_step, joined, in_turn, in_pieces, repeated, first, top_language, languages, holds}
 use Rattle.pq_expr.proofs.Cuts.{after, joined_empty, joined_cons}
 
@@ -64,7 +65,8 @@ first_alike n (P ∷ Ps) (Q ∷ Qs) all v w agree = all.0 v w agree
 
 pieces_alike : (n k : ℕ) (P Q : Language) → Alike n P Q → Alike n (in_pieces P k) (in_pieces Q k)
 pieces_alike n zero P Q own v w agree = empty_alike n v w agree
-pieces_alike n (suc k) P Q own v w agree = rw (empty_alike n v w agree, joined_alike n v w P Q (in_pieces P k) (in_pieces Q k) own (pieces_alike n k P Q own) agree) refl
+pieces_alike n (suc k) P Q own v w agree =
+    rw (empty_alike n v w agree, joined_alike n v w P Q (in_pieces P k) (in_pieces Q k) own (pieces_alike n k P Q own) agree) refl
 
 as_long : (n : ℕ) (v w : Word) → AgreeBelow n v w → length v ≡ length w
 as_long n [] [] agree = refl

@@ -28,10 +28,12 @@ joined_empty P Q = by (P [] && Q []) where
 
 -- a cut stays one where the second language holds more of what can stand behind it
 pub joined_wider : (w : Word) (P Q R : Language) → ((v : Word) → length v ≤ length w → Q v ≡ true → R v ≡ true) → joined P Q w ≡ true → joined P R w ≡ true
-joined_wider [] P Q R wider h = let cut = and_parts (P []) (Q []) (sym (joined_empty P Q) ∙ h) in joined_empty P R ∙ rw (cut.0, wider [] (omega arith) cut.1) refl
+joined_wider [] P Q R wider h = let cut = and_parts (P []) (Q []) (sym (joined_empty P Q) ∙ h) in joined_empty P R
+    ∙ rw (cut.0, wider [] (omega arith) cut.1) refl
 joined_wider (l ∷ w) P Q R wider h =
     joined_cons P R l w ∙ elim (or_cases _ _ (sym (joined_cons P Q l w) ∙ h)) [
-      | inl front ↦ (let cut = and_parts (P []) (Q (l ∷ w)) front in or_left (P [] && R (l ∷ w)) (joined (after l P) R w) (rw (cut.0, wider (l ∷ w) (omega arith) cut.1) refl))
+      | inl front ↦ (let cut = and_parts (P []) (Q (l ∷ w)) front in
+          or_left (P [] && R (l ∷ w)) (joined (after l P) R w) (rw (cut.0, wider (l ∷ w) (omega arith) cut.1) refl))
       | inr later ↦ or_right _ _ (joined_wider w (after l P) Q R (λ v short. wider v (omega (arith, short))) later)
     ]
 
@@ -44,7 +46,9 @@ enough_pieces zero (suc k) P (l ∷ w) few h = absurd (search (h, rules))
 enough_pieces (suc n) (suc k) P (l ∷ w) few h =
     elim (or_cases _ _ (sym (joined_cons P (in_pieces P n) l w) ∙ h)) [
       | inl front ↦ enough_pieces n (suc k) P (l ∷ w) few (and_parts (P []) (in_pieces P n (l ∷ w)) front).1
-      | inr later ↦ joined_cons P (in_pieces P k) l w ∙ or_right _ _ (joined_wider w (after l P) (in_pieces P n) (in_pieces P k) (λ v short. enough_pieces n k P v (omega (arith, short, few))) later)
+      | inr later ↦ joined_cons P (in_pieces P k) l w
+          ∙ or_right _ _ (joined_wider w (after l P) (in_pieces P n) (in_pieces P k)
+          (λ v short. enough_pieces n k P v (omega (arith, short, few))) later)
     ]
 
 pub any_number : (P : Language) (n : ℕ) (w : Word) → in_pieces P n w ≡ true → repeated P w ≡ true
@@ -60,7 +64,9 @@ pieces_later (suc n) P l w h =
     ]
 
 pieces_sooner : (P : Language) (l : HalfStep) (w : Word) → joined (after l P) (repeated P) w ≡ true → repeated P (l ∷ w) ≡ true
-pieces_sooner P l w h = joined_cons P (in_pieces P (length w)) l w ∙ or_right _ _ (joined_wider w (after l P) (repeated P) (in_pieces P (length w)) (λ v short. enough_pieces (length v) (length w) P v short) h)
+pieces_sooner P l w h = joined_cons P (in_pieces P (length w)) l w
+    ∙ or_right _ _ (joined_wider w (after l P) (repeated P) (in_pieces P (length w))
+    (λ v short. enough_pieces (length v) (length w) P v short) h)
 
 -- behind a half step, a repetition is what is left of a word, and then the repetition
 pub repeated_cons : (P : Language) (l : HalfStep) (w : Word) → repeated P (l ∷ w) ≡ joined (after l P) (repeated P) w

@@ -7,7 +7,8 @@ use Rattle.pq_expr.specs.Language.{Language, is_empty, joined}
 use Rattle.pq_expr.proofs.Cuts.{after, joined_empty, joined_cons}
 
 -- a joined word is cut where its things are
-pub joined_cut : {A : Type 0} (f : A → HalfStep) (w : List A) (P Q : Language) → joined P Q (map f w) ≡ true → (u : List A) × (v : List A) × (w ≡ u ++ v) × (P (map f u) ≡ true) × (Q (map f v) ≡ true)
+pub joined_cut : {A : Type 0} (f : A → HalfStep) (w : List A) (P Q : Language) → joined P Q (map f w) ≡ true
+    → (u : List A) × (v : List A) × (w ≡ u ++ v) × (P (map f u) ≡ true) × (Q (map f v) ≡ true)
 joined_cut f [] P Q h = let cut = and_parts (P []) (Q []) (sym (joined_empty P Q) ∙ h) in ([], [], refl, cut.0, cut.1)
 joined_cut f (x ∷ w) P Q h =
     elim (or_cases _ _ (sym (joined_cons P Q (f x) (map f w)) ∙ h)) [

@@ -44,5 +44,29 @@ same_writes v w =
     let ipv4_srcs = both _ _ (same_option v.ipv4_src w.ipv4_src) ipv4_dsts in
     let eth_dsts = both _ _ (same_option v.eth_dst w.eth_dst) ipv4_srcs in
     let eth_srcs = both _ _ (same_option v.eth_src w.eth_src) eth_dsts in
-    let ports = both _ _ (same_option v.port w.port) eth_srcs in
-    (λ e. let q = ports.0 e in λ i. record { port = q.0 i; eth_src = q.1.0 i; eth_dst = q.1.1.0 i; ipv4_src = q.1.1.1.0 i; ipv4_dst = q.1.1.1.1.0 i; tcp_src = q.1.1.1.1.1.0 i; tcp_dst = q.1.1.1.1.1.1.0 i; udp_src = q.1.1.1.1.1.1.1.0 i; udp_dst = q.1.1.1.1.1.1.1.1 i }, λ e. ports.1 (ap (λ u. u.port) e, (ap (λ u. u.eth_src) e, (ap (λ u. u.eth_dst) e, (ap (λ u. u.ipv4_src) e, (ap (λ u. u.ipv4_dst) e, (ap (λ u. u.tcp_src) e, (ap (λ u. u.tcp_dst) e, (ap (λ u. u.udp_src) e, ap (λ u. u.udp_dst) e)))))))))
+    let ports = both _ _ (same_option v.port w.port) eth_srcs in (
+      λ e. let q = ports.0 e in λ i. record {
+        port = q.0 i;
+        eth_src = q.1.0 i;
+        eth_dst = q.1.1.0 i;
+        ipv4_src = q.1.1.1.0 i;
+        ipv4_dst = q.1.1.1.1.0 i;
+        tcp_src = q.1.1.1.1.1.0 i;
+        tcp_dst = q.1.1.1.1.1.1.0 i;
+        udp_src = q.1.1.1.1.1.1.1.0 i;
+        udp_dst = q.1.1.1.1.1.1.1.1 i;
+      },
+      λ e. ports.1 (
+        ap (λ u. u.port) e,
+        (
+          ap (λ u. u.eth_src) e,
+          (
+            ap (λ u. u.eth_dst) e,
+            (
+              ap (λ u. u.ipv4_src) e,
+              (ap (λ u. u.ipv4_dst) e, (ap (λ u. u.tcp_src) e, (ap (λ u. u.tcp_dst) e, (ap (λ u. u.udp_src) e, ap (λ u. u.udp_dst) e)))),
+            ),
+          ),
+        ),
+      ),
+    )

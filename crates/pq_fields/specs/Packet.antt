@@ -1,7 +1,8 @@
 -- A packet as its fourteen numbers: the widths of its fields, which fields it has, and the order of packets.
 use Rattle.std.specs.Prelude.{ℕ, ◌-◌, ◌/◌, ◌%◌, ◌^◌, ◌<◌, Bool, true, false, List, [], ◌∷◌, nat_lt, ◌==◌, ◌&&◌, ◌||◌}
 use Rattle.pq_fields.specs.declared.field.Field.{Field}
-use Rattle.pq_fields.specs.declared.field.Field.TheVariants.{Switch, Port, EthType, IpProto, EthSrc, EthDst, Ipv4Src, Ipv4Dst, TcpSrc, TcpDst, UdpSrc, UdpDst, Ipv6Src, Ipv6Dst}
+use Rattle.pq_fields.specs.declared.field.Field.TheVariants.{Switch, Port, EthType, IpProto, EthSrc, EthDst, Ipv4Src, Ipv4Dst, TcpSrc}
+use Rattle.pq_fields.specs.declared.field.Field.TheVariants.{TcpDst, UdpSrc, UdpDst, Ipv6Src, Ipv6Dst}
 
 -- the numbers of a packet, in field order
 pub record Numbers : Type 0 where
@@ -148,11 +149,27 @@ bit_in f place x = number_in f x / 2 ^ (width_of f - 1 - place) % 2 == 1
 
 -- the packet whose numbers are all 0
 abbrev pub zero_packet : Numbers
-zero_packet = record { switch = 0; port = 0; eth_type = 0; ip_proto = 0; eth_src = 0; eth_dst = 0; ipv4_src = 0; ipv4_dst = 0; tcp_src = 0; tcp_dst = 0; udp_src = 0; udp_dst = 0; ipv6_src = 0; ipv6_dst = 0 }
+zero_packet = record {
+  switch = 0;
+  port = 0;
+  eth_type = 0;
+  ip_proto = 0;
+  eth_src = 0;
+  eth_dst = 0;
+  ipv4_src = 0;
+  ipv4_dst = 0;
+  tcp_src = 0;
+  tcp_dst = 0;
+  udp_src = 0;
+  udp_dst = 0;
+  ipv6_src = 0;
+  ipv6_dst = 0;
+}
 
 -- a packet's numbers as a list, in field order
 abbrev pub numbers : Numbers → List ℕ
-numbers x = x.switch ∷ x.port ∷ x.eth_type ∷ x.ip_proto ∷ x.eth_src ∷ x.eth_dst ∷ x.ipv4_src ∷ x.ipv4_dst ∷ x.tcp_src ∷ x.tcp_dst ∷ x.udp_src ∷ x.udp_dst ∷ x.ipv6_src ∷ x.ipv6_dst ∷ []
+numbers x = x.switch ∷ x.port ∷ x.eth_type ∷ x.ip_proto ∷ x.eth_src ∷ x.eth_dst ∷ x.ipv4_src ∷ x.ipv4_dst ∷ x.tcp_src ∷ x.tcp_dst ∷
+    x.udp_src ∷ x.udp_dst ∷ x.ipv6_src ∷ x.ipv6_dst ∷ []
 
 -- the order of lists of numbers: the first that differs decides, and a list stands before each that it begins
 abbrev pub is_before : List ℕ → List ℕ → Bool

@@ -2,7 +2,8 @@
 use Rattle.std.specs.Prelude.{ℕ, suc, ◌^◌, ◌<◌, Bool, List, [], ◌∷◌, Option, None, Some, nat_lt, ◌==◌, ◌||◌, ◌&&◌, if◌then◌else◌}
 use Rattle.std.specs.Option.{unwrap_or}
 use Rattle.pq_fields.specs.declared.field.Field.{Field}
-use Rattle.pq_fields.specs.declared.field.Field.TheVariants.{Switch, Port, EthType, IpProto, EthSrc, EthDst, Ipv4Src, Ipv4Dst, TcpSrc, TcpDst, UdpSrc, UdpDst, Ipv6Src, Ipv6Dst}
+use Rattle.pq_fields.specs.declared.field.Field.TheVariants.{Switch, Port, EthType, IpProto, EthSrc, EthDst, Ipv4Src, Ipv4Dst, TcpSrc}
+use Rattle.pq_fields.specs.declared.field.Field.TheVariants.{TcpDst, UdpSrc, UdpDst, Ipv6Src, Ipv6Dst}
 use Rattle.pq_fields.specs.Packet.{Numbers, has_field, number_in, rank}
 
 -- the number to write into each field that can be written, in field order; None where it stays
@@ -57,7 +58,17 @@ written_in Ipv6Dst w = None
 
 -- nothing is written
 abbrev pub no_writes : Written
-no_writes = record { port = None; eth_src = None; eth_dst = None; ipv4_src = None; ipv4_dst = None; tcp_src = None; tcp_dst = None; udp_src = None; udp_dst = None }
+no_writes = record {
+  port = None;
+  eth_src = None;
+  eth_dst = None;
+  ipv4_src = None;
+  ipv4_dst = None;
+  tcp_src = None;
+  tcp_dst = None;
+  udp_src = None;
+  udp_dst = None;
+}
 
 -- a number for one field in place of the one that was to be written; of a field that can be written
 abbrev pub with_write : Field → ℕ → Written → Written
@@ -83,7 +94,19 @@ number_after f w x = if has_field f x then unwrap_or (written_in f w) (number_in
 -- the packet with each field that is written, and that it has, set to its number
 abbrev pub on : Written → Numbers → Numbers
 on w x =
-    record x { port = number_after Port w x; eth_src = number_after EthSrc w x; eth_dst = number_after EthDst w x; ipv4_src = number_after Ipv4Src w x; ipv4_dst = number_after Ipv4Dst w x; tcp_src = number_after TcpSrc w x; tcp_dst = number_after TcpDst w x; udp_src = number_after UdpSrc w x; udp_dst = number_after UdpDst w x }
+    record x {
+      port = number_after Port w x;
+      eth_src = number_after EthSrc w x;
+      eth_dst = number_after EthDst w x;
+      ipv4_src =
+          number_after Ipv4Src w x;
+      ipv4_dst = number_after Ipv4Dst w x;
+      tcp_src = number_after TcpSrc w x;
+      tcp_dst =
+          number_after TcpDst w x;
+      udp_src = number_after UdpSrc w x;
+      udp_dst = number_after UdpDst w x;
+    }
 
 -- the second packet's number where the two differ in the field
 abbrev pub changed : Field → Numbers → Numbers → Option ℕ
@@ -92,7 +115,19 @@ changed f x y = if number_in f x == number_in f y then None else Some (number_in
 -- what turns the first packet into the second, where they differ only in fields that can be written: exactly the fields in which they differ
 abbrev pub diff : Numbers → Numbers → Written
 diff x y =
-    record { port = changed Port x y; eth_src = changed EthSrc x y; eth_dst = changed EthDst x y; ipv4_src = changed Ipv4Src x y; ipv4_dst = changed Ipv4Dst x y; tcp_src = changed TcpSrc x y; tcp_dst = changed TcpDst x y; udp_src = changed UdpSrc x y; udp_dst = changed UdpDst x y }
+    record {
+      port = changed Port x y;
+      eth_src = changed EthSrc x y;
+      eth_dst = changed EthDst x y;
+      ipv4_src = changed Ipv4Src x y;
+      ipv4_dst =
+          changed Ipv4Dst x y;
+      tcp_src = changed TcpSrc x y;
+      tcp_dst = changed TcpDst x y;
+      udp_src = changed UdpSrc x y;
+      udp_dst =
+          changed UdpDst x y;
+    }
 
 -- a number to write as a number: None stands below all
 abbrev pub place_of : Option ℕ → ℕ
@@ -101,4 +136,5 @@ place_of (Some n) = suc n
 
 -- what is written as a list of numbers, in field order
 abbrev pub places : Written → List ℕ
-places w = place_of w.port ∷ place_of w.eth_src ∷ place_of w.eth_dst ∷ place_of w.ipv4_src ∷ place_of w.ipv4_dst ∷ place_of w.tcp_src ∷ place_of w.tcp_dst ∷ place_of w.udp_src ∷ place_of w.udp_dst ∷ []
+places w = place_of w.port ∷ place_of w.eth_src ∷ place_of w.eth_dst ∷ place_of w.ipv4_src ∷ place_of w.ipv4_dst ∷ place_of w.tcp_src ∷
+    place_of w.tcp_dst ∷ place_of w.udp_src ∷ place_of w.udp_dst ∷ []

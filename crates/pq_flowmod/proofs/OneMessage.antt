@@ -15,12 +15,14 @@ use Rattle.pq_model.specs.declared.message.Message.{Message}
 use Rattle.pq_model.specs.declared.message.Message.TheVariants.{Flow, Group as Grouping, Barrier}
 use Rattle.pq_model.specs.Lawful.{IsLawfulAction, IsLawfulBucket, IsLawfulCommand, IsLawfulFlow, IsLawfulGroup, IsLawfulGrouping, IsLawfulMessage}
 use Rattle.pq_model.specs.Mods.{FlowValue, GroupValue}
-use Rattle.pq_model.specs.Spelling.{action_bytes, actions_bytes, apply_bytes, bucket_bytes, flow_body, flow_code, goto_bytes, group_body, group_code, match_bytes, message_bytes}
+use Rattle.pq_model.specs.Spelling.{action_bytes, actions_bytes, apply_bytes, bucket_bytes, flow_body, flow_code, goto_bytes, group_body}
+use Rattle.pq_model.specs.Spelling.{group_code, match_bytes, message_bytes}
 use Rattle.pq_oxm.proofs.Whole.{one_match}
 use Rattle.pq_flowmod.specs.Reading.{IsReadable, action_in, message_body, message_kind, message_xid}
 use Rattle.pq_flowmod.proofs.ActionsRead.{action_long, action_read, action_told}
 use Rattle.pq_flowmod.proofs.FlowLaws.{flow_is, goes_nowhere, goes_on, is_applied, not_applied}
-use Rattle.pq_flowmod.proofs.Parts.{bucket_long, bucket_told, buckets_short, each_readable, flow_parted, group_below, group_parted, instructions_short, message_parted}
+use Rattle.pq_flowmod.proofs.Parts.{bucket_long, bucket_told, buckets_short, each_readable, flow_parted, group_below, group_parted}
+use Rattle.pq_flowmod.proofs.Parts.{instructions_short, message_parted}
 
 -- things whose spellings tell the first of them are told by the spellings of all
 one_list : {A : Type 0} (spelling : A → List ℕ) (IsLawful : A → Type 0) → ((a : A) → IsLawful a → 0 < length (spelling a)) →
@@ -30,18 +32,28 @@ one_list spelling IsLawful long first [] [] law other same = refl
 one_list spelling IsLawful long first [] (b ∷ bs) law other same =
     absurd (omega (arith, long b (other 0 b (omega arith)), ap length (same ∙ flat_map-cons spelling b bs), length-append (spelling b) (flat_map spelling bs)))
 one_list spelling IsLawful long first (a ∷ as_) [] law other same =
-    absurd (omega (arith, long a (law 0 a (omega arith)), ap length (sym same ∙ flat_map-cons spelling a as_), length-append (spelling a) (flat_map spelling as_)))
+    absurd (omega (
+      arith,
+      long a (law 0 a (omega arith)),
+      ap length (sym same ∙ flat_map-cons spelling a as_),
+      length-append (spelling a) (flat_map spelling as_),
+    ))
 one_list {A} spelling IsLawful long first (a ∷ as_) (b ∷ bs) law other same =
-    let next = first a b (flat_map spelling as_) (flat_map spelling bs) (law 0 a (omega arith)) (other 0 b (omega arith)) (sym (flat_map-cons spelling a as_) ∙ same ∙ flat_map-cons spelling b bs) in
+    let next = first a b (flat_map spelling as_) (flat_map spelling bs) (law 0 a (omega arith)) (other 0 b (omega arith))
+    (sym (flat_map-cons spelling a as_) ∙ same ∙ flat_map-cons spelling b bs) in
     let tail : as_ ≡ bs = one_list spelling IsLawful long first as_ bs (All-tail IsLawful a as_ law) (All-tail IsLawful b bs other) next.1 in
     λ i. next.0 i ∷ tail i
 
-first_action : (a b : Action) (more others : List ℕ) → IsLawfulAction a → IsLawfulAction b → action_bytes a ++ more ≡ action_bytes b ++ others → (a ≡ b) × (more ≡ others)
+first_action : (a b : Action) (more others : List ℕ) → IsLawfulAction a → IsLawfulAction b
+    → action_bytes a ++ more ≡ action_bytes b ++ others → (a ≡ b) × (more ≡ others)
 first_action a b more others law other same =
     let bytes : List ℕ = action_bytes a ++ more in
-    let long : length (action_bytes a) ≡ length (action_bytes b) = sym (action_told bytes a more law refl).told ∙ (action_told bytes b others other same).told in
-    let front : action_bytes a ≡ action_bytes b = sym (take_at (action_bytes a) more (length (action_bytes a)) refl) ∙ ap (take (length (action_bytes a))) same ∙ take_at (action_bytes b) others (length (action_bytes a)) (sym long) in
-    let behind : more ≡ others = sym (drop_at (action_bytes a) more (length (action_bytes a)) refl) ∙ ap (drop (length (action_bytes a))) same ∙ drop_at (action_bytes b) others (length (action_bytes a)) (sym long) in
+    let long : length (action_bytes a) ≡ length (action_bytes b) = sym (action_told bytes a more law refl).told
+    ∙ (action_told bytes b others other same).told in
+    let front : action_bytes a ≡ action_bytes b = sym (take_at (action_bytes a) more (length (action_bytes a)) refl)
+    ∙ ap (take (length (action_bytes a))) same ∙ take_at (action_bytes b) others (length (action_bytes a)) (sym long) in
+    let behind : more ≡ others = sym (drop_at (action_bytes a) more (length (action_bytes a)) refl)
+    ∙ ap (drop (length (action_bytes a))) same ∙ drop_at (action_bytes b) others (length (action_bytes a)) (sym long) in
     let read : Some a ≡ Some b = sym (action_read a law) ∙ ap action_in front ∙ action_read b other in
     (cc, behind)
 
@@ -49,14 +61,16 @@ first_action a b more others law other same =
 one_action_list : (as_ bs : List Action) → All IsLawfulAction as_ → All IsLawfulAction bs → actions_bytes as_ ≡ actions_bytes bs → as_ ≡ bs
 one_action_list = one_list action_bytes IsLawfulAction action_long first_action
 
-first_bucket : (a b : List Action) (more others : List ℕ) → IsReadable a → IsReadable b → bucket_bytes a ++ more ≡ bucket_bytes b ++ others → (a ≡ b) × (more ≡ others)
+first_bucket : (a b : List Action) (more others : List ℕ) → IsReadable a → IsReadable b → bucket_bytes a ++ more ≡ bucket_bytes b ++ others
+    → (a ≡ b) × (more ≡ others)
 first_bucket a b more others law other same =
     let bytes : List ℕ = bucket_bytes a ++ more in
     let one = bucket_told bytes a more law.1 refl in
     let two = bucket_told bytes b others other.1 same in
     let long : length (bucket_bytes a) ≡ length (bucket_bytes b) = sym one.told ∙ two.told in
     let inside : actions_bytes a ≡ actions_bytes b = sym one.inside ∙ ap (λ (k : ℕ). take (k - 16) (drop 16 bytes)) long ∙ two.inside in
-    let behind : more ≡ others = sym (drop_at (bucket_bytes a) more (length (bucket_bytes a)) refl) ∙ ap (drop (length (bucket_bytes a))) same ∙ drop_at (bucket_bytes b) others (length (bucket_bytes a)) (sym long) in
+    let behind : more ≡ others = sym (drop_at (bucket_bytes a) more (length (bucket_bytes a)) refl)
+    ∙ ap (drop (length (bucket_bytes a))) same ∙ drop_at (bucket_bytes b) others (length (bucket_bytes a)) (sym long) in
     (one_action_list a b law.0 other.0 inside, behind)
 
 -- the spellings of buckets tell them
@@ -137,12 +151,16 @@ one_flow f h law other xid short same =
     let one = flow_parted body f refl in
     let two = flow_parted body h same in
     let matching : f.matching ≡ h.matching = one_match f.matching h.matching _ _ law.matching other.matching (sym one.rest ∙ two.rest) in
-    let rests : match_bytes f.matching ++ (apply_bytes f.actions ++ goto_bytes f.goto) ≡ match_bytes f.matching ++ (apply_bytes h.actions ++ goto_bytes h.goto) =
+    let rests : match_bytes f.matching ++ (apply_bytes f.actions ++ goto_bytes f.goto) ≡ match_bytes f.matching
+    ++ (apply_bytes h.actions ++ goto_bytes h.goto) =
     sym one.rest ∙ two.rest ∙ ap (λ (m : _). match_bytes m ++ (apply_bytes h.actions ++ goto_bytes h.goto)) (sym matching) in
     let behind : apply_bytes f.actions ++ goto_bytes f.goto ≡ apply_bytes h.actions ++ goto_bytes h.goto =
-    sym (drop_at (match_bytes f.matching) _ (length (match_bytes f.matching)) refl) ∙ ap (drop (length (match_bytes f.matching))) rests ∙ drop_at (match_bytes f.matching) _ (length (match_bytes f.matching)) refl in
-    let parts = one_parting f.actions h.actions f.goto h.goto (instructions_short body f refl short) (instructions_short body h same (subst (λ (bs : List ℕ). length bs < 2 ^ 16) same short)) behind in
-    flow_is h f.xid f.cookie f.table f.command f.priority f.matching f.actions f.goto xid (sym (one.cookie law.cookie) ∙ two.cookie other.cookie) (sym one.table ∙ two.table)
+    sym (drop_at (match_bytes f.matching) _ (length (match_bytes f.matching)) refl) ∙ ap (drop (length (match_bytes f.matching))) rests
+    ∙ drop_at (match_bytes f.matching) _ (length (match_bytes f.matching)) refl in
+    let parts = one_parting f.actions h.actions f.goto h.goto (instructions_short body f refl short)
+    (instructions_short body h same (subst (λ (bs : List ℕ). length bs < 2 ^ 16) same short)) behind in
+    flow_is h f.xid f.cookie f.table f.command f.priority f.matching f.actions f.goto xid (sym (one.cookie law.cookie)
+    ∙ two.cookie other.cookie) (sym one.table ∙ two.table)
     (one_code f.command h.command (sym one.command ∙ two.command)) (sym (one.priority law.priority) ∙ two.priority other.priority) matching
     (one_action_list f.actions h.actions (lawful_actions f law) (lawful_actions h other) parts.0) (one_goto f.goto h.goto parts.1)
 
@@ -159,7 +177,8 @@ one_group g h law other xid short same =
     (sym one.rest ∙ two.rest) in
     λ i. record { xid = xid i; command = command i; group = group i; buckets = buckets i }
 
-one_content : (m n : Message) → IsLawfulMessage m → IsLawfulMessage n → message_kind m ≡ message_kind n → message_xid m ≡ message_xid n → length (message_body m) < 2 ^ 16 → message_body m ≡ message_body n → m ≡ n
+one_content : (m n : Message) → IsLawfulMessage m → IsLawfulMessage n → message_kind m ≡ message_kind n → message_xid m ≡ message_xid n
+    → length (message_body m) < 2 ^ 16 → message_body m ≡ message_body n → m ≡ n
 one_content (Flow f) (Flow h) law other kind xid short same = ap Flow (one_flow f h law.content other.content xid short same)
 one_content (Flow f) (Grouping h) law other kind xid short same = absurd (omega (arith, kind))
 one_content (Flow f) (Barrier h) law other kind xid short same = absurd (omega (arith, kind))

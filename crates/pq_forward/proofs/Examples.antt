@@ -33,7 +33,8 @@ switch_is_lawful = (
   omega arith,
   (λ none. cc),
   (omega arith, (omega arith, tt)),
-  All-cons IsPortNumber 1 (2 ∷ 3 ∷ []) (search rules) (All-cons IsPortNumber 2 (3 ∷ []) (search rules) (All-cons IsPortNumber 3 [] (search rules) (All-nil IsPortNumber))),
+  All-cons IsPortNumber 1 (2 ∷ 3 ∷ []) (search rules)
+      (All-cons IsPortNumber 2 (3 ∷ []) (search rules) (All-cons IsPortNumber 3 [] (search rules) (All-nil IsPortNumber))),
 )
 
 -- the topology keeps the rules
@@ -66,7 +67,9 @@ topology_within =
     let At : Switch → Type 0 = λ s. IsAmong s.datapath example_numbers × All AtPort s.ports in
     All-cons At example_switch [] (
       found_among 1 example_numbers refl,
-      All-cons AtPort 1 (2 ∷ 3 ∷ []) (found_among 1 example_numbers refl) (All-cons AtPort 2 (3 ∷ []) (found_among 2 example_numbers refl) (All-cons AtPort 3 [] (found_among 3 example_numbers refl) (All-nil AtPort))),
+      All-cons AtPort 1 (2 ∷ 3 ∷ []) (found_among 1 example_numbers refl)
+          (All-cons AtPort 2 (3 ∷ []) (found_among 2 example_numbers refl)
+          (All-cons AtPort 3 [] (found_among 3 example_numbers refl) (All-nil AtPort))),
     ) (All-nil At)
 
 -- so examples have diagrams
@@ -90,7 +93,11 @@ module _ (n : ℕ) (known : list_any (λ m. n == m) example_numbers ≡ true) wh
   module _ (f : Field) (fits : n < 2 ^ width_of f) where
     -- the write of a number
     pub write_example : is_writable f ≡ true → IsExamplePolicy (policy_tree (policy.Mod f n))
-    write_example writable = subst IsExamplePolicy (sym is) (leaf_example (Write f n) (writable, fits) (λ whole. found_among n example_numbers known, needs_known f))
+    write_example writable =
+        subst IsExamplePolicy (sym is) (leaf_example (Write f n) (writable, fits) (
+          λ whole. found_among n example_numbers known,
+          needs_known f,
+        ))
       where
         is : policy_tree (policy.Mod f n) ≡ leaf (Write f n)
         is = ap policy_tree (sym (policy.rolls-Mod f n)) ∙ fold-roll-Policy PolicyTree policy_step (Policy-F.Mod f n)

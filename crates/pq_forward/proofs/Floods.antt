@@ -1,5 +1,6 @@
 -- The trees over the switches of a topology.
-use Rattle.std.proofs.Common.{ℕ, ◌<◌, ◌≡◌, ◌∙◌, Bool, true, false, List, [], ◌∷◌, ◌++◌, length, Some, ◌==◌, if◌then◌else◌, inl, inr, refl, sym, ap, subst, arith, append_assoc, append-nil}
+use Rattle.std.proofs.Common.{ℕ, ◌<◌, ◌≡◌, ◌∙◌, Bool, true, false, List, [], ◌∷◌, ◌++◌, length, Some, ◌==◌, if◌then◌else◌, inl, inr, refl}
+use Rattle.std.proofs.Common.{sym, ap, subst, arith, append_assoc, append-nil}
 use Rattle.std.specs.Prelude.{◌⊎◌, slice_get}
 use Rattle.std.specs.List.{Any, Contains, push}
 use Rattle.std.proofs.lemmas.Bool.{eq-eqb, ne_eqb}
@@ -88,7 +89,8 @@ flood_none = record {
 abbrev AreWithin : (Field → List ℕ) → List SwitchValue → Type 0
 AreWithin ns ss = (s : SwitchValue) → Contains ss s → IsAmong s.datapath (ns Switch) × ((p : ℕ) → Contains s.ports p → IsAmong p (ns Port))
 
-module _ (s : SwitchValue) (met : List SwitchValue) (y n : Tree (List Written)) (lawful : AreLawful s met) (spread : IsSpread s.ports y) (over : IsFloodOver met n) where
+module _ (s : SwitchValue) (met : List SwitchValue) (y n : Tree (List Written)) (lawful : AreLawful s met) (spread : IsSpread s.ports y)
+    (over : IsFloodOver met n) where
   -- the test of the switch
   abbrev here : Test
   here = Equal Switch s.datapath
@@ -117,7 +119,8 @@ module _ (s : SwitchValue) (met : List SwitchValue) (y n : Tree (List Written)) 
         before_no = over.first s.datapath lawful.rise;
         once = skips_switches y (of_ports s.ports y spread);
         fits = few_fit ns (Fork here y n)
-            (numbers_few (datapaths (s ∷ met)) (ports (s ∷ met)) (omega (arith, lawful.few, length-map (s ∷ met) (λ r. r.datapath))) (omega (arith, lawful.few_ports, ports_count (s ∷ met))))
+            (numbers_few (datapaths (s ∷ met)) (ports (s ∷ met)) (omega (arith, lawful.few, length-map (s ∷ met) (λ r. r.datapath)))
+            (omega (arith, lawful.few_ports, ports_count (s ∷ met))))
             (fork_in ns (λ r there. (
               any_of (λ d. r.datapath ≡ d) (datapaths (s ∷ met)) r.datapath (datapath_among (s ∷ met) r there) refl,
               λ p port. any_of (λ q. p ≡ q) (ports (s ∷ met)) p (port_among (s ∷ met) r p there port) refl,
@@ -128,7 +131,8 @@ module _ (s : SwitchValue) (met : List SwitchValue) (y n : Tree (List Written)) 
   module _ (r : Tree (List Written)) (join : IsJoin here y n r) where
     -- the joined tree has the value of the side of the packet's switch
     side_value : (x : Numbers) → value r x ≡ (if s.datapath == x.switch then value y x else value n x)
-    side_value x = join_value here y n r x join (over.first s.datapath lawful.rise) over.ascends ∙ ap (λ b. if b then value y x else value n x) (turned x.switch s.datapath)
+    side_value x = join_value here y n r x join (over.first s.datapath lawful.rise) over.ascends
+        ∙ ap (λ b. if b then value y x else value n x) (turned x.switch s.datapath)
       where
         turned : (a b : ℕ) → (a == b) ≡ (b == a)
         turned a b = elim (eqb_tells a b) [ inl same ↦ same.0 ∙ sym (eq-eqb b a (sym same.1)) | inr other ↦ other.0 ∙ sym (ne_eqb b a (λ e. other.1 (sym e))) ]
@@ -177,11 +181,13 @@ pub record IsFloodBehind (front ss : List SwitchValue) (ts : List (Tree (List Wr
   pub has : HasAt (IsFloodOver met) ts k
 
 -- none are met at first
-pub behind_all : (front ss : List SwitchValue) (ts : List (Tree (List Written))) (k : ℕ) → front ≡ ss → slice_get ts k ≡ Some (Tip []) → IsFloodBehind front ss ts k
+pub behind_all : (front ss : List SwitchValue) (ts : List (Tree (List Written))) (k : ℕ) → front ≡ ss → slice_get ts k ≡ Some (Tip [])
+    → IsFloodBehind front ss ts k
 behind_all front ss ts k whole is = record { met = []; all = sym (append-nil front ∙ whole); has = (Tip [], is, flood_none) }
 
 -- the tree stays while the store grows
-pub behind_still : (front ss : List SwitchValue) (old new : List (Tree (List Written))) (k : ℕ) → Keeps old new → IsFloodBehind front ss old k → IsFloodBehind front ss new k
+pub behind_still : (front ss : List SwitchValue) (old new : List (Tree (List Written))) (k : ℕ) → Keeps old new
+    → IsFloodBehind front ss old k → IsFloodBehind front ss new k
 behind_still front ss old new k keeps behind = record {
   met = behind.met;
   all = behind.all;
@@ -220,6 +226,7 @@ module _ (front : List SwitchValue) (s : SwitchValue) (T : Topology) (ts : List 
         }
 
 -- with no switch left the tree at the place is that over all
-pub behind_none : (front ss : List SwitchValue) (ts : List (Tree (List Written))) (k : ℕ) → length front ≡ 0 → IsFloodBehind front ss ts k → HasAt (IsFlood ss) ts k
+pub behind_none : (front ss : List SwitchValue) (ts : List (Tree (List Written))) (k : ℕ) → length front ≡ 0 → IsFloodBehind front ss ts k
+    → HasAt (IsFlood ss) ts k
 behind_none [] ss ts k none behind = (behind.has.0, behind.has.1, subst (λ qs. IsFlood qs behind.has.0) (sym behind.all) behind.has.2.flood)
 behind_none (s ∷ front) ss ts k none behind = absurd (omega (arith, none))

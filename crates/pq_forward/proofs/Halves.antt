@@ -1,5 +1,6 @@
 -- What policies give together, from what the first of them and those behind these give.
-use Rattle.std.proofs.Common.{ℕ, ◌+◌, ◌<◌, ◌≤◌, ◌≡◌, ◌∙◌, suc, List, [], ◌∷◌, ◌++◌, map, take, drop, length, length-append, get_or, inl, inr, refl, sym, ap, subst, arith}
+use Rattle.std.proofs.Common.{ℕ, ◌+◌, ◌<◌, ◌≤◌, ◌≡◌, ◌∙◌, suc, List, [], ◌∷◌, ◌++◌, map, take, drop, length, length-append, get_or, inl}
+use Rattle.std.proofs.Common.{inr, refl, sym, ap, subst, arith}
 use Rattle.std.specs.Prelude.{◌⊎◌, ◌↔◌}
 use Rattle.std.proofs.lemmas.List.{length-map, map-append, take-append-drop}
 use Rattle.pq_fields.specs.declared.field.Field.{Field}
@@ -11,7 +12,8 @@ use Rattle.pq_store.proofs.RoomLemmas.{room_for}
 use Rattle.pq_forward.specs.Forward.{ArePoliciesWithin, FitAsForwards, number_of, work_of, works}
 
 -- the policies of a list are those of its halves
-pub halves_of : (ps front back : List Policy) (m : ℕ) → front ≡ take m ps → back ≡ drop m ps → policy_trees ps ≡ policies (map policy_tree front ++ map policy_tree back)
+pub halves_of : (ps front back : List Policy) (m : ℕ) → front ≡ take m ps → back ≡ drop m ps
+    → policy_trees ps ≡ policies (map policy_tree front ++ map policy_tree back)
 halves_of ps front back m front_is back_is =
     ap policy_trees (sym (take-append-drop m ps))
     ∙ (ap (λ qs. policy_trees (qs ++ drop m ps)) (sym front_is)
@@ -74,7 +76,8 @@ lawful_halves [] qs lawful = (tt, lawful)
 lawful_halves (p ∷ ps) qs lawful = let rest = lawful_halves ps qs lawful.2 in ((lawful.0, lawful.1, rest.0), rest.1)
 
 -- so the first fit where all do, and those behind them
-pub fit_halves : (T : Topology) (ps qs : List PolicyTree) → FitAsForwards T (policies (ps ++ qs)) → FitAsForwards T (policies ps) × FitAsForwards T (policies qs)
+pub fit_halves : (T : Topology) (ps qs : List PolicyTree) → FitAsForwards T (policies (ps ++ qs))
+    → FitAsForwards T (policies ps) × FitAsForwards T (policies qs)
 fit_halves T ps qs fit = (
   room_for (λ ns (topology, within). (topology, (within_halves ns ps qs within).0)) fit,
   room_for (λ ns (topology, within). (topology, (within_halves ns ps qs within).1)) fit,
@@ -134,7 +137,9 @@ one_listed (q ∷ r ∷ ps) p short long is = absurd (omega arith)
 module _ (ps front back : List Policy) (m : ℕ) (front_is : front ≡ take m ps) (back_is : back ≡ drop m ps) where
   -- both halves are lawful
   pub halves_lawful : AreLawfulPolicies (policy_trees ps) → AreLawfulPolicies (policy_trees front) × AreLawfulPolicies (policy_trees back)
-  halves_lawful lawful = lawful_halves (map policy_tree front) (map policy_tree back) (subst AreLawfulPolicies (halves_of ps front back m front_is back_is) lawful)
+  halves_lawful lawful =
+      lawful_halves (map policy_tree front) (map policy_tree back)
+      (subst AreLawfulPolicies (halves_of ps front back m front_is back_is) lawful)
 
   -- and fit
   pub halves_fit : (T : Topology) → FitAsForwards T (policy_trees ps) → FitAsForwards T (policy_trees front) × FitAsForwards T (policy_trees back)

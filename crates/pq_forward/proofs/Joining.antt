@@ -24,7 +24,8 @@ given_fits : (P : Numbers → Numbers → Type 0) (t : Tree (List Written)) → 
 given_fits P t giving x z fit (k, w, within, at, is) = subst Fit (sym is) (on_fits w x (subst AllFit at ((giving x fit).fit k w within)) fit)
 
 -- a tree of policies is idle-free
-pub forwards_idle_free : (T : Topology) (J : Joint) (ps : Policies) (ts : List (Tree (List Written))) (k : ℕ) → HasAt (IsForwards T J ps) ts k → IsIdleFreeAt ts k
+pub forwards_idle_free : (T : Topology) (J : Joint) (ps : Policies) (ts : List (Tree (List Written))) (k : ℕ)
+    → HasAt (IsForwards T J ps) ts k → IsIdleFreeAt ts k
 forwards_idle_free T J ps = has_idle_free (IsForwards T J ps) (Yields T ps J) (λ t is. is.giving)
 
 module _ (T : Topology) (xs ys : List PolicyTree) (t u r : Tree (List Written)) where
@@ -131,7 +132,8 @@ module _ {T : Topology} {J : Joint} {ps : List Policy} {ts : List (Tree (List Wr
 
 module _ (T : Topology) (ps : List Policy) (ts : List (Tree (List Written))) (i j : ℕ) (new : List (Tree (List Written))) (id : ℕ) where
   -- the union of both halves is that of all
-  pub united_at : (in_turn : Bool) → in_turn ≡ false → HaveHalves T (joint in_turn) ps ts i j → UnitesAt ts i j new id → HasAt (IsForwards T (joint in_turn) (policy_trees ps)) new id
+  pub united_at : (in_turn : Bool) → in_turn ≡ false → HaveHalves T (joint in_turn) ps ts i j → UnitesAt ts i j new id
+      → HasAt (IsForwards T (joint in_turn) (policy_trees ps)) new id
   united_at true is halves unites = absurd (true≢false is)
   united_at false is halves unites =
       let front = halves.front in
@@ -141,7 +143,8 @@ module _ (T : Topology) (ps : List Policy) (ts : List (Tree (List Written))) (i 
       (made.0, made.1, subst (λ qs. IsForwards T AnyOne qs made.0) (sym halves.all) all)
 
   -- and so is their sequence
-  pub sequenced_at : (in_turn : Bool) → in_turn ≡ true → HaveHalves T (joint in_turn) ps ts i j → SequencesAt ts i j new id → HasAt (IsForwards T (joint in_turn) (policy_trees ps)) new id
+  pub sequenced_at : (in_turn : Bool) → in_turn ≡ true → HaveHalves T (joint in_turn) ps ts i j → SequencesAt ts i j new id
+      → HasAt (IsForwards T (joint in_turn) (policy_trees ps)) new id
   sequenced_at false is halves sequences = absurd (true≢false (sym is))
   sequenced_at true is halves sequences =
       let front = halves.front in

@@ -1,5 +1,6 @@
 -- The trees over the ports of a switch.
-use Rattle.std.proofs.Common.{ℕ, ◌<◌, ◌≤◌, ◌≡◌, ◌∙◌, true, List, [], ◌∷◌, ◌++◌, length, Some, ◌==◌, if◌then◌else◌, inl, inr, refl, sym, ap, subst, arith, append_assoc, append-nil, get_or}
+use Rattle.std.proofs.Common.{ℕ, ◌<◌, ◌≤◌, ◌≡◌, ◌∙◌, true, List, [], ◌∷◌, ◌++◌, length, Some, ◌==◌, if◌then◌else◌, inl, inr, refl, sym, ap}
+use Rattle.std.proofs.Common.{subst, arith, append_assoc, append-nil, get_or}
 use Rattle.std.specs.Prelude.{◌≢◌, slice_get}
 use Rattle.std.specs.List.{All, Any, Contains, push}
 use Rattle.std.proofs.lemmas.Bool.{eq-eqb, ne_eqb}
@@ -90,7 +91,8 @@ module _ (p : ℕ) (met ps : List ℕ) (n : Tree (List Written)) (up : Rises (p 
     lawful = join_lawful (Equal Port p) (Tip (at_others p ps)) n r join (fork_lawful number);
     value = λ x. join_value (Equal Port p) (Tip (at_others p ps)) n r x join (spread.first p up) spread.ascends ∙ told x;
     ascends = join_ascends (Equal Port p) (Tip (at_others p ps)) n r join fork_ascends;
-    first = λ q more. join_first (Equal Port q) (Equal Port p) (Tip (at_others p ps)) n r join (inr (refl, more.0)) (spread.first q (without_second q p met more));
+    first = λ q more. join_first (Equal Port q) (Equal Port p) (Tip (at_others p ps)) n r join (inr (refl, more.0))
+        (spread.first q (without_second q p met more));
     tests = λ s tested. fork_tests s (join_tests (Equal Port p) (Tip (at_others p ps)) n r join s tested);
   }
     where
@@ -109,11 +111,13 @@ pub record IsSpreadBehind (front ps : List ℕ) (ts : List (Tree (List Written))
   pub has : HasAt (IsSpreadOver met ps) ts k
 
 -- none are met at first
-pub behind_all : (front ps : List ℕ) (ts : List (Tree (List Written))) (k : ℕ) → front ≡ ps → slice_get ts k ≡ Some (Tip (at_others 0 ps)) → IsSpreadBehind front ps ts k
+pub behind_all : (front ps : List ℕ) (ts : List (Tree (List Written))) (k : ℕ) → front ≡ ps → slice_get ts k ≡ Some (Tip (at_others 0 ps))
+    → IsSpreadBehind front ps ts k
 behind_all front ps ts k whole is = record { met = []; all = sym (append-nil front ∙ whole); has = (Tip (at_others 0 ps), is, spread_none ps) }
 
 -- the tree one_of_same while the store grows
-pub behind_still : (front ps : List ℕ) (old new : List (Tree (List Written))) (k : ℕ) → Keeps old new → IsSpreadBehind front ps old k → IsSpreadBehind front ps new k
+pub behind_still : (front ps : List ℕ) (old new : List (Tree (List Written))) (k : ℕ) → Keeps old new → IsSpreadBehind front ps old k
+    → IsSpreadBehind front ps new k
 behind_still front ps old new k keeps behind = record {
   met = behind.met;
   all = behind.all;
@@ -174,7 +178,17 @@ on_port p x = λ i. record x {
 
 -- a port's write fits
 port_fits : (p : ℕ) → IsPortNumber p → AllFit (at_port p)
-port_fits p number = record { port = omega (arith, number.1); eth_src = tt; eth_dst = tt; ipv4_src = tt; ipv4_dst = tt; tcp_src = tt; tcp_dst = tt; udp_src = tt; udp_dst = tt }
+port_fits p number = record {
+  port = omega (arith, number.1);
+  eth_src = tt;
+  eth_dst = tt;
+  ipv4_src = tt;
+  ipv4_dst = tt;
+  tcp_src = tt;
+  tcp_dst = tt;
+  udp_src = tt;
+  udp_dst = tt;
+}
 
 -- it changes a packet at another port
 port_changes : (p : ℕ) (x : Numbers) → p ≢ x.port → ChangesAll x (at_port p)
@@ -191,7 +205,8 @@ others_given : (ps : List ℕ) (x : Numbers) → Rises ps → All IsPortNumber p
 others_given ps x up numbers = record {
   ascend = others_ascend x.port ps up;
   fit = all_others AllFit x.port ps (All-weaker IsPortNumber (λ p. p ≢ x.port → AllFit (at_port p)) (λ p number other. port_fits p number) ps numbers);
-  idle_free = all_others (ChangesAll x) x.port ps (All-weaker IsPortNumber (λ p. p ≢ x.port → ChangesAll x (at_port p)) (λ p number other. port_changes p x other) ps numbers);
+  idle_free = all_others (ChangesAll x) x.port ps
+      (All-weaker IsPortNumber (λ p. p ≢ x.port → ChangesAll x (at_port p)) (λ p number other. port_changes p x other) ps numbers);
   gives = λ y. (into y, back y);
 }
   where
@@ -217,7 +232,8 @@ module _ (ps : List ℕ) (t : Tree (List Written)) (spread : IsSpreadOver ps ps 
   spread_value x = spread.value x ∙ others_of x.port ps numbers
 
   -- it writes the ports alone
-  spread_writes : (ns : Field → List ℕ) → ((p : ℕ) → Contains ps p → IsAmong p (ns Port)) → (f : Field) (n : ℕ) → IsToWrite f n t → IsCounted ns f n × NeedsAmong ns f
+  spread_writes : (ns : Field → List ℕ) → ((p : ℕ) → Contains ps p → IsAmong p (ns Port)) → (f : Field) (n : ℕ) → IsToWrite f n t
+      → IsCounted ns f n × NeedsAmong ns f
   spread_writes ns into f n (x, fit, any) =
       let (k, p, within, at, both) = any_of_others (λ w. written_in f w ≡ Some n) x.port ps (subst (Any (λ w. written_in f w ≡ Some n)) (spread_value x) any) in
       let only = alone Port f p n both.1 in (
@@ -239,7 +255,8 @@ module _ (ps : List ℕ) (t : Tree (List Written)) (spread : IsSpreadOver ps ps 
   }
 
 -- with no port left the tree at the place is that over all
-pub behind_none : (front ps : List ℕ) (ts : List (Tree (List Written))) (k : ℕ) → length front ≡ 0 → Rises ps → All IsPortNumber ps → IsSpreadBehind front ps ts k → HasAt (IsSpread ps) ts k
+pub behind_none : (front ps : List ℕ) (ts : List (Tree (List Written))) (k : ℕ) → length front ≡ 0 → Rises ps → All IsPortNumber ps
+    → IsSpreadBehind front ps ts k → HasAt (IsSpread ps) ts k
 behind_none [] ps ts k none up numbers behind =
     (behind.has.0, behind.has.1, spread_whole ps behind.has.0 (subst (λ qs. IsSpreadOver qs ps behind.has.0) (sym behind.all) behind.has.2) up numbers)
 behind_none (p ∷ front) ps ts k none up numbers behind = absurd (omega (arith, none))

@@ -70,7 +70,8 @@ lawful_there T front s met named parts =
     let lawful = named.lawful in
     record {
       switch = All-head IsLawfulSwitch s met (all_back IsLawfulSwitch front (s ∷ met) (subst (All IsLawfulSwitch) parts lawful.switches));
-      rise = last_ascend (datapaths front) (datapaths (s ∷ met)) (subst Ascends (ap datapaths parts ∙ map-append (λ r. r.datapath) front (s ∷ met)) lawful.ascending);
+      rise = last_ascend (datapaths front) (datapaths (s ∷ met))
+          (subst Ascends (ap datapaths parts ∙ map-append (λ r. r.datapath) front (s ∷ met)) lawful.ascending);
       few = omega (arith, lawful.few_switches, ap length parts, length-append front (s ∷ met));
       few_ports = omega (arith, lawful.few_ports, ap port_count parts, sum_by-append (λ r. length r.ports) front (s ∷ met));
     }

@@ -7,12 +7,14 @@ use Rattle.std.proofs.lemmas.Bool.{or_right, true≢false}
 use Rattle.std.proofs.lemmas.List.Elements.{All-contains}
 use Rattle.std.proofs.lemmas.Result.{IfOk-weaker}
 use Rattle.pq_fields.specs.declared.field.Field.{Field}
-use Rattle.pq_fields.specs.declared.field.Field.TheVariants.{Switch, Port, EthType, IpProto, EthSrc, EthDst, Ipv4Src, Ipv4Dst, TcpSrc, TcpDst, UdpSrc, UdpDst, Ipv6Src, Ipv6Dst}
+use Rattle.pq_fields.specs.declared.field.Field.TheVariants.{Switch, Port, EthType, IpProto, EthSrc, EthDst, Ipv4Src, Ipv4Dst, TcpSrc}
+use Rattle.pq_fields.specs.declared.field.Field.TheVariants.{TcpDst, UdpSrc, UdpDst, Ipv6Src, Ipv6Dst}
 use Rattle.pq_fields.specs.Packet.{Numbers, has_field, number_in, rank, with_number}
 use Rattle.pq_fields.specs.Pred.{PredTree, holds}
 use Rattle.pq_fields.specs.Writes.{Written, is_writable, no_writes, on, with_write, written_in}
 use Rattle.pq_model.specs.Topology.{Topology}
-use Rattle.pq_policy.specs.Policy.{AnyOne, Chained, Choose, Either, First, Forward, InTurn, Only, Pass, PolicyTree, Second, Spread, Write, Yields, leaf, none, policies, written, yields, is_writable as may_write}
+use Rattle.pq_policy.specs.Policy.{AnyOne, Chained, Choose, Either, First, Forward, InTurn, Only, Pass, PolicyTree, Second, Spread, Write}
+use Rattle.pq_policy.specs.Policy.{Yields, leaf, none, policies, written, yields, is_writable as may_write}
 use Rattle.pq_store.specs.Tree.{Tree, value}
 use Rattle.pq_store.specs.Tree.Tree.{Tip}
 use Rattle.pq_store.specs.Store.{HasAt}
@@ -134,7 +136,8 @@ module _ (f : Field) (n : ℕ) (t : Tree (List Written)) (writing : IsWriting f 
           subst (λ h. IsCounted ns h m × NeedsAmong ns h) (sym only.0) (subst (λ k. IsCounted ns f k × NeedsAmong ns f) (sym only.1) (number, needs))
 
   -- it gives what the policy that writes it gives
-  writing_giving : is_writable f ≡ true → (x : Numbers) → IsGiven x (λ y. y ≡ on (with_write f n no_writes) x) (value t x) → IsGiven x (λ y. y ≡ written f n x) (value t x)
+  writing_giving : is_writable f ≡ true → (x : Numbers) → IsGiven x (λ y. y ≡ on (with_write f n no_writes) x) (value t x)
+      → IsGiven x (λ y. y ≡ written f n x) (value t x)
   writing_giving writable x = subst (λ z. IsGiven x (λ y. y ≡ z) (value t x)) (one_write f n x writable)
 
 -- a field that a policy may write can be written
@@ -164,7 +167,8 @@ choice_of p a b = record { top = Choose p; below = policies (a ∷ b ∷ []) }
 
 module _ (T : Topology) (p : PredTree) (a b : PolicyTree) where
   -- the trees of both may come together with the predicate
-  pub sides_fit : FitAsForward T (choice_of p a b) → (ts : List (Tree (List Written))) (i j : ℕ) → HasAt (IsForward T a) ts i → HasAt (IsForward T b) ts j → FitByAt (pred_needs p) ts i j
+  pub sides_fit : FitAsForward T (choice_of p a b) → (ts : List (Tree (List Written))) (i j : ℕ) → HasAt (IsForward T a) ts i
+      → HasAt (IsForward T b) ts j → FitByAt (pred_needs p) ts i j
   sides_fit fit ts i j first second y n y_is n_is =
       room_for (λ ns (topology, all).
       let sides : ArePoliciesWithin ns (policies (a ∷ b ∷ [])) = all.1 in
@@ -175,7 +179,8 @@ module _ (T : Topology) (p : PredTree) (a b : PolicyTree) where
   module _ (y n r : Tree (List Written)) (left : IsForward T a y) (right : IsForward T b n) (chosen : IsChoiceBy (holds p) (pred_needs p) y n r) where
     -- what the chosen tree has on a packet is given by the policy chosen
     choice_given : (x : Numbers) → IsGiven x (yields T a x) (value y x) → IsGiven x (yields T b x) (value n x)
-        → (c : Bool) → value r x ≡ (if c then value y x else value n x) → IsGiven x (Yields T (policies (a ∷ b ∷ [])) (if c then First else Second) x) (value r x)
+        → (c : Bool) → value r x ≡ (if c then value y x else value n x)
+        → IsGiven x (Yields T (policies (a ∷ b ∷ [])) (if c then First else Second) x) (value r x)
     choice_given x first second true is = subst (IsGiven x (yields T a x)) (sym is) first
     choice_given x first second false is = subst (IsGiven x (yields T b x)) (sym is) second
 
@@ -208,9 +213,11 @@ module _ (T : Topology) (p : PredTree) (a b : PolicyTree) where
 -- Operands.
 
 -- the tree of the operands acting as any one of them
-pub either_forward : (T : Topology) (ps : List PolicyTree) (t : Tree (List Written)) → IsForwards T AnyOne (policies ps) t → IsForward T (record { top = Either; below = policies ps }) t
+pub either_forward : (T : Topology) (ps : List PolicyTree) (t : Tree (List Written)) → IsForwards T AnyOne (policies ps) t
+    → IsForward T (record { top = Either; below = policies ps }) t
 either_forward T ps t is = record { giving = is.giving; covers = λ ns topology within. is.covers ns topology within.1 }
 
 -- and in turn
-pub turn_forward : (T : Topology) (ps : List PolicyTree) (t : Tree (List Written)) → IsForwards T Chained (policies ps) t → IsForward T (record { top = InTurn; below = policies ps }) t
+pub turn_forward : (T : Topology) (ps : List PolicyTree) (t : Tree (List Written)) → IsForwards T Chained (policies ps) t
+    → IsForward T (record { top = InTurn; below = policies ps }) t
 turn_forward T ps t is = record { giving = is.giving; covers = λ ns topology within. is.covers ns topology within.1 }

@@ -36,4 +36,6 @@ pub record IsSpread (ps : List ℕ) (t : Tree (List Written)) : Type 0 where
 -- the tree gives, of a packet at one of the switches, the packet at each port of the switch but its own
 pub record IsFlood (ss : List SwitchValue) (t : Tree (List Written)) : Type 0 where
   pub giving : IsGiving (λ x y. (p : ℕ) × Contains (ports_in ss x.switch) p × (p ≢ x.port) × (y ≡ record x { port = p })) t
-  pub covers : (ns : Field → List ℕ) → ((s : SwitchValue) → Contains ss s → IsAmong s.datapath (ns Switch) × ((p : ℕ) → Contains s.ports p → IsAmong p (ns Port))) → Covers ns t
+  pub covers : (ns : Field → List ℕ)
+      → ((s : SwitchValue) → Contains ss s → IsAmong s.datapath (ns Switch) × ((p : ℕ) → Contains s.ports p → IsAmong p (ns Port)))
+      → Covers ns t

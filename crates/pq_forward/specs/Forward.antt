@@ -5,7 +5,8 @@ use Rattle.pq_fields.specs.declared.field.Field.TheVariants.{Switch, Port}
 use Rattle.pq_fields.specs.Pred.{PredTree, holds}
 use Rattle.pq_fields.specs.Writes.{Written}
 use Rattle.pq_model.specs.Topology.{Topology}
-use Rattle.pq_policy.specs.Policy.{PolicyTop, Pass, Discard, Spread, Only, Write, Forward, Choose, Either, InTurn, Policies, none, put, PolicyTree, policies, Joint, AnyOne, Chained, Yields, yields}
+use Rattle.pq_policy.specs.Policy.{PolicyTop, Pass, Discard, Spread, Only, Write, Forward, Choose, Either, InTurn, Policies, none, put}
+use Rattle.pq_policy.specs.Policy.{PolicyTree, policies, Joint, AnyOne, Chained, Yields, yields}
 use Rattle.pq_store.specs.Tree.{Tree}
 use Rattle.pq_store.specs.Room.{HasRoom, IsAmong, IsCounted}
 use Rattle.pq_apply.specs.Predicates.{IsPredWithin, NeedsAmong}

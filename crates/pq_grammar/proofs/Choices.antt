@@ -1,5 +1,6 @@
 -- What comes next tells which alternative a derivation takes.
-use Rattle.std.proofs.Common.{◌≡◌, ℕ, zero, suc, ◌+◌, ◌-◌, ◌<◌, ◌≤◌, ◌==◌, Bool, true, false, not, ◌&&◌, ◌||◌, cond, List, [], ◌∷◌, ◌++◌, Option, Some, None, refl, sym, ◌∙◌, ap, subst, inl, inr, ◌⊎◌, eq-eqb, ltb-true, arith, lit<}
+use Rattle.std.proofs.Common.{◌≡◌, ℕ, zero, suc, ◌+◌, ◌-◌, ◌<◌, ◌≤◌, ◌==◌, Bool, true, false, not, ◌&&◌, ◌||◌, cond, List, [], ◌∷◌, ◌++◌}
+use Rattle.std.proofs.Common.{Option, Some, None, refl, sym, ◌∙◌, ap, subst, inl, inr, ◌⊎◌, eq-eqb, ltb-true, arith, lit<}
 use Rattle.std.specs.Prelude.{nat_lt}
 use Rattle.std.specs.List.{list_any, list_all, find}
 use Rattle.std.proofs.lemmas.Bool.{and_parts, and_from, or_cases, or_left, or_right, cases_eq, not-true, both_ways}
@@ -26,7 +27,11 @@ all_below_at (suc n) k test all below =
 -- an implication, at one number
 implies_at : (p q : ℕ → Bool) (k : ℕ) → implies p q ≡ true → k < 48 → p k ≡ true → q k ≡ true
 implies_at p q k all below is =
-    elim (or_cases (not (p k)) (q k) (all_below_at 48 k (λ m. not (p m) || q m) all below)) [ inl never ↦ absurd (both_ways (p k) (not-true (p k) never) is) | inr then ↦ then ]
+    elim (or_cases (not (p k)) (q k) (all_below_at 48 k (λ m. not (p m) || q m) all below)) [
+      | inl never ↦
+          absurd (both_ways (p k) (not-true (p k) never) is)
+      | inr then ↦ then
+    ]
 
 -- what each alternative passes, one of them passes
 all_at : (test : List Symbol → Bool) (a : List Symbol) (bs : List (List Symbol)) → list_all test bs ≡ true → IsOneOf a bs → test a ≡ true
@@ -54,11 +59,14 @@ none_passes test a (b ∷ bs) found among passes = by (test b) refl found among 
     by false is nothing (inr among) later = later nothing among passes
 
 -- where one at most passes, the one that was found is each that passes
-only_one : (test : List Symbol → Bool) (a b : List Symbol) (cs : List (List Symbol)) → at_most_one test cs ≡ true → find test cs ≡ Some a → IsOneOf b cs → test b ≡ true → b ≡ a
+only_one : (test : List Symbol → Bool) (a b : List Symbol) (cs : List (List Symbol)) → at_most_one test cs ≡ true → find test cs ≡ Some a
+    → IsOneOf b cs → test b ≡ true → b ≡ a
 only_one test a b [] most found among passes = absurd among
 only_one test a b (c ∷ cs) most found among passes = by (test c) refl most found among (only_one test a b cs)
   where
-    by : (v : Bool) → test c ≡ v → cond v (list_all (λ y. not (test y)) cs) (at_most_one test cs) ≡ true → cond v (Some c) (find test cs) ≡ Some a → (b ≡ c) ⊎ IsOneOf b cs → (at_most_one test cs ≡ true → find test cs ≡ Some a → IsOneOf b cs → test b ≡ true → b ≡ a) → b ≡ a
+    by : (v : Bool) → test c ≡ v → cond v (list_all (λ y. not (test y)) cs) (at_most_one test cs) ≡ true
+        → cond v (Some c) (find test cs) ≡ Some a → (b ≡ c) ⊎ IsOneOf b cs
+        → (at_most_one test cs ≡ true → find test cs ≡ Some a → IsOneOf b cs → test b ≡ true → b ≡ a) → b ≡ a
     by true is most found (inl same) later = cc
     by true is most found (inr among) later = absurd (both_ways (test b) (not-true (test b) (all_at (λ y. not (test y)) b cs most among)) passes)
     by false is most found (inl same) later = absurd (both_ways (test c) is (subst (λ d. test d ≡ true) same passes))
@@ -122,63 +130,86 @@ begin_more b c (Part sort ∷ ss) k more is =
     ]
 
 -- an alternative begins with what its sort may begin with
-first_covers : (sort : Sort) (a : List Symbol) (k : ℕ) (b : Bool) → IsOneOf a (alternatives sort) → k < 48 → may_begin b a k ≡ true → may_begin b (Part sort ∷ []) k ≡ true
+first_covers : (sort : Sort) (a : List Symbol) (k : ℕ) (b : Bool) → IsOneOf a (alternatives sort) → k < 48 → may_begin b a k ≡ true
+    → may_begin b (Part sort ∷ []) k ≡ true
 first_covers sort a k false among below is =
-    let parts = and_parts (implies (may_begin false a) (may_begin false (Part sort ∷ []))) (implies (may_begin true a) (may_begin true (Part sort ∷ []))) (all_at (is_first sort) a (alternatives sort) (told sort).begins among) in
+    let parts = and_parts (implies (may_begin false a) (may_begin false (Part sort ∷ [])))
+    (implies (may_begin true a) (may_begin true (Part sort ∷ [])))
+    (all_at (is_first sort) a (alternatives sort) (told sort).begins among) in
     implies_at (may_begin false a) (may_begin false (Part sort ∷ [])) k parts.0 below is
 first_covers sort a k true among below is =
-    let parts = and_parts (implies (may_begin false a) (may_begin false (Part sort ∷ []))) (implies (may_begin true a) (may_begin true (Part sort ∷ []))) (all_at (is_first sort) a (alternatives sort) (told sort).begins among) in
+    let parts = and_parts (implies (may_begin false a) (may_begin false (Part sort ∷ [])))
+    (implies (may_begin true a) (may_begin true (Part sort ∷ [])))
+    (all_at (is_first sort) a (alternatives sort) (told sort).begins among) in
     implies_at (may_begin true a) (may_begin true (Part sort ∷ [])) k parts.1 below is
 
 -- what is derived begins with what may come next
 pub begins : (n : ℕ) (ss : List Symbol) (depth : ℕ) (ms : List Mark) → Derives n ss depth ms → can ss (look (tokens ms)) ≡ true
 begins n [] depth ms is = subst (λ ns. can [] (look (tokens ns)) ≡ true) (sym is) refl
 begins zero (s ∷ ss) depth ms derived = absurd derived
-begins (suc n) (Token role class ∷ ss) depth ms (x, rest, is, has_class, derived) = subst (λ ns. can (Token role class ∷ ss) (look (tokens ns)) ≡ true) (sym is) (eq-eqb (number class) (number x.class) (ap number (sym has_class)))
-begins (suc n) (Opening role class ∷ ss) depth ms (x, rest, is, has_class, derived) = subst (λ ns. can (Opening role class ∷ ss) (look (tokens ns)) ≡ true) (sym is) (eq-eqb (number class) (number x.class) (ap number (sym has_class)))
+begins (suc n) (Token role class ∷ ss) depth ms (x, rest, is, has_class, derived) =
+    subst (λ ns. can (Token role class ∷ ss) (look (tokens ns)) ≡ true) (sym is)
+    (eq-eqb (number class) (number x.class) (ap number (sym has_class)))
+begins (suc n) (Opening role class ∷ ss) depth ms (x, rest, is, has_class, derived) =
+    subst (λ ns. can (Opening role class ∷ ss) (look (tokens ns)) ≡ true) (sym is)
+    (eq-eqb (number class) (number x.class) (ap number (sym has_class)))
 begins (suc n) (Leave ∷ ss) depth ms derived = begins n ss (depth - 1) ms derived
 begins (suc n) (Close ∷ ss) depth ms (rest, is, derived) = subst (λ ns. can ss (look (tokens ns)) ≡ true) (sym is) (begins n ss depth rest derived)
 begins (suc n) (Part sort ∷ ss) depth ms (a, among, derived) =
     let k = look (tokens ms) in
-    first_covers sort a k (can ss k) among (ahead_below (next_class (tokens ms))) (subst (λ b. b ≡ true) (begin_append (k == 47) a ss k) (begins n (a ++ ss) depth ms derived))
+    first_covers sort a k (can ss k) among (ahead_below (next_class (tokens ms)))
+    (subst (λ b. b ≡ true) (begin_append (k == 47) a ss k) (begins n (a ++ ss) depth ms derived))
 
 -- the end may follow each phrase
 pub fits_alone : (sort : Sort) → Fits (Part sort ∷ [])
 fits_alone sort = ((λ k below may. or_left (k == 47) (has (follow sort) k) may), tt)
 
 -- so it does where an alternative stands for its sort
-fits_append : (sort : Sort) (a rest : List Symbol) → is_followed sort a ≡ true → ((k : ℕ) → k < 48 → can rest k ≡ true → follows sort k ≡ true) → Fits rest → Fits (a ++ rest)
+fits_append : (sort : Sort) (a rest : List Symbol) → is_followed sort a ≡ true
+    → ((k : ℕ) → k < 48 → can rest k ≡ true → follows sort k ≡ true) → Fits rest → Fits (a ++ rest)
 fits_append sort [] rest all after fits = fits
 fits_append sort (Token role class ∷ a) rest all after fits = fits_append sort a rest all after fits
 fits_append sort (Opening role class ∷ a) rest all after fits = fits_append sort a rest all after fits
 fits_append sort (Leave ∷ a) rest all after fits = fits_append sort a rest all after fits
 fits_append sort (Close ∷ a) rest all after fits = fits_append sort a rest all after fits
 fits_append sort (Part part ∷ a) rest all after fits =
-    let parts = and_parts (implies (λ m. is_open sort m a) (follows part)) (is_followed sort a) all in
-    ((λ k below may. implies_at (λ m. is_open sort m a) (follows part) k parts.0 below (begin_more (can rest k) (follows sort k) a k (after k below) (subst (λ b. b ≡ true) (begin_append (k == 47) a rest k) may))), fits_append sort a rest parts.1 after fits)
+    let parts = and_parts (implies (λ m. is_open sort m a) (follows part)) (is_followed sort a) all in (
+      (λ k below may. implies_at (λ m. is_open sort m a) (follows part) k parts.0 below
+          (begin_more (can rest k) (follows sort k) a k (after k below) (subst (λ b. b ≡ true) (begin_append (k == 47) a rest k) may))),
+      fits_append sort a rest parts.1 after fits,
+    )
 
 -- the alternative that was chosen fits
 pub fits_part : (sort : Sort) (a ss : List Symbol) → IsOneOf a (alternatives sort) → Fits (Part sort ∷ ss) → Fits (a ++ ss)
 fits_part sort a ss among fits = fits_append sort a ss (all_at (is_followed sort) a (alternatives sort) (told sort).followed among) fits.0 fits.1
 
 -- the alternative that a derivation takes is open
-opens : (n : ℕ) (sort : Sort) (a ss : List Symbol) (depth : ℕ) (ms : List Mark) → Fits (Part sort ∷ ss) → Derives n (a ++ ss) depth ms → is_open sort (look (tokens ms)) a ≡ true
+opens : (n : ℕ) (sort : Sort) (a ss : List Symbol) (depth : ℕ) (ms : List Mark) → Fits (Part sort ∷ ss) → Derives n (a ++ ss) depth ms
+    → is_open sort (look (tokens ms)) a ≡ true
 opens n sort a ss depth ms fits derived =
     let k = look (tokens ms) in
-    begin_more (can ss k) (follows sort k) a k (fits.0 k (ahead_below (next_class (tokens ms)))) (subst (λ b. b ≡ true) (begin_append (k == 47) a ss k) (begins n (a ++ ss) depth ms derived))
+    begin_more (can ss k) (follows sort k) a k (fits.0 k (ahead_below (next_class (tokens ms))))
+    (subst (λ b. b ≡ true) (begin_append (k == 47) a ss k) (begins n (a ++ ss) depth ms derived))
 
 -- the alternative that a derivation takes was chosen
-pub takes : (n : ℕ) (sort : Sort) (a b ss : List Symbol) (depth : ℕ) (ms : List Mark) → Fits (Part sort ∷ ss) → chosen sort (look (tokens ms)) ≡ Some a → IsOneOf b (alternatives sort) → Derives n (b ++ ss) depth ms → b ≡ a
+pub takes : (n : ℕ) (sort : Sort) (a b ss : List Symbol) (depth : ℕ) (ms : List Mark) → Fits (Part sort ∷ ss)
+    → chosen sort (look (tokens ms)) ≡ Some a → IsOneOf b (alternatives sort) → Derives n (b ++ ss) depth ms → b ≡ a
 takes n sort a b ss depth ms fits found among derived =
     let k = look (tokens ms) in
-    only_one (is_open sort k) a b (alternatives sort) (all_below_at 48 k (λ m. at_most_one (is_open sort m) (alternatives sort)) (told sort).one (ahead_below (next_class (tokens ms)))) found among (opens n sort b ss depth ms fits derived)
+    only_one (is_open sort k) a b (alternatives sort)
+    (all_below_at 48 k (λ m. at_most_one (is_open sort m) (alternatives sort)) (told sort).one (ahead_below (next_class (tokens ms))))
+    found among (opens n sort b ss depth ms fits derived)
 
 -- where no alternative was chosen, there is no derivation
-pub takes_none : (n : ℕ) (sort : Sort) (b ss : List Symbol) (depth : ℕ) (ms : List Mark) → Fits (Part sort ∷ ss) → chosen sort (look (tokens ms)) ≡ None → IsOneOf b (alternatives sort) → Derives n (b ++ ss) depth ms → ⊥
-takes_none n sort b ss depth ms fits found among derived = none_passes (is_open sort (look (tokens ms))) b (alternatives sort) found among (opens n sort b ss depth ms fits derived)
+pub takes_none : (n : ℕ) (sort : Sort) (b ss : List Symbol) (depth : ℕ) (ms : List Mark) → Fits (Part sort ∷ ss)
+    → chosen sort (look (tokens ms)) ≡ None → IsOneOf b (alternatives sort) → Derives n (b ++ ss) depth ms → ⊥
+takes_none n sort b ss depth ms fits found among derived = none_passes (is_open sort (look (tokens ms))) b (alternatives sort) found among
+    (opens n sort b ss depth ms fits derived)
 
 -- two derivations before which the same comes next take the same alternative
-pub same_taken : (n m : ℕ) (sort : Sort) (a b ss : List Symbol) (depth : ℕ) (ms ns : List Mark) → Fits (Part sort ∷ ss) → look (tokens ns) ≡ look (tokens ms) → IsOneOf a (alternatives sort) → IsOneOf b (alternatives sort) → Derives n (a ++ ss) depth ms → Derives m (b ++ ss) depth ns → b ≡ a
+pub same_taken : (n m : ℕ) (sort : Sort) (a b ss : List Symbol) (depth : ℕ) (ms ns : List Mark) → Fits (Part sort ∷ ss)
+    → look (tokens ns) ≡ look (tokens ms) → IsOneOf a (alternatives sort) → IsOneOf b (alternatives sort) → Derives n (a ++ ss) depth ms
+    → Derives m (b ++ ss) depth ns → b ≡ a
 same_taken n m sort a b ss depth ms ns fits same first second left right = by (chosen sort (look (tokens ms))) refl
   where
     by : (o : Option (List Symbol)) → chosen sort (look (tokens ms)) ≡ o → b ≡ a

@@ -24,15 +24,19 @@ abbrev pub some_lexeme : Class → Lexeme
 some_lexeme class = record { class = class; token = record { kind = Word; at = 0; len = 0 } }
 
 -- one more symbol
-lives_symbol : (bound : ℕ) (s : Symbol) (ss : List Symbol) → is_below bound s ≡ true → ((sort : Sort) → weight sort < bound → Lives ss → Lives (Part sort ∷ ss)) → Lives ss → Lives (s ∷ ss)
-lives_symbol bound (Token role class) ss below parts lives = λ depth. let rest = lives depth in (suc rest.0, TokenMark role (some_lexeme class) depth ∷ rest.1, (some_lexeme class, rest.1, refl, refl, rest.2))
-lives_symbol bound (Opening role class) ss below parts lives = λ depth. let rest = lives (depth + 1) in (suc rest.0, TokenMark role (some_lexeme class) (depth + 1) ∷ rest.1, (some_lexeme class, rest.1, refl, refl, rest.2))
+lives_symbol : (bound : ℕ) (s : Symbol) (ss : List Symbol) → is_below bound s ≡ true
+    → ((sort : Sort) → weight sort < bound → Lives ss → Lives (Part sort ∷ ss)) → Lives ss → Lives (s ∷ ss)
+lives_symbol bound (Token role class) ss below parts lives = λ depth. let rest = lives depth in
+    (suc rest.0, TokenMark role (some_lexeme class) depth ∷ rest.1, (some_lexeme class, rest.1, refl, refl, rest.2))
+lives_symbol bound (Opening role class) ss below parts lives = λ depth. let rest = lives (depth + 1) in
+    (suc rest.0, TokenMark role (some_lexeme class) (depth + 1) ∷ rest.1, (some_lexeme class, rest.1, refl, refl, rest.2))
 lives_symbol bound Leave ss below parts lives = λ depth. let rest = lives (depth - 1) in (suc rest.0, rest.1, rest.2)
 lives_symbol bound Close ss below parts lives = λ depth. let rest = lives depth in (suc rest.0, CloseMark ∷ rest.1, (rest.1, refl, rest.2))
 lives_symbol bound (Part sort) ss below parts lives = parts sort (ltb-true (weight sort) bound below) lives
 
 -- an alternative of light parts
-lives_before : (bound : ℕ) (a ss : List Symbol) → list_all (is_below bound) a ≡ true → ((sort : Sort) → weight sort < bound → (rest : List Symbol) → Lives rest → Lives (Part sort ∷ rest)) → Lives ss → Lives (a ++ ss)
+lives_before : (bound : ℕ) (a ss : List Symbol) → list_all (is_below bound) a ≡ true
+    → ((sort : Sort) → weight sort < bound → (rest : List Symbol) → Lives rest → Lives (Part sort ∷ rest)) → Lives ss → Lives (a ++ ss)
 lives_before bound [] ss below parts lives = lives
 lives_before bound (s ∷ a) ss below parts lives =
     let both = and_parts (is_below bound s) (list_all (is_below bound) a) below in

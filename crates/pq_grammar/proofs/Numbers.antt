@@ -3,12 +3,20 @@ use Rattle.std.proofs.Common.{◌≡◌, ◌==◌, Bool, true, false, List, [], 
 use Rattle.std.proofs.lemmas.Bool.{ne_eqb}
 use Rattle.std.specs.Prelude.{MatchBool}
 use Rattle.pq_grammar.specs.declared.class.Class.{Class}
-use Rattle.pq_grammar.specs.declared.class.Class.TheVariants.{SwitchWord, PortsWord, LimitWord, LinkWord, PartWord, QueryWord, RemoveWord, TrueWord, FalseWord, NotWord, AndWord, OrWord, FilterWord, ModWord, FwdWord, FloodWord, DropWord, IdentityWord, IfWord, OfWord, InAtom, OutAtom, InOutAtom, InGroup, OutGroup, InOutGroup, EndAtom, Name, Number, Mac, Ipv4, Ipv4Prefix, Ipv6, Equals, Semicolon, Comma, Left, Right, LeftBracket, RightBracket, Plus, Then, Caret, Bar, Ampersand, Tilde, Star}
+use Rattle.pq_grammar.specs.declared.class.Class.TheVariants.{SwitchWord, PortsWord, LimitWord, LinkWord, PartWord, QueryWord, RemoveWord}
+use Rattle.pq_grammar.specs.declared.class.Class.TheVariants.{TrueWord, FalseWord, NotWord, AndWord, OrWord, FilterWord, ModWord, FwdWord}
+use Rattle.pq_grammar.specs.declared.class.Class.TheVariants.{FloodWord, DropWord, IdentityWord, IfWord, OfWord, InAtom, OutAtom, InOutAtom}
+use Rattle.pq_grammar.specs.declared.class.Class.TheVariants.{InGroup, OutGroup, InOutGroup, EndAtom, Name, Number, Mac, Ipv4, Ipv4Prefix}
+use Rattle.pq_grammar.specs.declared.class.Class.TheVariants.{Ipv6, Equals, Semicolon, Comma, Left, Right, LeftBracket, RightBracket, Plus}
+use Rattle.pq_grammar.specs.declared.class.Class.TheVariants.{Then, Caret, Bar, Ampersand, Tilde, Star}
 use Rattle.pq_grammar.specs.Tables.{number}
 
 -- the classes, by their numbers
 abbrev classes : List Class
-classes = SwitchWord ∷ PortsWord ∷ LimitWord ∷ LinkWord ∷ PartWord ∷ QueryWord ∷ RemoveWord ∷ TrueWord ∷ FalseWord ∷ NotWord ∷ AndWord ∷ OrWord ∷ FilterWord ∷ ModWord ∷ FwdWord ∷ FloodWord ∷ DropWord ∷ IdentityWord ∷ IfWord ∷ OfWord ∷ InAtom ∷ OutAtom ∷ InOutAtom ∷ InGroup ∷ OutGroup ∷ InOutGroup ∷ EndAtom ∷ Name ∷ Number ∷ Mac ∷ Ipv4 ∷ Ipv4Prefix ∷ Ipv6 ∷ Equals ∷ Semicolon ∷ Comma ∷ Left ∷ Right ∷ LeftBracket ∷ RightBracket ∷ Plus ∷ Then ∷ Caret ∷ Bar ∷ Ampersand ∷ Tilde ∷ Star ∷ []
+classes = SwitchWord ∷ PortsWord ∷ LimitWord ∷ LinkWord ∷ PartWord ∷ QueryWord ∷ RemoveWord ∷ TrueWord ∷ FalseWord ∷ NotWord ∷ AndWord ∷
+    OrWord ∷ FilterWord ∷ ModWord ∷ FwdWord ∷ FloodWord ∷ DropWord ∷ IdentityWord ∷ IfWord ∷ OfWord ∷ InAtom ∷ OutAtom ∷ InOutAtom ∷ InGroup
+    ∷ OutGroup ∷ InOutGroup ∷ EndAtom ∷ Name ∷ Number ∷ Mac ∷ Ipv4 ∷ Ipv4Prefix ∷ Ipv6 ∷ Equals ∷ Semicolon ∷ Comma ∷ Left ∷ Right ∷
+    LeftBracket ∷ RightBracket ∷ Plus ∷ Then ∷ Caret ∷ Bar ∷ Ampersand ∷ Tilde ∷ Star ∷ []
 
 -- a class is the one at its number
 class_at : (c : Class) → get_or classes (number c) Name ≡ c

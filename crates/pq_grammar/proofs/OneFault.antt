@@ -1,5 +1,6 @@
 -- Tokens have one first fault at most, and none where they are a sentence.
-use Rattle.std.proofs.Common.{◌≡◌, ℕ, zero, suc, ◌+◌, ◌<◌, List, [], ◌∷◌, ◌++◌, length, take, refl, sym, ◌∙◌, ap, subst, inl, inr, append-nil, append_assoc, arith}
+use Rattle.std.proofs.Common.{◌≡◌, ℕ, zero, suc, ◌+◌, ◌<◌, List, [], ◌∷◌, ◌++◌, length, take, refl, sym, ◌∙◌, ap, subst, inl, inr}
+use Rattle.std.proofs.Common.{append-nil, append_assoc, arith}
 use Rattle.std.proofs.lemmas.Bool.{cases_order, cases_lt}
 use Rattle.std.proofs.lemmas.List.{take-take}
 use Rattle.pq_grammar.specs.declared.sort.Sort.{Sort}
@@ -22,7 +23,14 @@ cut zero ms shallow = record { front = []; back = ms; whole = refl; spelled = re
 cut (suc k) [] shallow = record { front = []; back = []; whole = refl; spelled = refl; shallow = tt }
 cut (suc k) (TokenMark role x depth ∷ ms) shallow =
     let rest = cut k ms shallow.1 in
-    record { front = TokenMark role x depth ∷ rest.front; back = rest.back; whole = ap (λ ns. TokenMark role x depth ∷ ns) rest.whole; spelled = ap (λ xs. x ∷ xs) rest.spelled; shallow = (shallow.0, rest.shallow) }
+    record {
+      front = TokenMark role x depth ∷ rest.front;
+      back = rest.back;
+      whole =
+          ap (λ ns. TokenMark role x depth ∷ ns) rest.whole;
+      spelled = ap (λ xs. x ∷ xs) rest.spelled;
+      shallow = (shallow.0, rest.shallow);
+    }
 cut (suc k) (CloseMark ∷ ms) shallow =
     let rest = cut (suc k) ms shallow in
     record { front = CloseMark ∷ rest.front; back = rest.back; whole = ap (λ ns. CloseMark ∷ ns) rest.whole; spelled = rest.spelled; shallow = rest.shallow }
@@ -41,7 +49,13 @@ shorter start xs k p =
 
 -- a sentence is a prefix of itself
 whole_prefix : (start : Sort) (xs : List Lexeme) (ms : List Mark) → IsSentence start xs ms → IsPrefix start xs
-whole_prefix start xs ms sentence = record { before = ms; after = []; derived = subst (Completes start) (sym (append-nil ms)) sentence.derived; spelled = sentence.spelled; shallow = sentence.shallow }
+whole_prefix start xs ms sentence = record {
+  before = ms;
+  after = [];
+  derived = subst (Completes start) (sym (append-nil ms)) sentence.derived;
+  spelled = sentence.spelled;
+  shallow = sentence.shallow;
+}
 
 -- no first fault stands before another one
 none_before : (start : Sort) (xs : List Lexeme) (i j : ℕ) → IsFirstFault start xs i → IsFirstFault start xs j → i < j → ⊥
@@ -52,7 +66,10 @@ none_before start xs i j first second before =
 pub one_fault : (start : Sort) (xs : List Lexeme) (i j : ℕ) → IsFirstFault start xs i → IsFirstFault start xs j → i ≡ j
 one_fault start xs i j first second = elim (cases_order i j) [
   | inl same ↦ same
-  | inr either ↦ elim either [ inl before ↦ absurd (none_before start xs i j first second before) | inr after ↦ absurd (none_before start xs j i second first after) ]
+  | inr either ↦ elim either [
+    | inl before ↦ absurd (none_before start xs i j first second before)
+    | inr after ↦ absurd (none_before start xs j i second first after)
+  ]
 ]
 
 -- and none in a sentence

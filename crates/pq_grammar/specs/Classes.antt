@@ -1,20 +1,42 @@
 -- The classes of a text's tokens.
 use Rattle.std.specs.Prelude.{ℕ, List, [], ◌∷◌, if◌then◌else◌, codes, bytes_eq}
 use Rattle.pq_term.specs.declared.token.Kind.{Kind}
-use Rattle.pq_term.specs.declared.token.Kind.TheVariants.{Word, Number as NumberKind, Mac as MacKind, Ipv4 as Ipv4Kind, Ipv4Prefix as Ipv4PrefixKind, Ipv6 as Ipv6Kind, Symbol}
+use Rattle.pq_term.specs.declared.token.Kind.TheVariants.{Word, Number as NumberKind, Mac as MacKind, Ipv4 as Ipv4Kind}
+use Rattle.pq_term.specs.declared.token.Kind.TheVariants.{Ipv4Prefix as Ipv4PrefixKind, Ipv6 as Ipv6Kind, Symbol}
 use Rattle.pq_term.specs.declared.token.Token.{Token}
 use Rattle.pq_term.specs.Tokens.{text_of}
 use Rattle.pq_grammar.specs.declared.class.Class.{Class}
-use Rattle.pq_grammar.specs.declared.class.Class.TheVariants.{SwitchWord, PortsWord, LimitWord, LinkWord, PartWord, QueryWord, RemoveWord, TrueWord, FalseWord, NotWord, AndWord, OrWord, FilterWord, ModWord, FwdWord, FloodWord, DropWord, IdentityWord, IfWord, OfWord, InAtom, OutAtom, InOutAtom, InGroup, OutGroup, InOutGroup, EndAtom, Name, Number, Mac, Ipv4, Ipv4Prefix, Ipv6, Equals, Semicolon, Comma, Left, Right, LeftBracket, RightBracket, Plus, Then, Caret, Bar, Ampersand, Tilde, Star}
+use Rattle.pq_grammar.specs.declared.class.Class.TheVariants.{SwitchWord, PortsWord, LimitWord, LinkWord, PartWord, QueryWord, RemoveWord}
+use Rattle.pq_grammar.specs.declared.class.Class.TheVariants.{TrueWord, FalseWord, NotWord, AndWord, OrWord, FilterWord, ModWord, FwdWord}
+use Rattle.pq_grammar.specs.declared.class.Class.TheVariants.{FloodWord, DropWord, IdentityWord, IfWord, OfWord, InAtom, OutAtom, InOutAtom}
+use Rattle.pq_grammar.specs.declared.class.Class.TheVariants.{InGroup, OutGroup, InOutGroup, EndAtom, Name, Number, Mac, Ipv4, Ipv4Prefix}
+use Rattle.pq_grammar.specs.declared.class.Class.TheVariants.{Ipv6, Equals, Semicolon, Comma, Left, Right, LeftBracket, RightBracket, Plus}
+use Rattle.pq_grammar.specs.declared.class.Class.TheVariants.{Then, Caret, Bar, Ampersand, Tilde, Star}
 use Rattle.pq_grammar.specs.declared.mark.Lexeme.{Lexeme}
 
 -- the reserved words
 abbrev pub word_classes : List (List ℕ × Class)
-word_classes = (codes "switch", SwitchWord) ∷ (codes "ports", PortsWord) ∷ (codes "limit", LimitWord) ∷ (codes "link", LinkWord) ∷ (codes "part", PartWord) ∷ (codes "query", QueryWord) ∷ (codes "remove", RemoveWord) ∷ (codes "true", TrueWord) ∷ (codes "false", FalseWord) ∷ (codes "not", NotWord) ∷ (codes "and", AndWord) ∷ (codes "or", OrWord) ∷ (codes "filter", FilterWord) ∷ (codes "mod", ModWord) ∷ (codes "fwd", FwdWord) ∷ (codes "flood", FloodWord) ∷ (codes "drop", DropWord) ∷ (codes "identity", IdentityWord) ∷ (codes "if", IfWord) ∷ (codes "of", OfWord) ∷ (codes "in_atom", InAtom) ∷ (codes "out_atom", OutAtom) ∷ (codes "in_out_atom", InOutAtom) ∷ (codes "in_group", InGroup) ∷ (codes "out_group", OutGroup) ∷ (codes "in_out_group", InOutGroup) ∷ (codes "end_atom", EndAtom) ∷ []
+word_classes = (codes "switch", SwitchWord) ∷ (codes "ports", PortsWord) ∷ (codes "limit", LimitWord) ∷ (codes "link", LinkWord) ∷
+    (codes "part", PartWord) ∷ (codes "query", QueryWord) ∷ (codes "remove", RemoveWord) ∷ (codes "true", TrueWord) ∷ (
+      codes "false",
+      FalseWord,
+    ) ∷ (codes "not", NotWord) ∷ (codes "and", AndWord) ∷ (codes "or", OrWord) ∷ (codes "filter", FilterWord) ∷ (
+      codes "mod",
+      ModWord,
+    ) ∷ (codes "fwd", FwdWord) ∷ (codes "flood", FloodWord) ∷ (codes "drop", DropWord) ∷ (codes "identity", IdentityWord) ∷
+    (codes "if", IfWord) ∷ (codes "of", OfWord) ∷ (codes "in_atom", InAtom) ∷ (codes "out_atom", OutAtom) ∷ (
+      codes "in_out_atom",
+      InOutAtom,
+    ) ∷ (codes "in_group", InGroup) ∷ (codes "out_group", OutGroup) ∷ (codes "in_out_group", InOutGroup) ∷ (
+      codes "end_atom",
+      EndAtom,
+    ) ∷ []
 
 -- the symbols
 abbrev pub symbol_classes : List (List ℕ × Class)
-symbol_classes = (codes "=", Equals) ∷ (codes ";", Semicolon) ∷ (codes ",", Comma) ∷ (codes "(", Left) ∷ (codes ")", Right) ∷ (codes "[", LeftBracket) ∷ (codes "]", RightBracket) ∷ (codes "+", Plus) ∷ (codes ">>", Then) ∷ (codes "^", Caret) ∷ (codes "|", Bar) ∷ (codes "&", Ampersand) ∷ (codes "~", Tilde) ∷ (codes "*", Star) ∷ []
+symbol_classes = (codes "=", Equals) ∷ (codes ";", Semicolon) ∷ (codes ",", Comma) ∷ (codes "(", Left) ∷ (codes ")", Right) ∷
+    (codes "[", LeftBracket) ∷ (codes "]", RightBracket) ∷ (codes "+", Plus) ∷ (codes ">>", Then) ∷ (codes "^", Caret) ∷ (codes "|", Bar) ∷
+    (codes "&", Ampersand) ∷ (codes "~", Tilde) ∷ (codes "*", Star) ∷ []
 
 -- the class of the text in a table, or else the other one
 abbrev pub class_in : List (List ℕ × Class) → Class → List ℕ → Class

@@ -37,7 +37,8 @@ pub record IsState (start : Sort) (xs : List Lexeme) (out : List Mark) (ss : Lis
   pub bounded : depth ≤ 100
   pub fits : Fits ss
   pub forward : (n : ℕ) (ms : List Mark) → Derives n ss depth ms → Completes start (out ++ ms)
-  pub backward : (ms : List Mark) → Completes start ms → (rest : List Lexeme) → tokens ms ≡ tokens out ++ rest → look rest ≡ look xs → Continues out ss depth rest ms
+  pub backward : (ms : List Mark) → Completes start ms → (rest : List Lexeme) → tokens ms ≡ tokens out ++ rest → look rest ≡ look xs
+      → Continues out ss depth rest ms
 
 -- the reading has come to the place: so many tokens were read
 pub record IsPlace (start : Sort) (xs : List Lexeme) (place : ℕ) (out : List Mark) (ss : List Symbol) (depth : ℕ) : Type 0 where
@@ -66,5 +67,6 @@ IsExpected xs old new (Some e) = IsComing xs new e × (new.at ≡ old.at) × (ne
 
 -- the symbol was worked off, or is read as the token that is expected
 abbrev pub HasPassed : List Lexeme → Symbol → Parser → Parser → Option Expected → Type 0
-HasPassed xs s old new None = IsAt xs new (reverse new.stack.items) × (pending (reverse new.stack.items) < pending (s ∷ reverse old.stack.items)) × (new.at ≡ old.at) × (new.start ≡ old.start)
+HasPassed xs s old new None = IsAt xs new (reverse new.stack.items)
+    × (pending (reverse new.stack.items) < pending (s ∷ reverse old.stack.items)) × (new.at ≡ old.at) × (new.start ≡ old.start)
 HasPassed xs s old new (Some e) = (new ≡ old) × Expects s old.depth e

@@ -19,8 +19,10 @@ IsOneOf a (b ∷ bs) = (a ≡ b) ⊎ IsOneOf a bs
 abbrev pub Derives : ℕ → List Symbol → ℕ → List Mark → Type 0
 Derives n [] depth ms = ms ≡ []
 Derives zero (s ∷ ss) depth ms = ⊥
-Derives (suc n) (Token role class ∷ ss) depth ms = (x : Lexeme) × (rest : List Mark) × (ms ≡ TokenMark role x depth ∷ rest) × (x.class ≡ class) × Derives n ss depth rest
-Derives (suc n) (Opening role class ∷ ss) depth ms = (x : Lexeme) × (rest : List Mark) × (ms ≡ TokenMark role x (depth + 1) ∷ rest) × (x.class ≡ class) × Derives n ss (depth + 1) rest
+Derives (suc n) (Token role class ∷ ss) depth ms = (x : Lexeme) × (rest : List Mark) × (ms ≡ TokenMark role x depth ∷ rest)
+    × (x.class ≡ class) × Derives n ss depth rest
+Derives (suc n) (Opening role class ∷ ss) depth ms = (x : Lexeme) × (rest : List Mark) × (ms ≡ TokenMark role x (depth + 1) ∷ rest)
+    × (x.class ≡ class) × Derives n ss (depth + 1) rest
 Derives (suc n) (Leave ∷ ss) depth ms = Derives n ss (depth - 1) ms
 Derives (suc n) (Close ∷ ss) depth ms = (rest : List Mark) × (ms ≡ CloseMark ∷ rest) × Derives n ss depth rest
 Derives (suc n) (Part sort ∷ ss) depth ms = (a : List Symbol) × IsOneOf a (alternatives sort) × Derives n (a ++ ss) depth ms

@@ -1,5 +1,6 @@
 -- What the copies of one hop put into the buckets is what its observations add.
-use Rattle.std.proofs.Common.{◌≡◌, ◌∙◌, ◌≤◌, ℕ, Bool, true, false, cond, if◌then◌else◌, List, [], ◌∷◌, ◌++◌, map, filter, append-nil, refl, sym, ap, subst, arith}
+use Rattle.std.proofs.Common.{◌≡◌, ◌∙◌, ◌≤◌, ℕ, Bool, true, false, cond, if◌then◌else◌, List, [], ◌∷◌, ◌++◌, map, filter, append-nil, refl}
+use Rattle.std.proofs.Common.{sym, ap, subst, arith}
 use Rattle.std.specs.Prelude.{◌↔◌}
 use Rattle.std.specs.List.{AllByRecursion, flat_map}
 use Rattle.std.specs.declared.option.Option.TheVariants.{Some}
@@ -56,7 +57,8 @@ module _ (m : Meaning) where
   noted_instances s (i ∷ is) = by (m.accepts i s.word) (noted_instances s is)
     where
       by : (b : Bool) → map (entry s.packet) (filter (λ i. m.accepts i s.word) is) ≡ flat_map (noted_in m s) is
-          → map (entry s.packet) (cond b (i ∷ filter (λ i. m.accepts i s.word) is) (filter (λ i. m.accepts i s.word) is)) ≡ (if b then entry s.packet i ∷ [] else []) ++ flat_map (noted_in m s) is
+          → map (entry s.packet) (cond b (i ∷ filter (λ i. m.accepts i s.word) is) (filter (λ i. m.accepts i s.word) is))
+          ≡ (if b then entry s.packet i ∷ [] else []) ++ flat_map (noted_in m s) is
       by true more = ap (λ l. entry s.packet i ∷ l) more
       by false more = more
 
@@ -74,12 +76,14 @@ module _ (m : Meaning) where
   noted_entries : (ss : List Sighting) (i : Instance) → IsReordering (flat_map (λ s. noted_in m s i) ss) (entries_of m ss i)
   noted_entries ss i =
       subst (λ l. IsReordering l (entries_of m ss i)) (sym (noted_packets i ss))
-      (reordering-map (λ x. entry x i) (accepted_packets (m.accepts i) ss) (sort_by numbers (accepted_packets (m.accepts i) ss)) (sort-reorders numbers (accepted_packets (m.accepts i) ss)))
+      (reordering-map (λ x. entry x i) (accepted_packets (m.accepts i) ss) (sort_by numbers (accepted_packets (m.accepts i) ss))
+      (sort-reorders numbers (accepted_packets (m.accepts i) ss)))
 
   -- all observations, by instance
   noted_captured : (ss : List Sighting) → IsReordering (flat_map (λ s. flat_map (noted_in m s) m.instances) ss) (flat_map (entries_of m ss) m.instances)
   noted_captured ss =
-      reordering-trans (flat_map (λ s. flat_map (noted_in m s) m.instances) ss) (flat_map (λ i. flat_map (λ s. noted_in m s i) ss) m.instances) (flat_map (entries_of m ss) m.instances)
+      reordering-trans (flat_map (λ s. flat_map (noted_in m s) m.instances) ss)
+      (flat_map (λ i. flat_map (λ s. noted_in m s i) ss) m.instances) (flat_map (entries_of m ss) m.instances)
       (reordering-turned (noted_in m) ss m.instances)
       (reordering-each (λ i. flat_map (λ s. noted_in m s i) ss) (entries_of m ss) (noted_entries ss) m.instances)
 
@@ -89,10 +93,12 @@ module _ (m : Meaning) (Ls : Languages) (g : Tagging) (tagging : IsTagging Ls g)
   abbrev rows : Report
   rows = report_of g m.instances
 
-  collected_row : (x : Numbers) (t : ℕ) → 1 ≤ t → t ≤ g.count → flat_map (collected_of rows) (caught g t x) ≡ map (entry x) (instances_at m.instances (g.accepted t))
+  collected_row : (x : Numbers) (t : ℕ) → 1 ≤ t → t ≤ g.count
+      → flat_map (collected_of rows) (caught g t x) ≡ map (entry x) (instances_at m.instances (g.accepted t))
   collected_row x t low high = by (captures g t) refl
     where
-      by : (b : Bool) → captures g t ≡ b → flat_map (collected_of rows) (if b then record { packet = x; vlan = Some t } ∷ [] else []) ≡ map (entry x) (instances_at m.instances (g.accepted t))
+      by : (b : Bool) → captures g t ≡ b → flat_map (collected_of rows) (if b then record { packet = x; vlan = Some t } ∷ [] else [])
+          ≡ map (entry x) (instances_at m.instances (g.accepted t))
       by true e = append-nil (map (entry x) (pairs_of rows t)) ∙ ap (map (entry x)) (row_of_tag g m.instances t low high e)
       by false e = ap (map (entry x)) (none_of_tag m.instances (g.accepted t) e)
 
@@ -107,7 +113,8 @@ module _ (m : Meaning) (Ls : Languages) (g : Tagging) (tagging : IsTagging Ls g)
       subst (λ l. IsReordering l (flat_map (noted_in m s) m.instances)) (sym (collected_row s.packet t told.within.0 told.within.1))
       (subst (IsReordering (map (entry s.packet) (instances_at m.instances (g.accepted t)))) (noted_instances m s m.instances) mixed)
 
-  all_collected : (ss : List Sighting) → AllByRecursion IsOfPath ss → IsReordering (flat_map (collected_of rows) (flat_map (caught_of g) ss)) (flat_map (λ s. flat_map (noted_in m s) m.instances) ss)
+  all_collected : (ss : List Sighting) → AllByRecursion IsOfPath ss
+      → IsReordering (flat_map (collected_of rows) (flat_map (caught_of g) ss)) (flat_map (λ s. flat_map (noted_in m s) m.instances) ss)
   all_collected [] paths = refl
   all_collected (s ∷ ss) paths =
       let whole = flat_map (noted_in m s) m.instances ++ flat_map (λ s. flat_map (noted_in m s) m.instances) ss in
@@ -127,7 +134,8 @@ module _ {A : Type 0} (key : A → List ℕ) where
   none_joined x [] zs left right = right
   none_joined x (y ∷ ys) zs left right = (left.0, none_joined x ys zs left.1 right)
 
-  rises_joined : (xs ys : List A) → Rises (below key) (order key) xs → Rises (below key) (order key) ys → AllByRecursion (λ x. NoneBelow x ys) xs → Rises (below key) (order key) (xs ++ ys)
+  rises_joined : (xs ys : List A) → Rises (below key) (order key) xs → Rises (below key) (order key) ys
+      → AllByRecursion (λ x. NoneBelow x ys) xs → Rises (below key) (order key) (xs ++ ys)
   rises_joined [] ys left right apart = right
   rises_joined (x ∷ xs) ys left right apart = (none_joined x xs ys left.0 apart.0, rises_joined xs ys left.1 right apart.1)
 
@@ -143,24 +151,28 @@ module _ (i : Instance) where
   instance_rises [] up = tt
   instance_rises (x ∷ xs) up = (none_of_instance x xs up.0, instance_rises xs up.1)
 
-  later_instance : (x : Numbers) (j : Instance) → is_before (instance_numbers i) (instance_numbers j) ≡ true → (ys : List Numbers) → NoneBelow entry_numbers (entry x i) (map (λ y. entry y j) ys)
+  later_instance : (x : Numbers) (j : Instance) → is_before (instance_numbers i) (instance_numbers j) ≡ true → (ys : List Numbers)
+      → NoneBelow entry_numbers (entry x i) (map (λ y. entry y j) ys)
   later_instance x j ahead [] = tt
   later_instance x j ahead (y ∷ ys) =
       ((order entry_numbers).one_way (entry x i) (entry y j) (instances_decide i j (numbers x) (numbers y) ahead), later_instance x j ahead ys)
 
-  later_instances : (m : Meaning) (ss : List Sighting) (x : Numbers) (js : List Instance) → AllByRecursion (λ j. is_before (instance_numbers i) (instance_numbers j) ≡ true) js
+  later_instances : (m : Meaning) (ss : List Sighting) (x : Numbers) (js : List Instance)
+      → AllByRecursion (λ j. is_before (instance_numbers i) (instance_numbers j) ≡ true) js
       → NoneBelow entry_numbers (entry x i) (flat_map (entries_of m ss) js)
   later_instances m ss x [] ahead = tt
   later_instances m ss x (j ∷ js) ahead =
       none_joined entry_numbers (entry x i) (entries_of m ss j) (flat_map (entries_of m ss) js)
       (later_instance x j ahead.0 (sort_by numbers (accepted_packets (m.accepts j) ss))) (later_instances m ss x js ahead.1)
 
-  all_later : (m : Meaning) (ss : List Sighting) (xs : List Numbers) (js : List Instance) → AllByRecursion (λ j. is_before (instance_numbers i) (instance_numbers j) ≡ true) js
+  all_later : (m : Meaning) (ss : List Sighting) (xs : List Numbers) (js : List Instance)
+      → AllByRecursion (λ j. is_before (instance_numbers i) (instance_numbers j) ≡ true) js
       → AllByRecursion (λ e. NoneBelow entry_numbers e (flat_map (entries_of m ss) js)) (map (λ x. entry x i) xs)
   all_later m ss [] js ahead = tt
   all_later m ss (x ∷ xs) js ahead = (later_instances m ss x js ahead, all_later m ss xs js ahead)
 
-entries_rise : (m : Meaning) (ss : List Sighting) (is : List Instance) → AscendsBy instance_numbers is → Rises (below entry_numbers) (order entry_numbers) (flat_map (entries_of m ss) is)
+entries_rise : (m : Meaning) (ss : List Sighting) (is : List Instance) → AscendsBy instance_numbers is
+    → Rises (below entry_numbers) (order entry_numbers) (flat_map (entries_of m ss) is)
 entries_rise m ss [] up = tt
 entries_rise m ss (i ∷ is) up =
     let xs = accepted_packets (m.accepts i) ss in
@@ -187,7 +199,8 @@ sightings_reordered : (v : Word) (x : Numbers) (zs ys : List Numbers) → IsReor
 sightings_reordered v x zs ys h = reordering-cons (record { word = v; packet = x }) (leavings v x zs) (leavings v x ys) (leavings_reordered v x zs ys h)
 
 module _ (v : Word) (x : Numbers) (path : IsPath v) (odd : has_even_length v ≡ false) (fit : Fit x) where
-  each_left : (ys : List Numbers) → AllByRecursion Fit ys → AllByRecursion IsOfPath (map (λ z. record { word = v ++ Out z ∷ []; packet = record z { port = x.port } }) ys)
+  each_left : (ys : List Numbers) → AllByRecursion Fit ys
+      → AllByRecursion IsOfPath (map (λ z. record { word = v ++ Out z ∷ []; packet = record z { port = x.port } }) ys)
   each_left [] fits = tt
   each_left (y ∷ ys) fits = (left_path v y path odd fits.0, each_left ys fits.1)
 
@@ -217,7 +230,8 @@ module _ (v : Word) (x : Numbers) (path : IsPath v) (odd : has_even_length v ≡
 -- The copies in order put into the buckets what the observations add.
 module _ (m : Meaning) (Ls : Languages) (g : Tagging) (tagging : IsTagging Ls g)
     (languages : (i : ℕ) (w : Word) → IsPath w → Ls i w ↔ IsAccepted m i w) (ascend : AscendsBy instance_numbers m.instances) where
-  pub collected_captured : (v : Word) (x : Numbers) → IsPath v → has_even_length v ≡ false → Fit x → (zs ys : List Numbers) → AllByRecursion Fit ys → IsReordering zs ys
+  pub collected_captured : (v : Word) (x : Numbers) → IsPath v → has_even_length v ≡ false → Fit x → (zs ys : List Numbers)
+      → AllByRecursion Fit ys → IsReordering zs ys
       → sort_by entry_numbers (flat_map (collected_of (report_of g m.instances)) (sort_by tagged_numbers (flat_map (caught_of g) (sightings v x zs))))
       ≡ flat_map (entries_of m (sightings v x ys)) m.instances
   collected_captured v x path odd fit zs ys fits mixed =
@@ -231,7 +245,8 @@ module _ (m : Meaning) (Ls : Languages) (g : Tagging) (tagging : IsTagging Ls g)
       let paths : AllByRecursion IsOfPath ss = all-reordering IsOfPath seen ss (reordering-sym ss seen same) (sightings_paths v x path odd fit ys fits) in
       let sorted = flat_map (collected_of report) (sort_by tagged_numbers copies) in
       let unsorted : IsReordering sorted (flat_map (collected_of report) copies) =
-      reordering-flat_map (collected_of report) (sort_by tagged_numbers copies) copies (reordering-sym copies (sort_by tagged_numbers copies) (sort-reorders tagged_numbers copies)) in
+      reordering-flat_map (collected_of report) (sort_by tagged_numbers copies) copies
+      (reordering-sym copies (sort_by tagged_numbers copies) (sort-reorders tagged_numbers copies)) in
       let noted : IsReordering (flat_map (collected_of report) copies) (by_sighting ss) = all_collected m Ls g tagging languages ss paths in
       let turned : IsReordering (by_sighting ss) (by_sighting seen) = reordering-flat_map (λ s. flat_map (noted_in m s) m.instances) ss seen same in
       let whole : IsReordering sorted captured =

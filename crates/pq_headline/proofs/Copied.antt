@@ -66,7 +66,8 @@ module _ (T : Topology) (g : Tagging) (a : ℕ) (x : Numbers) where
   captured_to_no_port : (w : Written) (b : ℕ) (cs : List Outgoing) → to_ports (map (copy_sent x) (capture_of g w b ++ cs)) ≡ to_ports (map (copy_sent x) cs)
   captured_to_no_port w b cs = by (captures g b)
     where
-      by : (c : Bool) → to_ports (map (copy_sent x) ((if c then record { writes = w; tag = Some b; kind = CaptureOut } ∷ [] else []) ++ cs)) ≡ to_ports (map (copy_sent x) cs)
+      by : (c : Bool) → to_ports (map (copy_sent x) ((if c then record { writes = w; tag = Some b; kind = CaptureOut } ∷ [] else []) ++ cs))
+          ≡ to_ports (map (copy_sent x) cs)
       by true = refl
       by false = refl
 
@@ -121,13 +122,15 @@ module _ (T : Topology) (g : Tagging) (v : Word) (x : Numbers) where
   abbrev leaving_as : Numbers → Sighting
   leaving_as y = record { word = v ++ Out y ∷ []; packet = record y { port = x.port } }
 
-  each_to_controller : (ws : List Written) → to_controller (map (copy_sent x) (flat_map (copies_by T g reached x) ws)) ≡ flat_map (caught_of g) (map leaving_as (given_by x ws))
+  each_to_controller : (ws : List Written) → to_controller (map (copy_sent x) (flat_map (copies_by T g reached x) ws))
+      ≡ flat_map (caught_of g) (map leaving_as (given_by x ws))
   each_to_controller [] = refl
   each_to_controller (w ∷ ws) =
       captured_to_controller w (g.after reached (on w x)) (flat_map (copies_by T g reached x) ws)
       ∙ (λ i. caught g (sym (left_tag g v (on w x)) i) (record (on w x) { port = x.port }) ++ each_to_controller ws i)
 
-  all_to_controller : (ws : List Written) → to_controller (map (copy_sent x) (copies_of T g reached x ws)) ≡ flat_map (caught_of g) (leavings v x (given_by x ws))
+  all_to_controller : (ws : List Written) → to_controller (map (copy_sent x) (copies_of T g reached x ws))
+      ≡ flat_map (caught_of g) (leavings v x (given_by x ws))
   all_to_controller [] =
       let drop = record x { port = 0 } in
       ap (λ cs. to_controller (map (copy_sent x) cs)) (sym (append-nil (capture_of g no_writes (g.after reached drop))))
@@ -138,7 +141,8 @@ module _ (T : Topology) (g : Tagging) (v : Word) (x : Numbers) where
   arrival_to_controller : to_controller (arrival_sent x (arrive g reached)) ≡ caught g reached x
   arrival_to_controller = by (captures g reached)
     where
-      by : (c : Bool) → to_controller (if c then Controller (record { packet = x; vlan = Some reached }) ∷ [] else []) ≡ (if c then record { packet = x; vlan = Some reached } ∷ [] else [])
+      by : (c : Bool) → to_controller (if c then Controller (record { packet = x; vlan = Some reached }) ∷ [] else [])
+          ≡ (if c then record { packet = x; vlan = Some reached } ∷ [] else [])
       by true = refl
       by false = refl
 

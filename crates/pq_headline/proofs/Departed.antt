@@ -56,7 +56,8 @@ given_apart x P ws given = mapped_apart (λ w. on w x) ws (λ i j d below within
     never_before v (subst (λ u. writes_cmp v u ≡ Less) (sym is) (given.ascend i j d below within)))
 
 -- what the writes give are the departures
-pub departures_given : (x : Numbers) (ys : List Numbers) (ws : List Written) → AscendsBy numbers ys → IsGiven x (λ y. Contains ys y) ws → IsReordering (given_by x ws) ys
+pub departures_given : (x : Numbers) (ys : List Numbers) (ws : List Written) → AscendsBy numbers ys → IsGiven x (λ y. Contains ys y) ws
+    → IsReordering (given_by x ws) ys
 departures_given x ys ws up given =
     same_members (given_by x ws) ys (given_apart x (λ y. Contains ys y) ws given) (ascending_apart numbers ys up)
     (λ y there. among_from_contains ys y ((given.gives y).0 (among_mapped (λ w. on w x) y ws there)))

@@ -31,7 +31,9 @@ found ls e more l = by (is_end l.first e.0 e.1) (is_end l.second e.0 e.1)
     by false false = more
 
 first_found : (ls : List Link) (l : Link) → is_some (peer_in (l ∷ ls) l.first.0 l.first.1) ≡ true
-first_found ls l = ap (λ b. is_some (if b then Some l.second else if is_end l.second l.first.0 l.first.1 then Some l.first else peer_in ls l.first.0 l.first.1)) (itself l.first)
+first_found ls l = ap
+    (λ b. is_some (if b then Some l.second else if is_end l.second l.first.0 l.first.1 then Some l.first else peer_in ls l.first.0
+    l.first.1)) (itself l.first)
 
 second_found : (ls : List Link) (l : Link) → is_some (peer_in (l ∷ ls) l.second.0 l.second.1) ≡ true
 second_found ls l = by (is_end l.first l.second.0 l.second.1) (is_end l.second l.second.0 l.second.1) (itself l.second)
@@ -53,7 +55,8 @@ peer_linked (l ∷ ls) d p e is = by (is_end l.first d p) (is_end l.second d p) 
     by false false is more = found ls e (more is) l
 
 -- and it is a port
-pub peer_port : (T : Topology) (ls : List Link) (d p : ℕ) (e : ℕ × ℕ) → AllByRecursion (IsLawfulLink T) ls → peer_in ls d p ≡ Some e → IsTrue (is_port T e.0 e.1)
+pub peer_port : (T : Topology) (ls : List Link) (d p : ℕ) (e : ℕ × ℕ) → AllByRecursion (IsLawfulLink T) ls → peer_in ls d p ≡ Some e
+    → IsTrue (is_port T e.0 e.1)
 peer_port T [] d p e all is = absurd (none-some e is)
 peer_port T (l ∷ ls) d p e all is = by (is_end l.first d p) (is_end l.second d p) is (peer_port T ls d p e all.1)
   where
@@ -94,7 +97,8 @@ linked_port T (l ∷ ls) d p all linked = by (is_end l.first d p) (is_end l.seco
     at : (e : ℕ × ℕ) → is_end e d p ≡ true → IsPort T e → IsTrue (is_port T d p)
     at e is port = let same = end_is e d p is in subst (λ n. IsTrue (is_port T n p)) same.0 (subst (λ n. IsTrue (is_port T e.0 n)) same.1 port)
 
-    by : (b c : Bool) → is_end l.first d p ≡ b → is_end l.second d p ≡ c → is_some (if b then Some l.second else if c then Some l.first else peer_in ls d p) ≡ true
+    by : (b c : Bool) → is_end l.first d p ≡ b → is_end l.second d p ≡ c
+        → is_some (if b then Some l.second else if c then Some l.first else peer_in ls d p) ≡ true
         → (is_some (peer_in ls d p) ≡ true → IsTrue (is_port T d p)) → IsTrue (is_port T d p)
     by true c e f linked more = at l.first e all.0.0
     by false true e f linked more = at l.second f all.0.1

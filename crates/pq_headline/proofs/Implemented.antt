@@ -1,5 +1,6 @@
 -- The install of a meaning's departures and tags implements the meaning.
-use Rattle.std.proofs.Common.{◌≡◌, ◌≢◌, ◌∙◌, ◌-◌, ◌≤◌, ℕ, Bool, true, false, ◌&&◌, ◌==◌, if◌then◌else◌, List, [], ◌∷◌, ◌++◌, map, refl, sym, ap, subst, inl, inr, arith}
+use Rattle.std.proofs.Common.{◌≡◌, ◌≢◌, ◌∙◌, ◌-◌, ◌≤◌, ℕ, Bool, true, false, ◌&&◌, ◌==◌, if◌then◌else◌, List, [], ◌∷◌, ◌++◌, map, refl, sym}
+use Rattle.std.proofs.Common.{ap, subst, inl, inr, arith}
 use Rattle.std.specs.Prelude.{◌⊎◌, is_none}
 use Rattle.std.specs.List.{AllZip, list_any}
 use Rattle.std.specs.declared.option.Option.{Option}
@@ -49,7 +50,8 @@ module _ (T : Topology) (g : Tagging) (writes : Departures) where
   abbrev trees_in : (ss : List Switch) (lists : List (List Message)) → Sending ss lists → ℕ → Option BothTrees
   trees_in [] lists all d = None
   trees_in (s ∷ ss) [] all d = None
-  trees_in (s ∷ ss) (ms ∷ lists) all d = if s.datapath == d then Some (record { first = all.0.messages.first; second = all.0.messages.second }) else trees_in ss lists all.1 d
+  trees_in (s ∷ ss) (ms ∷ lists) all d =
+      if s.datapath == d then Some (record { first = all.0.messages.first; second = all.0.messages.second }) else trees_in ss lists all.1 d
 
   -- the switch is there, and it sends as its trees say
   pub record Known (ms : List Message) (trees : Option BothTrees) (d : ℕ) : Type 0 where
@@ -72,7 +74,8 @@ module _ (T : Topology) (g : Tagging) (writes : Departures) where
       own : BothTrees
       own = record { first = all.0.messages.first; second = all.0.messages.second }
 
-      by : (b : Bool) → (s.datapath == d) ≡ b → Known (messages_in ss lists d) (trees_in ss lists all.1 d) d ⊎ Unknown (ports_in ss d) (trees_in ss lists all.1 d)
+      by : (b : Bool) → (s.datapath == d) ≡ b
+          → Known (messages_in ss lists d) (trees_in ss lists all.1 d) d ⊎ Unknown (ports_in ss d) (trees_in ss lists all.1 d)
           → Known (if b then ms else messages_in ss lists d) (if b then Some own else trees_in ss lists all.1 d) d
           ⊎ Unknown (if b then s.ports else ports_in ss d) (if b then Some own else trees_in ss lists all.1 d)
       by true same more =
@@ -111,15 +114,18 @@ module _ (T : Topology) (g : Tagging) (writes : Departures) where
         (λ linked. true≢false (sym (linked_port T T.links d p (recursion_from_All (IsLawfulLink T) T.links lawful.links) linked) ∙ no_port d p unknown))
 
     -- what is sent after table 0 is the same where table 1 says the same
-    sent_same : (f h : ℕ → Numbers → List Outgoing) (x : Numbers) → ((word : ℕ) → f word x ≡ h word x) → (a : Option Arrive) → sent_after f x a ≡ sent_after h x a
+    sent_same : (f h : ℕ → Numbers → List Outgoing) (x : Numbers) → ((word : ℕ) → f word x ≡ h word x) → (a : Option Arrive)
+        → sent_after f x a ≡ sent_after h x a
     sent_same f h x same None = refl
     sent_same f h x same (Some a) = ap (λ cs. arrival_sent x a ++ map (copy_sent x) cs) (same (tag_word a.tag))
 
-    all_send : (x : TaggedPacket) → IsTagged x → is_port T x.packet.switch x.packet.port ≡ true → sends_by (installed before order) x ≡ in_order (sent_by first_all second_all x)
+    all_send : (x : TaggedPacket) → IsTagged x → is_port T x.packet.switch x.packet.port ≡ true
+        → sends_by (installed before order) x ≡ in_order (sent_by first_all second_all x)
     all_send x tagged port = elim (known_or_not T.switches lists all x.packet.switch) [
       | inl known ↦
           let d = x.packet.switch in
-          let second_same : (word : ℕ) → said_by known.both.second [] word x.packet ≡ second_all word x.packet = λ word. ap (λ o. second_said o word x.packet) (sym known.is) in
+          let second_same : (word : ℕ) → said_by known.both.second [] word x.packet ≡ second_all word x.packet =
+          λ word. ap (λ o. second_said o word x.packet) (sym known.is) in
           known.send (before d) (order d) (orders d) x tagged
           ∙ ap (λ a. in_order (sent_after (said_by known.both.second []) x.packet a)) (ap (λ o. first_said o (vlan_word x.vlan) x.packet) (sym known.is))
           ∙ ap in_order (sent_same (said_by known.both.second []) second_all x.packet second_same (first_all (vlan_word x.vlan) x.packet))
@@ -129,13 +135,15 @@ module _ (T : Topology) (g : Tagging) (writes : Departures) where
     all_plain : (x : Numbers) → Fit x → first_all 0 x ≡ arrival T g Plain x
     all_plain x fit = elim (known_or_not T.switches lists all x.switch) [
       | inl known ↦ ap (λ o. first_said o 0 x) known.is ∙ plain_says T g writes known.both.first known.both.second x fit known.are
-      | inr unknown ↦ ap (λ o. first_said o 0 x) unknown.none ∙ ap (λ b. if b then Some (arrive g (g.after 1 x)) else None) (sym (no_edge x.switch x.port unknown))
+      | inr unknown ↦ ap (λ o. first_said o 0 x) unknown.none
+          ∙ ap (λ b. if b then Some (arrive g (g.after 1 x)) else None) (sym (no_edge x.switch x.port unknown))
     ]
 
     all_tagged : (x : Numbers) → Fit x → (t : ℕ) → 1 ≤ t → t ≤ g.count → g.is_even t ≡ true → first_all (tag_word t) x ≡ arrival T g (Tag t) x
     all_tagged x fit t low high even = elim (known_or_not T.switches lists all x.switch) [
       | inl known ↦ ap (λ o. first_said o (tag_word t) x) known.is ∙ tag_says T g writes known.both.first known.both.second x fit known.are t low high even
-      | inr unknown ↦ ap (λ o. first_said o (tag_word t) x) unknown.none ∙ ap (λ b. if b then Some (arrive g (g.after t x)) else None) (sym (no_link x.switch x.port unknown))
+      | inr unknown ↦ ap (λ o. first_said o (tag_word t) x) unknown.none
+          ∙ ap (λ b. if b then Some (arrive g (g.after t x)) else None) (sym (no_link x.switch x.port unknown))
     ]
 
     all_strange : (x : Numbers) → Fit x → is_edge T x.switch x.port ≡ true → (word : ℕ) → word ≢ 0 → first_all word x ≡ None
@@ -147,12 +155,21 @@ module _ (T : Topology) (g : Tagging) (writes : Departures) where
     all_leaving : (x : Numbers) → Fit x → (a : ℕ) → 1 ≤ a → a ≤ g.count → g.is_even a ≡ false → second_all (tag_word a) x ≡ leaving T g writes a x
     all_leaving x fit a low high odd = elim (known_or_not T.switches lists all x.switch) [
       | inl known ↦ ap (λ o. second_said o (tag_word a) x) known.is ∙ leaving_says T g writes known.both.first known.both.second x fit known.are a low high odd
-      | inr unknown ↦ let same : tag_word a - 0x1000 ≡ a = omega arith in ap (λ o. second_said o (tag_word a) x) unknown.none ∙ ap (λ n. leaving T g writes n x) same
+      | inr unknown ↦ let same : tag_word a - 0x1000 ≡ a = omega arith in ap (λ o. second_said o (tag_word a) x) unknown.none
+          ∙ ap (λ n. leaving T g writes n x) same
     ]
 
     -- the switches send as the layout says
     sends_as : SendsAs T g writes (sends_by (installed before order))
-    sends_as = record { first = first_all; second = second_all; sends = all_send; plain = all_plain; tagged = all_tagged; strange = all_strange; leaves = all_leaving }
+    sends_as = record {
+      first = first_all;
+      second = second_all;
+      sends = all_send;
+      plain = all_plain;
+      tagged = all_tagged;
+      strange = all_strange;
+      leaves = all_leaving;
+    }
 
 -- whatever the tables held, in whatever lawful order the messages come, every schedule leaves what the meaning leaves
 pub implemented : (T : Topology) (m : Meaning) (Ls : Languages) (g : Tagging) (writes : Departures) (names : List (List ℕ)) (i : Install)

@@ -106,7 +106,8 @@ labels_decide : (k l us vs : List ℕ) → is_before (label_numbers k) (label_nu
 labels_decide [] [] us vs e = absurd (true≢false (sym e))
 labels_decide [] (b ∷ l) us vs e = grind (arith, nat_tests)
 labels_decide (a ∷ k) [] us vs e = absurd (grind (arith, nat_tests))
-labels_decide (a ∷ k) (b ∷ l) us vs e = by (nat_lt (a + 1) (b + 1)) ((a + 1) == (b + 1)) (is_before (label_numbers k) (label_numbers l)) e (labels_decide k l us vs)
+labels_decide (a ∷ k) (b ∷ l) us vs e = by (nat_lt (a + 1) (b + 1)) ((a + 1) == (b + 1)) (is_before (label_numbers k) (label_numbers l)) e
+    (labels_decide k l us vs)
   where
     by : (c d f : Bool) → c || (d && f) ≡ true → (f ≡ true → is_before (label_numbers k ++ us) (label_numbers l ++ vs) ≡ true)
         → c || (d && is_before (label_numbers k ++ us) (label_numbers l ++ vs)) ≡ true
@@ -125,8 +126,11 @@ labels_tell (a ∷ k) (b ∷ l) us vs e =
     (λ i. here i ∷ more.0 i, more.1)
 
 -- instances decide before packets
-pub instances_decide : (i j : Instance) (us vs : List ℕ) → is_before (instance_numbers i) (instance_numbers j) ≡ true → is_before (instance_numbers i ++ us) (instance_numbers j ++ vs) ≡ true
-instances_decide i j us vs e = by (nat_lt i.query j.query) (i.query == j.query) (is_before (label_numbers i.label) (label_numbers j.label)) e (labels_decide i.label j.label us vs)
+pub instances_decide : (i j : Instance) (us vs : List ℕ) → is_before (instance_numbers i) (instance_numbers j) ≡ true
+    → is_before (instance_numbers i ++ us) (instance_numbers j ++ vs) ≡ true
+instances_decide i j us vs e =
+    by (nat_lt i.query j.query) (i.query == j.query) (is_before (label_numbers i.label) (label_numbers j.label)) e
+    (labels_decide i.label j.label us vs)
   where
     by : (c d f : Bool) → c || (d && f) ≡ true → (f ≡ true → is_before (label_numbers i.label ++ us) (label_numbers j.label ++ vs) ≡ true)
         → c || (d && is_before (label_numbers i.label ++ us) (label_numbers j.label ++ vs)) ≡ true

@@ -24,7 +24,8 @@ pub record IsDeparting (T : Topology) (x y : Numbers) : Type 0 where
   pub fit : Fit y
 
 -- what writes give leaves where it has a port
-departs_at : (T : Topology) (x : Numbers) (ws : List Written) → Fit x → All AllFit ws → (y : Numbers) → IsWrittenBy x ws y → IsTrue (is_port T x.switch y.port) → IsDeparting T x y
+departs_at : (T : Topology) (x : Numbers) (ws : List Written) → Fit x → All AllFit ws → (y : Numbers) → IsWrittenBy x ws y
+    → IsTrue (is_port T x.switch y.port) → IsDeparting T x y
 departs_at T x ws fit fits y (k, w, within, at, is) port =
     let fits_w : AllFit w = subst AllFit at (fits k w within) in
     record { switch = ap (λ z. z.switch) is; port = port; fit = subst Fit (sym is) (on_fits w x fits_w fit) }
@@ -46,7 +47,8 @@ module _ {A : Type 0} (p : A → Bool) (P : A → Type 0) where
   any_passes [] some = absurd (any_none P some)
   any_passes (x ∷ xs) some = by (p x) refl some (any_passes xs)
     where
-      by : (b : Bool) → p x ≡ b → Any P (cond b (x ∷ filter p xs) (filter p xs)) → (Any P (filter p xs) → Any (λ z. P z × (p z ≡ true)) xs) → Any (λ z. P z × (p z ≡ true)) (x ∷ xs)
+      by : (b : Bool) → p x ≡ b → Any P (cond b (x ∷ filter p xs) (filter p xs)) → (Any P (filter p xs) → Any (λ z. P z × (p z ≡ true)) xs)
+          → Any (λ z. P z × (p z ≡ true)) (x ∷ xs)
       by true e some more = elim (any_cases P x (filter p xs) some) [
         | inl here ↦ any_first (λ z. P z × (p z ≡ true)) x xs (here, e)
         | inr later ↦ any_later (λ z. P z × (p z ≡ true)) x xs (more later)
@@ -57,7 +59,8 @@ module _ {A : Type 0} (p : A → Bool) (P : A → Type 0) where
   passes_any [] some = absurd (any_none (λ x. P x × (p x ≡ true)) some)
   passes_any (x ∷ xs) some = by (p x) refl (any_cases (λ z. P z × (p z ≡ true)) x xs some) (passes_any xs)
     where
-      by : (b : Bool) → p x ≡ b → (P x × (p x ≡ true)) ⊎ Any (λ z. P z × (p z ≡ true)) xs → (Any (λ z. P z × (p z ≡ true)) xs → Any P (filter p xs)) → Any P (cond b (x ∷ filter p xs) (filter p xs))
+      by : (b : Bool) → p x ≡ b → (P x × (p x ≡ true)) ⊎ Any (λ z. P z × (p z ≡ true)) xs
+          → (Any (λ z. P z × (p z ≡ true)) xs → Any P (filter p xs)) → Any P (cond b (x ∷ filter p xs) (filter p xs))
       by true e (inl here) more = any_first P x (filter p xs) here.0
       by true e (inr later) more = any_later P x (filter p xs) (more later)
       by false e (inl here) more = absurd (true≢false (sym here.1 ∙ e))

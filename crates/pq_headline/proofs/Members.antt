@@ -54,12 +54,19 @@ module _ {A : Type 0} where
   apart_without z [] back apart = (apart.1, apart.0)
   apart_without z (f ∷ front) back apart =
       let more = apart_without z front back apart.1 in (
-        (λ there. apart.0 (elim (among_parts f front back there) [ inl l ↦ among_left f front (z ∷ back) l | inr r ↦ among_right f front (z ∷ back) (inr r) ]), more.0),
+        (
+          λ there. apart.0 (elim (among_parts f front back there) [
+            | inl l ↦ among_left f front (z ∷ back) l
+            | inr r ↦ among_right f front (z ∷ back) (inr r)
+          ]),
+          more.0,
+        ),
         λ there. elim there [ inl is ↦ apart.0 (among_right f front (z ∷ back) (inl (sym is))) | inr later ↦ more.1 later ],
       )
 
   -- lists of the same values, each once
-  pub same_members : (xs ys : List A) → AreApart xs → AreApart ys → ((z : A) → StandsIn z xs → StandsIn z ys) → ((z : A) → StandsIn z ys → StandsIn z xs) → IsReordering xs ys
+  pub same_members : (xs ys : List A) → AreApart xs → AreApart ys → ((z : A) → StandsIn z xs → StandsIn z ys)
+      → ((z : A) → StandsIn z ys → StandsIn z xs) → IsReordering xs ys
   same_members [] [] left right into back = refl
   same_members [] (y ∷ ys) left right into back = absurd (back y (inl refl))
   same_members (x ∷ xs) ys left right into back =
@@ -73,7 +80,10 @@ module _ {A : Type 0} where
         | inr r ↦ elim r [ inl is ↦ absurd (left.0 (subst (λ w. StandsIn w xs) is there)) | inr later ↦ among_right z front last later ]
       ] in
       let own : (z : A) → StandsIn z (front ++ last) → StandsIn z xs = λ z there.
-      elim (back z (subst (StandsIn z) (sym at.2) (elim (among_parts z front last there) [ inl l ↦ among_left z front (x ∷ last) l | inr r ↦ among_right z front (x ∷ last) (inr r) ]))) [
+      elim (back z (subst (StandsIn z) (sym at.2) (elim (among_parts z front last there) [
+        | inl l ↦ among_left z front (x ∷ last) l
+        | inr r ↦ among_right z front (x ∷ last) (inr r)
+      ]))) [
         | inl is ↦ absurd (others.1 (subst (λ w. StandsIn w (front ++ last)) is there))
         | inr later ↦ later
       ] in

@@ -38,7 +38,8 @@ module _ {A B : Type 0} (f : A → List B) where
   pub reordering-flat_map : (xs ys : List A) → IsReordering xs ys → IsReordering (flat_map f xs) (flat_map f ys)
   reordering-flat_map [] ys h = ap (flat_map f) h
   reordering-flat_map (x ∷ xs) ys (front, back, is, h) =
-      let more : IsReordering (flat_map f xs) (flat_map f front ++ flat_map f back) = subst (IsReordering (flat_map f xs)) (flat_map-append f front back) (reordering-flat_map xs (front ++ back) h) in
+      let more : IsReordering (flat_map f xs) (flat_map f front ++ flat_map f back) =
+      subst (IsReordering (flat_map f xs)) (flat_map-append f front back) (reordering-flat_map xs (front ++ back) h) in
       let whole : flat_map f ys ≡ flat_map f front ++ (f x ++ flat_map f back) = ap (flat_map f) is ∙ flat_map-append f front (x ∷ back) in
       subst (IsReordering (f x ++ flat_map f xs)) (sym whole)
       (reordering-trans (f x ++ flat_map f xs) (f x ++ (flat_map f front ++ flat_map f back)) (flat_map f front ++ (f x ++ flat_map f back))
@@ -55,8 +56,10 @@ module _ {A B : Type 0} where
       let hs = flat_map h xs in
       let step : IsReordering (f x ++ (h x ++ rest)) (f x ++ (fs ++ (h x ++ hs))) =
       reordering-left (f x) (h x ++ rest) (fs ++ (h x ++ hs))
-      (reordering-trans (h x ++ rest) (h x ++ (fs ++ hs)) (fs ++ (h x ++ hs)) (reordering-left (h x) rest (fs ++ hs) (reordering-parts f h xs)) (reordering-moved (h x) fs hs)) in
-      let left : IsReordering ((f x ++ h x) ++ rest) (f x ++ (fs ++ (h x ++ hs))) = subst (λ l. IsReordering l (f x ++ (fs ++ (h x ++ hs)))) (sym (append_assoc (f x) (h x) rest)) step in
+      (reordering-trans (h x ++ rest) (h x ++ (fs ++ hs)) (fs ++ (h x ++ hs))
+      (reordering-left (h x) rest (fs ++ hs) (reordering-parts f h xs)) (reordering-moved (h x) fs hs)) in
+      let left : IsReordering ((f x ++ h x) ++ rest) (f x ++ (fs ++ (h x ++ hs))) =
+      subst (λ l. IsReordering l (f x ++ (fs ++ (h x ++ hs)))) (sym (append_assoc (f x) (h x) rest)) step in
       subst (IsReordering ((f x ++ h x) ++ rest)) (sym (append_assoc (f x) fs (h x ++ hs))) left
 
   none_of_each : (ys : List A) → flat_map {X = A} {A = B} (λ y. []) ys ≡ []
@@ -87,4 +90,5 @@ module _ {A : Type 0} (key : A → List ℕ) where
   -- a sorted list has the same values
   pub sort-reorders : (xs : List A) → IsReordering xs (sort_by key xs)
   sort-reorders [] = refl
-  sort-reorders (x ∷ xs) = reordering-trans (x ∷ xs) (x ∷ sort_by key xs) (put_by key x (sort_by key xs)) (reordering-cons x xs (sort_by key xs) (sort-reorders xs)) (put-reorders x (sort_by key xs))
+  sort-reorders (x ∷ xs) = reordering-trans (x ∷ xs) (x ∷ sort_by key xs) (put_by key x (sort_by key xs))
+      (reordering-cons x xs (sort_by key xs) (sort-reorders xs)) (put-reorders x (sort_by key xs))

@@ -1,5 +1,6 @@
 -- The row of a tag has the instances that hold its words.
-use Rattle.std.proofs.Common.{◌≡◌, ◌≢◌, ◌∙◌, ◌+◌, ◌≤◌, zero, suc, ℕ, Bool, true, false, cond, not, ◌==◌, if◌then◌else◌, List, [], ◌∷◌, ◌++◌, map, filter, refl, sym, ap, subst, inl, inr, arith}
+use Rattle.std.proofs.Common.{◌≡◌, ◌≢◌, ◌∙◌, ◌+◌, ◌≤◌, zero, suc, ℕ, Bool, true, false, cond, not, ◌==◌, if◌then◌else◌, List, [], ◌∷◌, ◌++◌}
+use Rattle.std.proofs.Common.{map, filter, refl, sym, ap, subst, inl, inr, arith}
 use Rattle.std.specs.Prelude.{◌↔◌, slice_get}
 use Rattle.std.specs.List.{Contains, cons_option, filter_map}
 use Rattle.std.specs.declared.option.Option.{Option}
@@ -49,15 +50,18 @@ row_found : (pairs : ℕ → List Instance) (ts : List ℕ) (t : ℕ) → Stands
 row_found pairs [] t there = absurd there
 row_found pairs (s ∷ ts) t there = by (s == t) refl there (row_found pairs ts t)
   where
-    by : (b : Bool) → (s == t) ≡ b → StandsIn t (s ∷ ts) → (StandsIn t ts → pairs_of (map (row_of pairs) ts) t ≡ pairs t) → (if b then pairs s else pairs_of (map (row_of pairs) ts) t) ≡ pairs t
+    by : (b : Bool) → (s == t) ≡ b → StandsIn t (s ∷ ts) → (StandsIn t ts → pairs_of (map (row_of pairs) ts) t ≡ pairs t)
+        → (if b then pairs s else pairs_of (map (row_of pairs) ts) t) ≡ pairs t
     by true same there more = let is : s ≡ t = grind (arith, nat_tests) in ap pairs is
     by false same (inl is) more = let apart : s ≢ t = grind (arith, nat_tests) in absurd (apart (sym is))
     by false same (inr there) more = more there
 
 -- a tag that is captured has a row
-pub row_of_tag : (g : Tagging) (instances : List Instance) (t : ℕ) → 1 ≤ t → t ≤ g.count → captures g t ≡ true → pairs_of (report_of g instances) t ≡ instances_at instances (g.accepted t)
+pub row_of_tag : (g : Tagging) (instances : List Instance) (t : ℕ) → 1 ≤ t → t ≤ g.count → captures g t ≡ true
+    → pairs_of (report_of g instances) t ≡ instances_at instances (g.accepted t)
 row_of_tag g instances t low high caught =
-    row_found (λ t. instances_at instances (g.accepted t)) (filter (captures g) (up_to g.count)) t (among_filter (captures g) t (up_to g.count) caught (among_up_to g.count t low high))
+    row_found (λ t. instances_at instances (g.accepted t)) (filter (captures g) (up_to g.count)) t
+    (among_filter (captures g) t (up_to g.count) caught (among_up_to g.count t low high))
 
 -- and one that isn't has no instances
 pub none_of_tag : (instances : List Instance) (is : List ℕ) → not (is_empty is) ≡ false → [] ≡ instances_at instances is
@@ -101,7 +105,8 @@ module _ (p : Instance → Bool) where
       let same : suc k + n ≡ k + suc n = omega arith in
       by (p j) (subst (λ m. StandsIn m (numbers_from p (suc k) is)) same (numbered (suc k) n is (i, at, passes)))
     where
-      by : (b : Bool) → StandsIn (k + suc n) (numbers_from p (suc k) is) → StandsIn (k + suc n) (cond b (k ∷ numbers_from p (suc k) is) (numbers_from p (suc k) is))
+      by : (b : Bool) → StandsIn (k + suc n) (numbers_from p (suc k) is)
+          → StandsIn (k + suc n) (cond b (k ∷ numbers_from p (suc k) is) (numbers_from p (suc k) is))
       by true more = inr more
       by false more = more
 
@@ -131,7 +136,8 @@ module _ (p : Instance → Bool) where
       by false more = more
 
   -- the instances of these numbers are those that pass
-  passing : (all : List Instance) (k : ℕ) (is : List Instance) → ((n : ℕ) → slice_get all (k + n) ≡ slice_get is n) → filter_map (slice_get all) (numbers_from p k is) ≡ filter p is
+  passing : (all : List Instance) (k : ℕ) (is : List Instance) → ((n : ℕ) → slice_get all (k + n) ≡ slice_get is n)
+      → filter_map (slice_get all) (numbers_from p k is) ≡ filter p is
   passing all k [] at = refl
   passing all k (j ∷ is) at = by (p j) (passing all (suc k) is (λ n. (let same : suc k + n ≡ k + suc n = omega arith in ap (slice_get all) same) ∙ at (suc n)))
     where
@@ -149,7 +155,8 @@ ascends_by_number (n ∷ []) up = tt
 ascends_by_number (n ∷ m ∷ ns) up = (grind (arith, nat_tests, up.0), ascends_by_number (m ∷ ns) up.1)
 
 -- ascending numbers, of just the instances that pass, give these instances
-pub instances_of_numbers : (p : Instance → Bool) (all : List Instance) (ns : List ℕ) → Ascends ns → ((n : ℕ) → Contains ns n ↔ Passes p all n) → IsReordering (instances_at all ns) (filter p all)
+pub instances_of_numbers : (p : Instance → Bool) (all : List Instance) (ns : List ℕ) → Ascends ns
+    → ((n : ℕ) → Contains ns n ↔ Passes p all n) → IsReordering (instances_at all ns) (filter p all)
 instances_of_numbers p all ns up exact =
     let own = numbers_from p zero all in
     let into : (n : ℕ) → StandsIn n ns → StandsIn n own = λ n there.
@@ -160,4 +167,5 @@ instances_of_numbers p all ns up exact =
     let same : told.0 ≡ n = omega (arith, told.1) in
     among_from_contains ns n ((exact n).1 (subst (Passes p all) same told.2)) in
     let mixed = same_members ns own (ascending_apart (λ (n : ℕ). n ∷ []) ns (ascends_by_number ns up)) (numbers_apart p zero all) into back in
-    subst (IsReordering (instances_at all ns)) (passing p all zero all (λ n. let same : zero + n ≡ n = omega arith in ap (slice_get all) same)) (reordering-filter_map (slice_get all) ns own mixed)
+    subst (IsReordering (instances_at all ns)) (passing p all zero all (λ n. let same : zero + n ≡ n = omega arith in
+    ap (slice_get all) same)) (reordering-filter_map (slice_get all) ns own mixed)

@@ -81,7 +81,8 @@ edge_unlinked T d p edge = by (peer T d p) (and_parts (is_port T d p) (is_none (
     by (Some f) e = absurd (true≢false (sym e))
 
 -- at a switch, its trees say what the layout states
-module _ (T : Topology) (g : Tagging) (writes : Departures) (first : ArrivingTrees) (second : LeavingTrees) (x : Numbers) (fit : Fit x) (are : AreTrees T g writes x.switch first second) where
+module _ (T : Topology) (g : Tagging) (writes : Departures) (first : ArrivingTrees) (second : LeavingTrees) (x : Numbers) (fit : Fit x)
+    (are : AreTrees T g writes x.switch first second) where
   arriving_says : (k : Key) → StandsIn k (keys_of g) → said_by first None (key_word k) x ≡ arrival T g k x
   arriving_says k there =
       let told = said_by_key key_word words_differ (IsArriving T g x.switch) (keys_of g) first are.arriving k there None x in
@@ -91,7 +92,9 @@ module _ (T : Topology) (g : Tagging) (writes : Departures) (first : ArrivingTre
   plain_says = arriving_says Plain (inl refl)
 
   pub tag_says : (t : ℕ) → 1 ≤ t → t ≤ g.count → g.is_even t ≡ true → said_by first None (tag_word t) x ≡ arrival T g (Tag t) x
-  tag_says t low high even = arriving_says (Tag t) (inr (among_map Tag t (even_tags g) (among_filter g.is_even t (up_to g.count) even (among_up_to g.count t low high))))
+  tag_says t low high even =
+      arriving_says (Tag t)
+      (inr (among_map Tag t (even_tags g) (among_filter g.is_even t (up_to g.count) even (among_up_to g.count t low high))))
 
   pub leaving_says : (a : ℕ) → 1 ≤ a → a ≤ g.count → g.is_even a ≡ false → said_by second [] (tag_word a) x ≡ leaving T g writes a x
   leaving_says a low high odd =
@@ -99,10 +102,13 @@ module _ (T : Topology) (g : Tagging) (writes : Departures) (first : ArrivingTre
       let told = said_by_key tag_word tag_words_differ (IsLeaving T g writes x.switch) (odd_tags g) second are.leaving a there [] x in
       told.2 ∙ told.1.gives x fit
 
-  nothing_for : is_edge T x.switch x.port ≡ true → (word : ℕ) → word ≢ 0 → (k : Key) (t : Tree (Option Arrive)) → key_word k ≡ word → IsArriving T g x.switch k t → value t x ≡ None
+  nothing_for : is_edge T x.switch x.port ≡ true → (word : ℕ) → word ≢ 0 → (k : Key) (t : Tree (Option Arrive)) → key_word k ≡ word
+      → IsArriving T g x.switch k t → value t x ≡ None
   nothing_for edge word other Plain t same is = absurd (other (sym same))
-  nothing_for edge word other (Tag s) t same is = is.gives x fit ∙ ap (λ b. if b then Some (arrive g (g.after s x)) else None) (edge_unlinked T x.switch x.port edge)
+  nothing_for edge word other (Tag s) t same is = is.gives x fit
+      ∙ ap (λ b. if b then Some (arrive g (g.after s x)) else None) (edge_unlinked T x.switch x.port edge)
 
   -- of a packet at an edge port that has a header they say nothing
   pub strange_says : is_edge T x.switch x.port ≡ true → (word : ℕ) → word ≢ 0 → said_by first None word x ≡ None
-  strange_says edge word other = said_default key_word words_differ (IsArriving T g x.switch) (keys_of g) first are.arriving word None x (nothing_for edge word other)
+  strange_says edge word other = said_default key_word words_differ (IsArriving T g x.switch) (keys_of g) first are.arriving word None x
+      (nothing_for edge word other)

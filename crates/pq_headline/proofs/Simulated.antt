@@ -40,7 +40,8 @@ all_fit : (T : Topology) (x : Numbers) (ys : List Numbers) → AllByRecursion (I
 all_fit T x [] leave = tt
 all_fit T x (y ∷ ys) leave = (leave.0.fit, all_fit T x ys leave.1)
 
-module _ (m : Meaning) (Ls : Languages) (g : Tagging) (writes : Departures) (send : Sender) (laid : IsLaidOut m.topology m Ls g writes) (sends : SendsAs m.topology g writes send) where
+module _ (m : Meaning) (Ls : Languages) (g : Tagging) (writes : Departures) (send : Sender) (laid : IsLaidOut m.topology m Ls g writes)
+    (sends : SendsAs m.topology g writes send) where
   abbrev T : Topology
   T = m.topology
 
@@ -72,7 +73,8 @@ module _ (m : Meaning) (Ls : Languages) (g : Tagging) (writes : Departures) (sen
       packet = traced.fit;
       vlan = elim traced.tag [
         | inl plain ↦ subst (λ (v : Option ℕ). IfSome v (λ t. t < 2 ^ 12)) (sym plain.2) tt
-        | inr tagged ↦ subst (λ (v : Option ℕ). IfSome v (λ t. t < 2 ^ 12)) (sym tagged.1) (omega (arith, laid.few, (laid.tagging.tagged w traced.path).within.1))
+        | inr tagged ↦ subst (λ (v : Option ℕ). IfSome v (λ t. t < 2 ^ 12)) (sym tagged.1)
+            (omega (arith, laid.few, (laid.tagging.tagged w traced.path).within.1))
       ];
     }
 
@@ -111,7 +113,8 @@ module _ (m : Meaning) (Ls : Languages) (g : Tagging) (writes : Departures) (sen
         ap to_ports sent
         ∙ ports_in_order (all_copies T g here x (writes x))
         ∙ ap (sort_by tagged_numbers) (copies_to_ports T g here x (writes x))
-        ∙ sorts_to tagged_numbers tagged_tell (map departed given) (map departed (m.departs x)) (reordering-map departed given (m.departs x) (given_mixed x traced.fit))
+        ∙ sorts_to tagged_numbers tagged_tell (map departed given) (map departed (m.departs x))
+        (reordering-map departed given (m.departs x) (given_mixed x traced.fit))
         (ascending_rises tagged_numbers (map departed (m.departs x)) (departed_ascend T g here (m.departs x) (laid.departs x traced.fit).ascend))
 
     controllers : to_controller (send y) ≡ sort_by tagged_numbers (flat_map (caught_of g) (sightings (entered w x) x (given_by x (writes x))))
@@ -125,10 +128,12 @@ module _ (m : Meaning) (Ls : Languages) (g : Tagging) (writes : Departures) (sen
         let leave = all_leave x traced.fit in
         let fits = all_fit T x (m.departs x) leave in
         record {
-          flight = subst (λ l. Pairwise (Matches T g) (flown m (Traced w x)) (carried_all T l)) (sym ports) (carried_match T laid.lawful g (entered w x) path odd (m.departs x) fits);
+          flight = subst (λ l. Pairwise (Matches T g) (flown m (Traced w x)) (carried_all T l)) (sym ports)
+              (carried_match T laid.lawful g (entered w x) path odd (m.departs x) fits);
           delivered = ap (delivered_of T) ports ∙ delivered_same T g here x (m.departs x) leave;
           buckets = ap (collected report) controllers
-              ∙ collected_captured m Ls g laid.tagging laid.languages laid.instances (entered w x) x path odd traced.fit (given_by x (writes x)) (m.departs x) fits (given_mixed x traced.fit);
+              ∙ collected_captured m Ls g laid.tagging laid.languages laid.instances (entered w x) x path odd traced.fit
+              (given_by x (writes x)) (m.departs x) fits (given_mixed x traced.fit);
         }
 
   module _ (y : TaggedPacket) (stranger : IsStranger T y.packet y) where
@@ -142,7 +147,8 @@ module _ (m : Meaning) (Ls : Languages) (g : Tagging) (writes : Departures) (sen
         let other : tag_word stranger.number ≢ 0 = omega arith in
         sends.sends y strange_tagged port
         ∙ ap (λ a. in_order (sent_after sends.second y.packet a))
-        (ap (λ (v : Option ℕ). sends.first (vlan_word v) y.packet) stranger.header ∙ sends.strange y.packet stranger.fit stranger.edge (tag_word stranger.number) other)
+        (ap (λ (v : Option ℕ). sends.first (vlan_word v) y.packet) stranger.header
+        ∙ sends.strange y.packet stranger.fit stranger.edge (tag_word stranger.number) other)
 
     stranger_hop : HopAgrees m report send (Matches T g) (Stranger y.packet) y
     stranger_hop = record {
@@ -188,4 +194,5 @@ module _ (m : Meaning) (Ls : Languages) (g : Tagging) (writes : Departures) (sen
 pub simulated : (T : Topology) (m : Meaning) (Ls : Languages) (g : Tagging) (writes : Departures) (send : Sender)
     → IsLaidOut T m Ls g writes → SendsAs T g writes send → Simulates m (report_of g m.instances) send (Matches T g)
 simulated T m Ls g writes send laid sends =
-    subst (λ U. IsLaidOut U m Ls g writes → SendsAs U g writes send → Simulates m (report_of g m.instances) send (Matches U g)) laid.topology (simulates m Ls g writes send) laid sends
+    subst (λ U. IsLaidOut U m Ls g writes → SendsAs U g writes send
+    → Simulates m (report_of g m.instances) send (Matches U g)) laid.topology (simulates m Ls g writes send) laid sends

@@ -53,7 +53,8 @@ module _ {A : Type 0} (key : A → List ℕ) where
     all_tied z [] = tt
     all_tied z (x ∷ xs) = by (ties below z x) refl (all_tied z xs)
       where
-        by : (b : Bool) → ties below z x ≡ b → AllByRecursion (λ w. w ≡ z) (filter (ties below z) xs) → AllByRecursion (λ w. w ≡ z) (cond b (x ∷ filter (ties below z) xs) (filter (ties below z) xs))
+        by : (b : Bool) → ties below z x ≡ b → AllByRecursion (λ w. w ≡ z) (filter (ties below z) xs)
+            → AllByRecursion (λ w. w ≡ z) (cond b (x ∷ filter (ties below z) xs) (filter (ties below z) xs))
         by true e more = (tied z x e, more)
         by false e more = more
 
@@ -65,4 +66,6 @@ module _ {A : Type 0} (key : A → List ℕ) where
 
     -- a list sorts to the one of the same values that rises
     pub sorts_to : (xs ys : List A) → IsReordering xs ys → Rises below (order key) ys → sort_by key xs ≡ ys
-    sorts_to xs ys h up = risen_same (sort_by key xs) ys (sort-rises key xs) up (reordering-trans (sort_by key xs) xs ys (reordering-sym xs (sort_by key xs) (sort-reorders key xs)) h)
+    sorts_to xs ys h up =
+        risen_same (sort_by key xs) ys (sort-rises key xs) up
+        (reordering-trans (sort_by key xs) xs ys (reordering-sym xs (sort_by key xs) (sort-reorders key xs)) h)

@@ -29,4 +29,9 @@ in_switch s = rw (in_list message_data (λ m. refl) s.1, in_list natural (λ n. 
 
 pub in_inspection : (i : Install) → has_float (inspection i) ≡ false
 unfolding inspection
-in_inspection i = rw (in_list link_data in_link i.topology.links, in_list string (λ name. refl) i.queries, in_list row_data in_row i.report, in_list switch_data in_switch (zip i.topology.switches i.messages)) refl
+in_inspection i = rw (
+  in_list link_data in_link i.topology.links,
+  in_list string (λ name. refl) i.queries,
+  in_list row_data in_row i.report,
+  in_list switch_data in_switch (zip i.topology.switches i.messages),
+) refl

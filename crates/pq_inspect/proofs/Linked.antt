@@ -58,7 +58,13 @@ linked = record {
 -- They keep the rules.
 
 west_is_lawful : IsLawfulSwitch west
-west_is_lawful = (omega arith, (λ none. omega (arith, ap length none)), (omega arith, tt), All-cons IsPortNumber 1 (2 ∷ []) (omega arith, omega arith) (All-cons IsPortNumber 2 [] (omega arith, omega arith) (All-nil IsPortNumber)))
+west_is_lawful = (
+  omega arith,
+  (λ none. omega (arith, ap length none)),
+  (omega arith, tt),
+  All-cons IsPortNumber 1 (2 ∷ []) (omega arith, omega arith)
+      (All-cons IsPortNumber 2 [] (omega arith, omega arith) (All-nil IsPortNumber)),
+)
 
 east_is_lawful : IsLawfulSwitch east
 east_is_lawful = (omega arith, (λ none. omega (arith, ap length none)), tt, All-cons IsPortNumber 1 [] (omega arith, omega arith) (All-nil IsPortNumber))
@@ -80,7 +86,8 @@ unfolding IsDistinct
 linked_topology_is_named = record {
   lawful = linked_topology_is_lawful;
   names_differ = ((refl, tt), (tt, tt));
-  limits = All-cons (λ s. s.limit ≤ 16384) west (east ∷ []) (omega arith) (All-cons (λ s. s.limit ≤ 16384) east [] (omega arith) (All-nil (λ s. s.limit ≤ 16384)));
+  limits = All-cons (λ s. s.limit ≤ 16384) west (east ∷ []) (omega arith)
+      (All-cons (λ s. s.limit ≤ 16384) east [] (omega arith) (All-nil (λ s. s.limit ≤ 16384)));
 }
 
 bucket_is_lawful : (port : ℕ) → IsPortNumber port → IsLawfulBucket (bucket port)
@@ -96,7 +103,17 @@ two_buckets-length = refl
 
 two_buckets_are_lawful : IsLawfulMessage two_buckets
 two_buckets_are_lawful = record {
-  content = record { xid = omega arith; command = ((omega arith, omega arith), ((λ none. omega (arith, ap length none)), All-cons IsLawfulBucket (bucket 2) (bucket 3 ∷ []) (bucket_is_lawful 2 (omega arith, omega arith)) (All-cons IsLawfulBucket (bucket 3) [] (bucket_is_lawful 3 (omega arith, omega arith)) (All-nil IsLawfulBucket)))) };
+  content = record {
+    xid = omega arith;
+    command = (
+      (omega arith, omega arith),
+      (
+        (λ none. omega (arith, ap length none)),
+        All-cons IsLawfulBucket (bucket 2) (bucket 3 ∷ []) (bucket_is_lawful 2 (omega arith, omega arith))
+            (All-cons IsLawfulBucket (bucket 3) [] (bucket_is_lawful 3 (omega arith, omega arith)) (All-nil IsLawfulBucket)),
+      ),
+    );
+  };
   short = omega (arith, two_buckets-length);
 }
 
@@ -111,13 +128,25 @@ abbrev IsU64 : ℕ → Type 0
 IsU64 n = n < 2 ^ 64
 
 numbered_is_lawful : IsLawfulPair 2 numbered
-numbered_is_lawful = (omega arith, omega arith, All-cons IsU64 10 (18446744073709551615 ∷ []) (omega arith) (All-cons IsU64 18446744073709551615 [] (omega arith) (All-nil IsU64)))
+numbered_is_lawful = (
+  omega arith,
+  omega arith,
+  All-cons IsU64 10 (18446744073709551615 ∷ []) (omega arith) (All-cons IsU64 18446744073709551615 [] (omega arith) (All-nil IsU64)),
+)
 
 bare_is_lawful : IsLawfulPair 2 bare
 bare_is_lawful = (omega arith, omega arith, All-nil IsU64)
 
 row_is_lawful : IsLawfulRow 2 row
-row_is_lawful = (omega arith, omega arith, (λ none. omega (arith, ap length none)), omega arith, All-cons (IsLawfulPair 2) numbered (bare ∷ []) numbered_is_lawful (All-cons (IsLawfulPair 2) bare [] bare_is_lawful (All-nil (IsLawfulPair 2))), (refl, tt))
+row_is_lawful = (
+  omega arith,
+  omega arith,
+  (λ none. omega (arith, ap length none)),
+  omega arith,
+  All-cons (IsLawfulPair 2) numbered (bare ∷ []) numbered_is_lawful
+      (All-cons (IsLawfulPair 2) bare [] bare_is_lawful (All-nil (IsLawfulPair 2))),
+  (refl, tt),
+)
 
 abbrev Named : List ℕ → Type 0
 Named name = IsTrue (is_name name)
@@ -132,5 +161,7 @@ linked_is_lawful = record {
   rows = All-cons (IsLawfulRow 2) row [] row_is_lawful (All-nil (IsLawfulRow 2));
   tags_ascend = tt;
   listed = refl;
-  messages = All-cons IsLawfulList (Barrier 3 ∷ []) ((two_buckets ∷ []) ∷ []) (only_one (Barrier 3) (record { content = omega arith; short = omega (arith, barrier-length) })) (All-cons IsLawfulList (two_buckets ∷ []) [] (only_one two_buckets two_buckets_are_lawful) (All-nil IsLawfulList));
+  messages = All-cons IsLawfulList (Barrier 3 ∷ []) ((two_buckets ∷ []) ∷ [])
+      (only_one (Barrier 3) (record { content = omega arith; short = omega (arith, barrier-length) }))
+      (All-cons IsLawfulList (two_buckets ∷ []) [] (only_one two_buckets two_buckets_are_lawful) (All-nil IsLawfulList));
 }

@@ -6,7 +6,8 @@ use Rattle.pq_install.proofs.Renamed.{spelled_stands}
 use Rattle.pq_inspect.specs.Inspected.{IsWholeInstall, IsSpoiledAt}
 
 -- all bytes are a spelling
-spelled_whole : (bytes : List ℕ) (i : Install) → IsSpelled i bytes ⊎ IsSpelledOld i bytes → IsSpelled i (take (length bytes) bytes) ⊎ IsSpelledOld i (take (length bytes) bytes)
+spelled_whole : (bytes : List ℕ) (i : Install) → IsSpelled i bytes ⊎ IsSpelledOld i bytes
+    → IsSpelled i (take (length bytes) bytes) ⊎ IsSpelledOld i (take (length bytes) bytes)
 spelled_whole bytes i spelled =
     let P : List ℕ → Type 0 = λ bs. IsSpelled i bs ⊎ IsSpelledOld i bs in
     subst P (sym (take_all (length bytes) bytes (omega arith))) spelled

@@ -31,7 +31,8 @@ own_port : (d p : ℕ) (ps : List ℕ) → list_any (λ q. q == p) ps ≡ true �
 own_port d p [] there = absurd cc
 own_port d p (q ∷ qs) there = by (own_port d p qs) (q == p) refl
   where
-    by : (list_any (λ r. r == p) qs ≡ true → is_among (map (own_end d) qs) (d, p) ≡ true) → (b : Bool) → (q == p) ≡ b → is_among (map (own_end d) (q ∷ qs)) (d, p) ≡ true
+    by : (list_any (λ r. r == p) qs ≡ true → is_among (map (own_end d) qs) (d, p) ≡ true) → (b : Bool) → (q == p) ≡ b
+        → is_among (map (own_end d) (q ∷ qs)) (d, p) ≡ true
     by later true same = grind (arith, nat_tests, same)
     by later false other =
         let behind : list_any (λ r. r == p) qs ≡ true = rw other at there in
@@ -39,9 +40,11 @@ own_port d p (q ∷ qs) there = by (own_port d p qs) (q == p) refl
 
 port_is_among : (ss : List Switch) (d p : ℕ) → list_any (λ q. q == p) (ports_in ss d) ≡ true → is_among (all_ports ss) (d, p) ≡ true
 port_is_among [] d p there = absurd cc
-port_is_among (s ∷ ss) d p there = rw (list_any-append (λ e. same_end e (d, p)) (map (own_end s.datapath) s.ports) (all_ports ss)) (by (port_is_among ss d p) (s.datapath == d) refl)
+port_is_among (s ∷ ss) d p there = rw (list_any-append (λ e. same_end e (d, p)) (map (own_end s.datapath) s.ports) (all_ports ss))
+    (by (port_is_among ss d p) (s.datapath == d) refl)
   where
-    by : (list_any (λ q. q == p) (ports_in ss d) ≡ true → is_among (all_ports ss) (d, p) ≡ true) → (b : Bool) → (s.datapath == d) ≡ b → (is_among (map (own_end s.datapath) s.ports) (d, p) || is_among (all_ports ss) (d, p)) ≡ true
+    by : (list_any (λ q. q == p) (ports_in ss d) ≡ true → is_among (all_ports ss) (d, p) ≡ true) → (b : Bool) → (s.datapath == d) ≡ b
+        → (is_among (map (own_end s.datapath) s.ports) (d, p) || is_among (all_ports ss) (d, p)) ≡ true
     by later true same =
         let number : s.datapath ≡ d = grind (arith, nat_tests, same) in
         let here : list_any (λ q. q == p) s.ports ≡ true = rw same at there in
@@ -63,4 +66,10 @@ two_ends (l ∷ ls) = omega (arith, two_ends ls)
 
 -- each link takes two of at most 4,096 ports
 pub few_links : (t : Topology) → IsLawfulTopology t → length t.links ≤ 2048
-few_links t lawful = omega (arith, at_most (ends_of t.links) (all_ports t.switches) lawful.linked_once (ends_among t t.links lawful.links), count_ports t.switches, two_ends t.links, lawful.few_ports)
+few_links t lawful = omega (
+  arith,
+  at_most (ends_of t.links) (all_ports t.switches) lawful.linked_once (ends_among t t.links lawful.links),
+  count_ports t.switches,
+  two_ends t.links,
+  lawful.few_ports,
+)

@@ -19,18 +19,25 @@ front_are_bytes n bytes fit i =
     ]
 
 -- the number in the first bytes is spelled there
-module _ (w : Width) (limit : ℕ) (back : (bs : List ℕ) → length bs ≡ byte_len w → AreBytes bs → to_be_bytes w (from_be_bytes w bs) ≡ bs) (below : (bs : List ℕ) → AreBytes bs → from_be_bytes w bs < limit) where
-  at_front : (bytes front rest : List ℕ) (n : ℕ) → AreBytes bytes → front ≡ take (byte_len w) bytes → rest ≡ drop (byte_len w) bytes → byte_len w ≤ length bytes → n ≡ from_be_bytes w front → IsAtFront (λ n. n < limit) (to_be_bytes w) bytes n rest
+module _ (w : Width) (limit : ℕ) (back : (bs : List ℕ) → length bs ≡ byte_len w → AreBytes bs → to_be_bytes w (from_be_bytes w bs) ≡ bs)
+    (below : (bs : List ℕ) → AreBytes bs → from_be_bytes w bs < limit) where
+  at_front : (bytes front rest : List ℕ) (n : ℕ) → AreBytes bytes → front ≡ take (byte_len w) bytes → rest ≡ drop (byte_len w) bytes
+      → byte_len w ≤ length bytes → n ≡ from_be_bytes w front → IsAtFront (λ n. n < limit) (to_be_bytes w) bytes n rest
   at_front bytes front rest n fit front_is rest_is long n_is =
       let fit_front = front_are_bytes (byte_len w) bytes fit in
-      let spelled : to_be_bytes w (from_be_bytes w (take (byte_len w) bytes)) ≡ take (byte_len w) bytes = back (take (byte_len w) bytes) (omega (arith, length-take (byte_len w) bytes, long)) fit_front in
+      let spelled : to_be_bytes w (from_be_bytes w (take (byte_len w) bytes)) ≡ take (byte_len w) bytes =
+      back (take (byte_len w) bytes) (omega (arith, length-take (byte_len w) bytes, long)) fit_front in
       rw (n_is, front_is, rest_is) (below (take (byte_len w) bytes) fit_front, rw spelled (sym (take-append-drop (byte_len w) bytes)))
 
-pub u16_at_front : (bytes front rest : List ℕ) (n : ℕ) → AreBytes bytes → front ≡ take 2 bytes → rest ≡ drop 2 bytes → 2 ≤ length bytes → n ≡ from_be_bytes w16 front → IsAtFront IsU16 (to_be_bytes w16) bytes n rest
+pub u16_at_front : (bytes front rest : List ℕ) (n : ℕ) → AreBytes bytes → front ≡ take 2 bytes → rest ≡ drop 2 bytes → 2 ≤ length bytes
+    → n ≡ from_be_bytes w16 front → IsAtFront IsU16 (to_be_bytes w16) bytes n rest
 u16_at_front = at_front w16 (2 ^ 16) (λ bs len fit. be_bytes_2 bs _ len fit refl) (λ bs fit. omega (arith, fit 0, fit 1))
 
-pub u32_at_front : (bytes front rest : List ℕ) (n : ℕ) → AreBytes bytes → front ≡ take 4 bytes → rest ≡ drop 4 bytes → 4 ≤ length bytes → n ≡ from_be_bytes w32 front → IsAtFront IsU32 (to_be_bytes w32) bytes n rest
+pub u32_at_front : (bytes front rest : List ℕ) (n : ℕ) → AreBytes bytes → front ≡ take 4 bytes → rest ≡ drop 4 bytes → 4 ≤ length bytes
+    → n ≡ from_be_bytes w32 front → IsAtFront IsU32 (to_be_bytes w32) bytes n rest
 u32_at_front = at_front w32 (2 ^ 32) (λ bs len fit. be_bytes_4 bs _ len fit refl) (λ bs fit. omega (arith, fit 0, fit 1, fit 2, fit 3))
 
-pub u64_at_front : (bytes front rest : List ℕ) (n : ℕ) → AreBytes bytes → front ≡ take 8 bytes → rest ≡ drop 8 bytes → 8 ≤ length bytes → n ≡ from_be_bytes w64 front → IsAtFront IsU64 (to_be_bytes w64) bytes n rest
-u64_at_front = at_front w64 (2 ^ 64) (λ bs len fit. be_bytes_8 bs _ len fit refl) (λ bs fit. omega (arith, fit 0, fit 1, fit 2, fit 3, fit 4, fit 5, fit 6, fit 7))
+pub u64_at_front : (bytes front rest : List ℕ) (n : ℕ) → AreBytes bytes → front ≡ take 8 bytes → rest ≡ drop 8 bytes → 8 ≤ length bytes
+    → n ≡ from_be_bytes w64 front → IsAtFront IsU64 (to_be_bytes w64) bytes n rest
+u64_at_front = at_front w64 (2 ^ 64) (λ bs len fit. be_bytes_8 bs _ len fit refl)
+    (λ bs fit. omega (arith, fit 0, fit 1, fit 2, fit 3, fit 4, fit 5, fit 6, fit 7))

@@ -17,7 +17,8 @@ use Rattle.pq_install.proofs.UnitLists.{all_more}
 -- the bytes are those of some units and so many of the next, which is not whole
 abbrev pub IsCut : List (List ℕ) → List ℕ → ℕ → Type 0
 IsCut [] bytes left = ⊥
-IsCut (u ∷ us) bytes left = ((byte : ℕ) × (behind : List ℕ) × (u ≡ bytes ++ byte ∷ behind) × (left ≡ length bytes)) ⊎ ((rest : List ℕ) × (bytes ≡ u ++ rest) × IsCut us rest left)
+IsCut (u ∷ us) bytes left = ((byte : ℕ) × (behind : List ℕ) × (u ≡ bytes ++ byte ∷ behind) × (left ≡ length bytes)) ⊎
+    ((rest : List ℕ) × (bytes ≡ u ++ rest) × IsCut us rest left)
 
 -- wherever the units are cut, it fails
 abbrev pub CutsFail : (List ℕ → ℕ → Type 0) → List (List ℕ) → Type 0
@@ -52,12 +53,15 @@ cut_at (u ∷ us) n below = elim (cases_lt n (length u)) [
   | inr past ↦
       let later = cut_at us (n - length u) (omega (arith, below, past, length-append u (concat us))) in
       let same : length u + (n - length u) ≡ n = omega (arith, past) in
-      let front : take n (u ++ concat us) ≡ u ++ take (n - length u) (concat us) = subst (λ (m : ℕ). take m (u ++ concat us) ≡ u ++ take (n - length u) (concat us)) same (take-append-add u (concat us) (n - length u)) in
+      let front : take n (u ++ concat us) ≡ u ++ take (n - length u) (concat us) =
+      subst (λ (m : ℕ). take m (u ++ concat us) ≡ u ++ take (n - length u) (concat us)) same
+      (take-append-add u (concat us) (n - length u)) in
       (later.0, omega (arith, past, start_behind u us n past, later.1), inr (take (n - length u) (concat us), front, later.2))
 ]
 
 -- a cut is in the first units or behind them
-pub cut_in : (us vs : List (List ℕ)) → (bytes : List ℕ) (left : ℕ) → IsCut (us ++ vs) bytes left → IsCut us bytes left ⊎ ((rest : List ℕ) × (bytes ≡ concat us ++ rest) × IsCut vs rest left)
+pub cut_in : (us vs : List (List ℕ)) → (bytes : List ℕ) (left : ℕ) → IsCut (us ++ vs) bytes left
+    → IsCut us bytes left ⊎ ((rest : List ℕ) × (bytes ≡ concat us ++ rest) × IsCut vs rest left)
 cut_in [] vs bytes left cut = inr (bytes, refl, cut)
 cut_in (u ∷ us) vs bytes left (inl here) = inl (inl here)
 cut_in (u ∷ us) vs bytes left (inr (rest, e, cut)) = elim (cut_in us vs rest left cut) [
@@ -66,7 +70,9 @@ cut_in (u ∷ us) vs bytes left (inr (rest, e, cut)) = elim (cut_in us vs rest l
 ]
 
 -- where the first units cut fail and those behind them too, all fail
-pub cut_or_after : {X : Type 0} (Fails : List ℕ → ℕ → Type 0) (P : X → Type 0) (spell : X → List ℕ) (After : X → List ℕ → ℕ → Type 0) (us vs : List (List ℕ)) (x : X) → P x → concat us ≡ spell x → CutsFail Fails us → CutsFail (After x) vs → CutsFail (FailsOrAfter Fails (IsAtFront P spell) After) (us ++ vs)
+pub cut_or_after : {X : Type 0} (Fails : List ℕ → ℕ → Type 0) (P : X → Type 0) (spell : X → List ℕ) (After : X → List ℕ → ℕ
+    → Type 0) (us vs : List (List ℕ)) (x : X) → P x → concat us ≡ spell x → CutsFail Fails us → CutsFail (After x) vs
+    → CutsFail (FailsOrAfter Fails (IsAtFront P spell) After) (us ++ vs)
 cut_or_after Fails P spell After us vs x fit same first second bytes left cut = elim (cut_in us vs bytes left cut) [
   | inl here ↦ inl (first bytes left here)
   | inr behind ↦ inr (x, behind.0, (fit, behind.1 ∙ ap (λ (front : List ℕ). front ++ behind.0) same), second behind.0 left behind.2)
@@ -80,7 +86,8 @@ module _ {X : Type 0} (P : X → Type 0) (spell : X → List ℕ) (unique : Uniq
   -- no value is spelled at the front of another's spelling that is cut
   none_cut : (x y : X) (bytes rest behind : List ℕ) (byte : ℕ) → P x → P y → spell y ≡ bytes ++ byte ∷ behind → bytes ≡ spell x ++ rest → ⊥
   none_cut x y bytes rest behind byte px py cut e =
-      let whole : spell y ++ [] ≡ spell x ++ (rest ++ byte ∷ behind) = append-nil (spell y) ∙ (cut ∙ (ap (λ (front : List ℕ). front ++ byte ∷ behind) e ∙ append_assoc (spell x) rest (byte ∷ behind))) in
+      let whole : spell y ++ [] ≡ spell x ++ (rest ++ byte ∷ behind) = append-nil (spell y)
+      ∙ (cut ∙ (ap (λ (front : List ℕ). front ++ byte ∷ behind) e ∙ append_assoc (spell x) rest (byte ∷ behind))) in
       let nothing : [] ≡ rest ++ byte ∷ behind = (unique y x [] (rest ++ byte ∷ behind) py px whole).1 in
       omega (arith, ap length nothing, length-append rest (byte ∷ behind))
 
@@ -91,15 +98,29 @@ module _ {X : Type 0} (P : X → Type 0) (spell : X → List ℕ) (unique : Uniq
 
   module _ (Rules : List X → Type 0) (each : (zs : List X) → Rules zs → All P zs) (closed : Closed Rules) where
     -- so does a list
-    list_cut : (xs ys : List X) → Rules (xs ++ ys) → (whole bytes : List ℕ) (left : ℕ) → whole ≡ flat_map spell xs ++ bytes → IsCut (map spell ys) bytes left → ListFails Rules spell (length (xs ++ ys)) whole left
+    list_cut : (xs ys : List X) → Rules (xs ++ ys) → (whole bytes : List ℕ) (left : ℕ) → whole ≡ flat_map spell xs ++ bytes
+        → IsCut (map spell ys) bytes left → ListFails Rules spell (length (xs ++ ys)) whole left
     list_cut xs [] rules whole bytes left front cut = absurd cut
     list_cut xs (y ∷ ys) rules whole bytes left front (inl (byte, behind, cut, all)) =
-        let up = up_to Rules closed xs y ys rules in
-        (xs, bytes, omega (arith, length-append xs (y ∷ ys)), (closed xs y up, front), (all, λ x rest kept e. none_cut x y bytes rest behind byte ((all_more P xs x).0 (each (xs ++ x ∷ []) kept)).1 ((all_more P xs y).0 (each (xs ++ y ∷ []) up)).1 cut e))
+        let up = up_to Rules closed xs y ys rules in (
+          xs,
+          bytes,
+          omega (arith, length-append xs (y ∷ ys)),
+          (closed xs y up, front),
+          (
+            all,
+            λ x rest kept e. none_cut x y bytes rest behind byte ((all_more P xs x).0 (each (xs ++ x ∷ []) kept)).1
+                ((all_more P xs y).0 (each (xs ++ y ∷ []) up)).1 cut e,
+          ),
+        )
     list_cut xs (y ∷ ys) rules whole bytes left front (inr (rest, e, cut)) =
         let regrouped : (xs ++ y ∷ []) ++ ys ≡ xs ++ y ∷ ys = append_assoc xs (y ∷ []) ys in
-        let longer : whole ≡ flat_map spell (xs ++ y ∷ []) ++ rest = front ∙ (ap (λ (more : List ℕ). flat_map spell xs ++ more) e ∙ (sym (append_assoc (flat_map spell xs) (spell y) rest) ∙ ap (λ (more : List ℕ). more ++ rest) (flat_map_more spell [] xs y))) in
-        subst (λ (zs : List X). ListFails Rules spell (length zs) whole left) regrouped (list_cut (xs ++ y ∷ []) ys (subst Rules (sym regrouped) rules) whole rest left longer cut)
+        let longer : whole ≡ flat_map spell (xs ++ y ∷ []) ++ rest = front
+        ∙ (ap (λ (more : List ℕ). flat_map spell xs ++ more) e
+        ∙ (sym (append_assoc (flat_map spell xs) (spell y) rest) ∙ ap (λ (more : List ℕ). more ++ rest) (flat_map_more spell [] xs y)))
+        in
+        subst (λ (zs : List X). ListFails Rules spell (length zs) whole left) regrouped
+        (list_cut (xs ++ y ∷ []) ys (subst Rules (sym regrouped) rules) whole rest left longer cut)
 
     pub list_cuts : (ys : List X) → Rules ys → CutsFail (ListFails Rules spell (length ys)) (map spell ys)
     list_cuts ys rules bytes left cut = list_cut [] ys rules bytes bytes left refl cut

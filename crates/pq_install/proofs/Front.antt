@@ -37,20 +37,25 @@ unique_u64 x y a b fx fy e =
     (sym (from_be_bytes-to_be_bytes_8 x fx) ∙ (ap (from_be_bytes w64) same.0 ∙ from_be_bytes-to_be_bytes_8 y fy), same.1)
 
 -- where a list stands that is shorter than another, a further value of the other stands behind it
-pub longer_goes_on : {X : Type 0} (P : X → Type 0) (spell : X → List ℕ) → Unique P spell → (xs ys : List X) (rest more : List ℕ) → All P xs → All P ys → length xs < length ys → flat_map spell xs ++ rest ≡ flat_map spell ys ++ more → NoneAtFront P spell rest → ⊥
+pub longer_goes_on : {X : Type 0} (P : X → Type 0) (spell : X → List ℕ) → Unique P spell → (xs ys : List X) (rest more : List ℕ) → All P xs
+    → All P ys → length xs < length ys → flat_map spell xs ++ rest ≡ flat_map spell ys ++ more → NoneAtFront P spell rest → ⊥
 longer_goes_on P spell unique [] [] rest more px py shorter e none = omega (arith, shorter)
-longer_goes_on P spell unique [] (y ∷ ys) rest more px py shorter e none = none y (flat_map spell ys ++ more) (py 0 y (omega arith)) (e ∙ append_assoc (spell y) (flat_map spell ys) more)
+longer_goes_on P spell unique [] (y ∷ ys) rest more px py shorter e none = none y (flat_map spell ys ++ more) (py 0 y (omega arith)) (e
+    ∙ append_assoc (spell y) (flat_map spell ys) more)
 longer_goes_on P spell unique (x ∷ xs) [] rest more px py shorter e none = omega (arith, shorter)
 longer_goes_on P spell unique (x ∷ xs) (y ∷ ys) rest more px py shorter e none =
-    let same = unique x y (flat_map spell xs ++ rest) (flat_map spell ys ++ more) (px 0 x (omega arith)) (py 0 y (omega arith)) (sym (append_assoc (spell x) (flat_map spell xs) rest) ∙ (e ∙ append_assoc (spell y) (flat_map spell ys) more)) in
+    let same = unique x y (flat_map spell xs ++ rest) (flat_map spell ys ++ more) (px 0 x (omega arith)) (py 0 y (omega arith))
+    (sym (append_assoc (spell x) (flat_map spell xs) rest) ∙ (e ∙ append_assoc (spell y) (flat_map spell ys) more)) in
     longer_goes_on P spell unique xs ys rest more (All-tail P x xs px) (All-tail P y ys py) (omega (arith, shorter)) same.1 none
 
 -- so two lists of one length are the same
-pub unique_list : {X : Type 0} (P : X → Type 0) (spell : X → List ℕ) → Unique P spell → (xs ys : List X) (rest more : List ℕ) → All P xs → All P ys → length xs ≡ length ys → flat_map spell xs ++ rest ≡ flat_map spell ys ++ more → (xs ≡ ys) × (rest ≡ more)
+pub unique_list : {X : Type 0} (P : X → Type 0) (spell : X → List ℕ) → Unique P spell → (xs ys : List X) (rest more : List ℕ) → All P xs
+    → All P ys → length xs ≡ length ys → flat_map spell xs ++ rest ≡ flat_map spell ys ++ more → (xs ≡ ys) × (rest ≡ more)
 unique_list P spell unique [] [] rest more px py same e = (refl, e)
 unique_list P spell unique [] (y ∷ ys) rest more px py same e = absurd (omega (arith, same))
 unique_list P spell unique (x ∷ xs) [] rest more px py same e = absurd (omega (arith, same))
 unique_list P spell unique (x ∷ xs) (y ∷ ys) rest more px py same e =
-    let first = unique x y (flat_map spell xs ++ rest) (flat_map spell ys ++ more) (px 0 x (omega arith)) (py 0 y (omega arith)) (sym (append_assoc (spell x) (flat_map spell xs) rest) ∙ (e ∙ append_assoc (spell y) (flat_map spell ys) more)) in
+    let first = unique x y (flat_map spell xs ++ rest) (flat_map spell ys ++ more) (px 0 x (omega arith)) (py 0 y (omega arith))
+    (sym (append_assoc (spell x) (flat_map spell xs) rest) ∙ (e ∙ append_assoc (spell y) (flat_map spell ys) more)) in
     let later = unique_list P spell unique xs ys rest more (All-tail P x xs px) (All-tail P y ys py) (omega (arith, same)) first.1 in
     (rw (first.0, later.0) refl, later.1)

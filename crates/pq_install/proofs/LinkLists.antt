@@ -34,15 +34,20 @@ list_any_more p [] x fails = rw fails refl
 list_any_more p (y ∷ ys) x fails = ap (λ (b : Bool). p y || b) (list_any_more p ys x fails)
 
 -- the ends of one more link differ from all others
-ends_more : (before : List Link) (l : Link) → same_end l.first l.second ≡ false → IsDistinct same_end (ends_of (before ++ l ∷ [])) ↔ IsDistinct same_end (ends_of before) × (list_any (λ e. same_end e l.first) (ends_of before) ≡ false) × (list_any (λ e. same_end e l.second) (ends_of before) ≡ false)
+ends_more : (before : List Link) (l : Link) → same_end l.first l.second ≡ false
+    → IsDistinct same_end (ends_of (before ++ l ∷ [])) ↔ IsDistinct same_end (ends_of before)
+    × (list_any (λ e. same_end e l.first) (ends_of before) ≡ false) × (list_any (λ e. same_end e l.second) (ends_of before) ≡ false)
 ends_more before l differ =
     let first = distinct_more same_end (ends_of before) l.first in
     let second = distinct_more same_end (ends_of before ++ l.first ∷ []) l.second in
-    let skip : list_any (λ e. same_end e l.second) (ends_of before ++ l.first ∷ []) ≡ list_any (λ e. same_end e l.second) (ends_of before) = list_any_more (λ e. same_end e l.second) (ends_of before) l.first differ in
+    let skip : list_any (λ e. same_end e l.second) (ends_of before ++ l.first ∷ []) ≡ list_any (λ e. same_end e l.second) (ends_of before) =
+    list_any_more (λ e. same_end e l.second) (ends_of before) l.first differ in
     rw (one_link before l) (λ d. let s = second.0 d in let f = first.0 s.0 in (f.0, f.1, sym skip ∙ s.1), λ d. second.1 (first.1 (d.0, d.1), skip ∙ d.2))
 
 -- a link between ports above the last, whose ends are in no other link
-pub link_follows : (ss : List Switch) (before : List Link) (l : Link) → AreReadLinks ss before → IsLawfulLink (unlinked ss) l × AtLast (λ m. Below m l) before × (list_any (λ e. same_end e l.first) (ends_of before) ≡ false) × (list_any (λ e. same_end e l.second) (ends_of before) ≡ false) ↔ AreReadLinks ss (before ++ l ∷ [])
+pub link_follows : (ss : List Switch) (before : List Link) (l : Link) → AreReadLinks ss before
+    → IsLawfulLink (unlinked ss) l × AtLast (λ m. Below m l) before × (list_any (λ e. same_end e l.first) (ends_of before) ≡ false)
+    × (list_any (λ e. same_end e l.second) (ends_of before) ≡ false) ↔ AreReadLinks ss (before ++ l ∷ [])
 link_follows ss before l are =
     let chain = chain_more Below before l in
     let up = ascending_by_chain link_numbers in

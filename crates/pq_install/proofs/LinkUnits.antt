@@ -15,8 +15,10 @@ unique_end = unique_pair IsU64 (to_be_bytes w64) unique_u64 IsU32 (to_be_bytes w
 pub no_first_end : (bytes : List ℕ) → NoneAtFront IsEnd end_bytes bytes → NoneAtFront HasEnds link_bytes bytes
 no_first_end bytes none l rest fit e = no_first IsEnd end_bytes unique_end IsEnd end_bytes bytes none (l.first, l.second) rest fit e
 
-pub no_second_end : (bytes : List ℕ) (first : ℕ × ℕ) (after : List ℕ) → IsAtFront IsEnd end_bytes bytes first after → NoneAtFront IsEnd end_bytes after → NoneAtFront HasEnds link_bytes bytes
-no_second_end bytes first after front none l rest fit e = no_second IsEnd end_bytes unique_end IsEnd end_bytes bytes first after front none (l.first, l.second) rest fit e
+pub no_second_end : (bytes : List ℕ) (first : ℕ × ℕ) (after : List ℕ) → IsAtFront IsEnd end_bytes bytes first after
+    → NoneAtFront IsEnd end_bytes after → NoneAtFront HasEnds link_bytes bytes
+no_second_end bytes first after front none l rest fit e = no_second IsEnd end_bytes unique_end IsEnd end_bytes bytes first after front none
+    (l.first, l.second) rest fit e
 
 -- a link of two ends
 abbrev link_of : (ℕ × ℕ) × (ℕ × ℕ) → Link

@@ -1,5 +1,6 @@
 -- A name at the front of bytes, and which name may follow others.
-use Rattle.std.specs.Prelude.{◌≡◌, ℕ, ◌+◌, ◌<◌, ◌↔◌, Bool, true, false, Option, Some, None, MatchOption, if◌then◌else◌, List, [], ◌∷◌, ◌++◌, bytes_eq, length, drop}
+use Rattle.std.specs.Prelude.{◌≡◌, ℕ, ◌+◌, ◌<◌, ◌↔◌, Bool, true, false, Option, Some, None, MatchOption, if◌then◌else◌, List, [], ◌∷◌, ◌++◌}
+use Rattle.std.specs.Prelude.{bytes_eq, length, drop}
 use Rattle.std.proofs.Common.{arith, refl, sym, ap, ◌∙◌}
 use Rattle.std.specs.List.{IsDistinct, list_any}
 use Rattle.std.proofs.lemmas.List.{length-append, drop_at}
@@ -42,10 +43,14 @@ module _ (bytes rest text after : List ℕ) (len : ℕ) (is : bytes ≡ len ∷ 
       rw (whole, drop_at (length text ∷ text) after (length text + 1) (omega arith)) refl
 
   -- what the test on the bytes behind the length tells
-  pub name_tells : (found : Option (List ℕ)) → found ≡ (if is_name text then Some text else None) → MatchOption found (NoneAtFront IsName name_bytes bytes) (λ name. IsAtFront IsName name_bytes bytes name (drop (length name + 1) bytes))
+  pub name_tells : (found : Option (List ℕ)) → found ≡ (if is_name text then Some text else None)
+      → MatchOption found (NoneAtFront IsName name_bytes bytes)
+      (λ name. IsAtFront IsName name_bytes bytes name (drop (length name + 1) bytes))
   name_tells found found_is = by (is_name text) refl
     where
-      by : (b : Bool) → is_name text ≡ b → MatchOption found (NoneAtFront IsName name_bytes bytes) (λ name. IsAtFront IsName name_bytes bytes name (drop (length name + 1) bytes))
+      by : (b : Bool) → is_name text ≡ b
+          → MatchOption found (NoneAtFront IsName name_bytes bytes)
+          (λ name. IsAtFront IsName name_bytes bytes name (drop (length name + 1) bytes))
       by true e =
           let some : found ≡ Some text = rw e at found_is in
           rw some (e, good_name)
@@ -59,7 +64,8 @@ unfolding IsDistinct
 no_names = record { each = λ k d below. absurd (omega (arith, below)); differ = tt }
 
 -- a name that is none of them may follow
-pub name_follows : (before : List (List ℕ)) (name : List ℕ) → AreReadNames before → IsName name → (list_any (λ other. bytes_eq other name) before ≡ false) ↔ AreReadNames (before ++ name ∷ [])
+pub name_follows : (before : List (List ℕ)) (name : List ℕ) → AreReadNames before → IsName name
+    → (list_any (λ other. bytes_eq other name) before ≡ false) ↔ AreReadNames (before ++ name ∷ [])
 name_follows before name are fit =
     let each = all_more IsName before name in
     let differ = distinct_more bytes_eq before name in

@@ -23,14 +23,16 @@ names_differ d e fd fe other = by (bytes_eq (read_name d) (read_name e)) refl
         let digits : decimal d ≡ decimal e = cc in
         absurd (other (decimal_injective d e fd fe digits))
 
-differs_from_all : (s : Switch) (ss : List Switch) → IsReadSwitch s → All IsReadSwitch ss → Ascends (s.datapath ∷ map (λ t. t.datapath) ss) → AllByRecursion (λ name. bytes_eq s.name name ≡ false) (map (λ t. t.name) ss)
+differs_from_all : (s : Switch) (ss : List Switch) → IsReadSwitch s → All IsReadSwitch ss → Ascends (s.datapath ∷ map (λ t. t.datapath) ss)
+    → AllByRecursion (λ name. bytes_eq s.name name ≡ false) (map (λ t. t.name) ss)
 differs_from_all s [] fit each up = tt
 differs_from_all s (t ∷ []) fit each up =
     let there = each 0 t (omega arith) in
     (rw (fit.2, there.2) (names_differ s.datapath t.datapath fit.0.0 there.0.0 (λ same. omega (arith, same, up.0))), tt)
 differs_from_all s (t ∷ u ∷ us) fit each up =
     let there = each 0 t (omega arith) in
-    let differs : bytes_eq s.name t.name ≡ false = rw (fit.2, there.2) (names_differ s.datapath t.datapath fit.0.0 there.0.0 (λ same. omega (arith, same, up.0))) in
+    let differs : bytes_eq s.name t.name ≡ false =
+    rw (fit.2, there.2) (names_differ s.datapath t.datapath fit.0.0 there.0.0 (λ same. omega (arith, same, up.0))) in
     let above : s.datapath < u.datapath = omega (arith, up.0, up.1.0) in
     (differs, differs_from_all s (u ∷ us) fit (All-tail IsReadSwitch t (u ∷ us) each) (above, up.1.1))
 

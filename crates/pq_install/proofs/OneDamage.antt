@@ -7,7 +7,9 @@ use Rattle.std.proofs.lemmas.Bool.{cases_lt}
 use Rattle.pq_model.specs.Spelling.{message_bytes}
 use Rattle.pq_model.specs.Install.{switch_bytes, link_bytes, name_bytes, row_bytes, list_bytes}
 use Rattle.pq_install.specs.declared.version.Version.{Version}
-use Rattle.pq_install.specs.Damage.{FailsAfterMagic, FailsAfterTopology, FailsOrAfter, InstallFails, IsDamagedAt, IsReadList, IsReadMessage, IsReadReport, IsReadTopology, IsVersion, ListFailsAt, ListsFail, ReportFails, TopologyFails, magic_bytes, report_bytes, topology_bytes}
+use Rattle.pq_install.specs.Damage.{FailsAfterMagic, FailsAfterTopology, FailsOrAfter, InstallFails, IsDamagedAt, IsReadList, IsReadMessage}
+use Rattle.pq_install.specs.Damage.{IsReadReport, IsReadTopology, IsVersion, ListFailsAt, ListsFail, ReportFails, TopologyFails}
+use Rattle.pq_install.specs.Damage.{magic_bytes, report_bytes, topology_bytes}
 use Rattle.pq_install.specs.Front.{IsAtFront, IsU32}
 use Rattle.pq_install.specs.Links.{AreReadLinks, HasEnds}
 use Rattle.pq_install.specs.Names.{AreReadNames, IsName}
@@ -15,7 +17,8 @@ use Rattle.pq_install.specs.Rows.{AreReadRows, HasPairs}
 use Rattle.pq_install.specs.Switches.{AreReadSwitches, IsReadSwitch}
 use Rattle.pq_install.specs.Units.{CountedFails, IsSection, ListFails, UnitFails}
 use Rattle.pq_install.proofs.Closed.{Closed, up_to, all_closed, switches_closed, links_closed, names_closed, rows_closed}
-use Rattle.pq_install.proofs.Exclusion.{goes_on, section_stands, one_section, one_magic, links_have_ends, rows_have_pairs, unique_message, unique_messages, topology_stands, one_topology, report_stands, one_report, list_stands_at}
+use Rattle.pq_install.proofs.Exclusion.{goes_on, section_stands, one_section, one_magic, links_have_ends, rows_have_pairs, unique_message}
+use Rattle.pq_install.proofs.Exclusion.{unique_messages, topology_stands, one_topology, report_stands, one_report, list_stands_at}
 use Rattle.pq_install.proofs.Front.{Unique, unique_u16, unique_u32, unique_list}
 use Rattle.pq_install.proofs.LinkUnits.{unique_link}
 use Rattle.pq_install.proofs.NameUnits.{unique_name}
@@ -31,7 +34,10 @@ one_unit : {X : Type 0} (P : X → Type 0) (spell : X → List ℕ) → OneFailu
 one_unit P spell bytes l m one other = one.0 ∙ sym other.0
 
 -- a first part that is read doesn't fail, and it is read in one way
-module _ {X : Type 0} (Fails : List ℕ → ℕ → Type 0) (Reads : List ℕ → X → List ℕ → Type 0) (After : X → List ℕ → ℕ → Type 0) (first : OneFailure Fails) (stands : (bytes : List ℕ) (x : X) (rest : List ℕ) (left : ℕ) → Reads bytes x rest → Fails bytes left → ⊥) (one : (bytes : List ℕ) (x y : X) (rest more : List ℕ) → Reads bytes x rest → Reads bytes y more → (x ≡ y) × (rest ≡ more)) (second : (bytes : List ℕ) (x : X) (rest : List ℕ) → Reads bytes x rest → OneFailure (After x)) where
+module _ {X : Type 0} (Fails : List ℕ → ℕ → Type 0) (Reads : List ℕ → X → List ℕ → Type 0) (After : X → List ℕ → ℕ
+    → Type 0) (first : OneFailure Fails) (stands : (bytes : List ℕ) (x : X) (rest : List ℕ) (left : ℕ) → Reads bytes x rest
+    → Fails bytes left → ⊥) (one : (bytes : List ℕ) (x y : X) (rest more : List ℕ) → Reads bytes x rest → Reads bytes y more
+    → (x ≡ y) × (rest ≡ more)) (second : (bytes : List ℕ) (x : X) (rest : List ℕ) → Reads bytes x rest → OneFailure (After x)) where
   one_or_after : OneFailure (FailsOrAfter Fails Reads After)
   one_or_after bytes l m (inl f) (inl g) = first bytes l m f g
   one_or_after bytes l m (inl f) (inr (y, more, other, g)) = absurd (stands bytes y more l other f)
@@ -41,21 +47,25 @@ module _ {X : Type 0} (Fails : List ℕ → ℕ → Type 0) (Reads : List ℕ �
       second bytes x rest reads rest l m f (subst (λ (z : X). After z rest m) same.0 (subst (λ (b : List ℕ). After y b m) same.1 g))
 
 -- a unit is the first part
-one_behind : {X : Type 0} (P : X → Type 0) (spell : X → List ℕ) (After : X → List ℕ → ℕ → Type 0) → Unique P spell → ((x : X) → P x → OneFailure (After x)) → OneFailure (FailsOrAfter (UnitFails P spell) (IsAtFront P spell) After)
+one_behind : {X : Type 0} (P : X → Type 0) (spell : X → List ℕ) (After : X → List ℕ → ℕ → Type 0) → Unique P spell
+    → ((x : X) → P x → OneFailure (After x)) → OneFailure (FailsOrAfter (UnitFails P spell) (IsAtFront P spell) After)
 one_behind P spell After unique second =
     one_or_after (UnitFails P spell) (IsAtFront P spell) After (one_unit P spell)
     (λ bytes x rest left reads fails. fails.1 x rest reads.0 reads.1)
     (λ bytes x y rest more reads other. unique x y rest more reads.0 other.0 (sym reads.1 ∙ other.1))
     (λ bytes x rest reads. second x reads.0)
 
-module _ {X : Type 0} (P : X → Type 0) (spell : X → List ℕ) (unique : Unique P spell) (Rules : List X → Type 0) (each : (zs : List X) → Rules zs → All P zs) (closed : Closed Rules) where
+module _ {X : Type 0} (P : X → Type 0) (spell : X → List ℕ) (unique : Unique P spell) (Rules : List X → Type 0) (each : (zs : List X)
+    → Rules zs → All P zs) (closed : Closed Rules) where
   -- of values in a list some are read, and what is next fails
   abbrev SomeFail : (List X → List ℕ → ℕ → Type 0) → ℕ → List ℕ → ℕ → Type 0
   SomeFail Next count bytes left = (xs : List X) × (rest : List ℕ) × (length xs < count) × IsAtFront Rules (flat_map spell) bytes xs rest × Next xs rest left
 
-  module _ (Next : List X → List ℕ → ℕ → Type 0) (stands : (xs : List X) (y : X) (rest more : List ℕ) (left : ℕ) → Rules (xs ++ y ∷ []) → rest ≡ spell y ++ more → Next xs rest left → ⊥) (one : (xs : List X) → OneFailure (Next xs)) (count : ℕ) where
+  module _ (Next : List X → List ℕ → ℕ → Type 0) (stands : (xs : List X) (y : X) (rest more : List ℕ) (left : ℕ) → Rules (xs ++ y ∷ [])
+      → rest ≡ spell y ++ more → Next xs rest left → ⊥) (one : (xs : List X) → OneFailure (Next xs)) (count : ℕ) where
     -- no more are read than up to what fails
-    none_longer : (bytes : List ℕ) (xs ys : List X) (rest more : List ℕ) (left : ℕ) → IsAtFront Rules (flat_map spell) bytes xs rest → IsAtFront Rules (flat_map spell) bytes ys more → Next xs rest left → length xs < length ys → ⊥
+    none_longer : (bytes : List ℕ) (xs ys : List X) (rest more : List ℕ) (left : ℕ) → IsAtFront Rules (flat_map spell) bytes xs rest
+        → IsAtFront Rules (flat_map spell) bytes ys more → Next xs rest left → length xs < length ys → ⊥
     none_longer bytes xs ys rest more left front other fails shorter =
         let next = goes_on P spell unique xs ys rest more (each xs front.0) (each ys other.0) shorter (sym front.1 ∙ other.1) in
         stands xs next.0 rest (flat_map spell next.1 ++ more) left (up_to Rules closed xs next.0 next.1 (subst Rules next.2 other.0)) next.3 fails
@@ -86,19 +96,26 @@ module _ {X : Type 0} (P : X → Type 0) (spell : X → List ℕ) (unique : Uniq
 
 one_topology_failure : OneFailure TopologyFails
 one_topology_failure =
-    one_or_after (CountedFails 256 AreReadSwitches switch_bytes) (IsSection 256 AreReadSwitches switch_bytes) (λ ss. CountedFails 65535 (AreReadLinks ss) link_bytes)
+    one_or_after (CountedFails 256 AreReadSwitches switch_bytes) (IsSection 256 AreReadSwitches switch_bytes)
+    (λ ss. CountedFails 65535 (AreReadLinks ss) link_bytes)
     (one_counted IsReadSwitch switch_bytes unique_switch AreReadSwitches (λ ss are. are.each) switches_closed 256 (omega arith))
-    (λ bytes ss rest left reads fails. section_stands IsReadSwitch switch_bytes unique_switch 256 (omega arith) AreReadSwitches (λ zs are. are.each) switches_closed bytes ss rest left reads fails)
-    (λ bytes ss ts rest more reads other. one_section IsReadSwitch switch_bytes unique_switch 256 (omega arith) AreReadSwitches (λ zs are. are.each) bytes ss ts rest more reads other)
+    (λ bytes ss rest left reads fails. section_stands IsReadSwitch switch_bytes unique_switch 256 (omega arith) AreReadSwitches
+    (λ zs are. are.each) switches_closed bytes ss rest left reads fails)
+    (λ bytes ss ts rest more reads other. one_section IsReadSwitch switch_bytes unique_switch 256 (omega arith) AreReadSwitches
+    (λ zs are. are.each) bytes ss ts rest more reads other)
     (λ bytes ss rest reads. one_counted HasEnds link_bytes unique_link (AreReadLinks ss) (links_have_ends ss reads.0.1) (links_closed ss) 65535 (omega arith))
 
 one_report_failure : OneFailure ReportFails
 one_report_failure =
-    one_or_after (CountedFails 256 AreReadNames name_bytes) (IsSection 256 AreReadNames name_bytes) (λ names. CountedFails 4094 (AreReadRows (length names)) row_bytes)
+    one_or_after (CountedFails 256 AreReadNames name_bytes) (IsSection 256 AreReadNames name_bytes)
+    (λ names. CountedFails 4094 (AreReadRows (length names)) row_bytes)
     (one_counted IsName name_bytes unique_name AreReadNames (λ names are. are.each) names_closed 256 (omega arith))
-    (λ bytes names rest left reads fails. section_stands IsName name_bytes unique_name 256 (omega arith) AreReadNames (λ zs are. are.each) names_closed bytes names rest left reads fails)
-    (λ bytes names others rest more reads other. one_section IsName name_bytes unique_name 256 (omega arith) AreReadNames (λ zs are. are.each) bytes names others rest more reads other)
-    (λ bytes names rest reads. one_counted HasPairs row_bytes unique_row (AreReadRows (length names)) (rows_have_pairs (length names) reads.0.0) (rows_closed (length names)) 4094 (omega arith))
+    (λ bytes names rest left reads fails. section_stands IsName name_bytes unique_name 256 (omega arith) AreReadNames
+    (λ zs are. are.each) names_closed bytes names rest left reads fails)
+    (λ bytes names others rest more reads other. one_section IsName name_bytes unique_name 256 (omega arith) AreReadNames
+    (λ zs are. are.each) bytes names others rest more reads other)
+    (λ bytes names rest reads. one_counted HasPairs row_bytes unique_row (AreReadRows (length names))
+    (rows_have_pairs (length names) reads.0.0) (rows_closed (length names)) 4094 (omega arith))
 
 -- the messages to a switch
 one_list_at : (v : Version) → OneFailure (ListFailsAt v)

@@ -13,7 +13,8 @@ module _ {X : Type 0} (Fails : List ℕ → ℕ → Type 0) (Reads : List ℕ �
   tells_first Memory fails = tt
 
   -- or what follows it
-  pub tells_after : (x : X) (rest : List ℕ) (fault : Fault) → Reads bytes x rest → Tells (After x rest) fault → Tells (FailsOrAfter Fails Reads After bytes) fault
+  pub tells_after : (x : X) (rest : List ℕ) (fault : Fault) → Reads bytes x rest → Tells (After x rest) fault
+      → Tells (FailsOrAfter Fails Reads After bytes) fault
   tells_after x rest (Damaged left) reads fails = inr (x, rest, reads, fails)
   tells_after x rest Memory reads fails = tt
 

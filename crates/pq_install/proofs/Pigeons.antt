@@ -42,10 +42,12 @@ others_stay (d ∷ ds) e f differ there = by (others_stay ds e f differ) (same_e
             let behind : is_among ds f ≡ true = rw away at there in
             rw (away, later behind) refl
 
-all_others_stay : (ends es : List (ℕ × ℕ)) (e : ℕ × ℕ) → AllByRecursion (λ f. same_end e f ≡ false) es → All (λ f. is_among ends f ≡ true) es → All (λ f. is_among (without ends e) f ≡ true) es
+all_others_stay : (ends es : List (ℕ × ℕ)) (e : ℕ × ℕ) → AllByRecursion (λ f. same_end e f ≡ false) es
+    → All (λ f. is_among ends f ≡ true) es → All (λ f. is_among (without ends e) f ≡ true) es
 all_others_stay ends [] e differ there k f below = absurd (omega (arith, below))
 all_others_stay ends (g ∷ gs) e differ there zero f below = others_stay ends e g differ.0 (there 0 g (omega arith))
-all_others_stay ends (g ∷ gs) e differ there (suc k) f below = all_others_stay ends gs e differ.1 (All-tail (λ h. is_among ends h ≡ true) g gs there) k f (omega (arith, below))
+all_others_stay ends (g ∷ gs) e differ there (suc k) f below =
+    all_others_stay ends gs e differ.1 (All-tail (λ h. is_among ends h ≡ true) g gs there) k f (omega (arith, below))
 
 -- different ends among others are at most as many
 pub at_most : (es ends : List (ℕ × ℕ)) → IsDistinct same_end es → All (λ e. is_among ends e ≡ true) es → length es ≤ length ends

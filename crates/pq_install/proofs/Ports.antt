@@ -37,4 +37,7 @@ from_zero (p ∷ ps) up fit = (omega (arith, (fit 0 p (omega arith)).0), up)
 
 -- the test tells what ports a switch may have
 pub tells_ports : (ps : List ℕ) → ps ≢ [] → length ps ≤ 4096 → IsTrue (are_ports_above 0 ps) ↔ ArePorts ps
-tells_ports ps some few = (λ e. let let_in = let_through 0 ps e in (some, few, rest_ascends 0 ps let_in.0, let_in.1), λ are. pass 0 ps (from_zero ps are.2 are.3) are.3)
+tells_ports ps some few = (
+  λ e. let let_in = let_through 0 ps e in (some, few, rest_ascends 0 ps let_in.0, let_in.1),
+  λ are. pass 0 ps (from_zero ps are.2 are.3) are.3,
+)

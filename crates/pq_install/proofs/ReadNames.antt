@@ -15,7 +15,8 @@ abbrev are_digits : List ℕ → Bool
 are_digits = list_all is_ascii_digit
 
 decimal_is_digits : (n : ℕ) → n < 2 ^ 64 → are_digits (decimal n) ≡ true
-decimal_is_digits = decimal_by_steps (λ n ds. are_digits ds ≡ true) (λ n small. grind (arith, nat_tests)) (λ n ds large digits. rw (list_all-append is_ascii_digit ds ((48 + n % 10) ∷ []), digits) (grind (arith, nat_tests)))
+decimal_is_digits = decimal_by_steps (λ n ds. are_digits ds ≡ true) (λ n small. grind (arith, nat_tests))
+    (λ n ds large digits. rw (list_all-append is_ascii_digit ds ((48 + n % 10) ∷ []), digits) (grind (arith, nat_tests)))
 
 digit_is_word_byte : (d : ℕ) → is_ascii_digit d ≡ true → is_word_byte d ≡ true
 digit_is_word_byte d e = rw e refl
@@ -36,4 +37,5 @@ name_of_digits (d ∷ ds) digits some few =
     rw (short, digits_are_word_bytes (d ∷ ds) digits, no_o) refl
 
 pub named : (n : ℕ) → n < 2 ^ 64 → is_name (codes "n" ++ decimal n) ≡ true
-named n fit = name_of_digits (decimal n) (decimal_is_digits n fit) (decimal_nonempty n fit) (omega (arith, length-decimal-le 20 n (omega arith) (omega (arith, fit)) fit))
+named n fit = name_of_digits (decimal n) (decimal_is_digits n fit) (decimal_nonempty n fit)
+    (omega (arith, length-decimal-le 20 n (omega arith) (omega (arith, fit)) fit))

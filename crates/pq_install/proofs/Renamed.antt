@@ -8,7 +8,8 @@ use Rattle.std.proofs.lemmas.List.Sums.{sum_by-cons}
 use Rattle.pq_model.specs.Lawful.{Ascends}
 use Rattle.pq_model.specs.Topology.{Switch, Topology, ports_in}
 use Rattle.pq_model.specs.TablesMachine.{Row}
-use Rattle.pq_model.specs.Install.{Install, IsLawfulInstall, IsLawfulRow, IsLawfulSwitch, IsLawfulTopology, IsOldInstall, IsSpelled, IsSpelledOld, install_bytes, port_count, switch_bytes}
+use Rattle.pq_model.specs.Install.{Install, IsLawfulInstall, IsLawfulRow, IsLawfulSwitch, IsLawfulTopology, IsOldInstall, IsSpelled}
+use Rattle.pq_model.specs.Install.{IsSpelledOld, install_bytes, port_count, switch_bytes}
 use Rattle.pq_install.specs.declared.version.Version.TheVariants.{Old, New}
 use Rattle.pq_install.specs.Damage.{IsDamagedAt, IsReadReport, IsReadTopology}
 use Rattle.pq_install.specs.Reading.{IsInstallAtFront, IsReadIn}
@@ -39,7 +40,12 @@ same_numbers (s ∷ ss) = ap (λ (rest : List ℕ). s.datapath ∷ rest) (same_n
 
 same_count : (ss : List Switch) → port_count (all_as_read ss) ≡ port_count ss
 same_count [] = refl
-same_count (s ∷ ss) = omega (arith, same_count ss, sum_by-cons (λ (t : Switch). length t.ports) s ss, sum_by-cons (λ (t : Switch). length t.ports) (as_read s) (all_as_read ss))
+same_count (s ∷ ss) = omega (
+  arith,
+  same_count ss,
+  sum_by-cons (λ (t : Switch). length t.ports) s ss,
+  sum_by-cons (λ (t : Switch). length t.ports) (as_read s) (all_as_read ss),
+)
 
 each_read : (ss : List Switch) → All IsLawfulSwitch ss → port_count ss ≤ 4096 → All IsReadSwitch (all_as_read ss)
 each_read [] lawful few = λ k s below. absurd (omega (arith, below))
@@ -66,7 +72,8 @@ row_tag row = row.tag
 
 tags_below : (queries : ℕ) (rows : List Row) → All (IsLawfulRow queries) rows → All (λ y. y ≤ 4094) (map (λ row. row.tag) rows)
 tags_below queries [] each = λ k y below. absurd (omega (arith, below))
-tags_below queries (row ∷ rows) each = All-cons (λ y. y ≤ 4094) row.tag (map (λ r. r.tag) rows) (each 0 row (omega arith)).1 (tags_below queries rows (All-tail (IsLawfulRow queries) row rows each))
+tags_below queries (row ∷ rows) each = All-cons (λ y. y ≤ 4094) row.tag (map (λ r. r.tag) rows) (each 0 row (omega arith)).1
+    (tags_below queries rows (All-tail (IsLawfulRow queries) row rows each))
 
 topology_as_read : (t : Topology) → IsLawfulTopology t → IsReadTopology (record { switches = all_as_read t.switches; links = t.links })
 topology_as_read t lawful = record {
@@ -78,7 +85,11 @@ topology_as_read t lawful = record {
     few_ports = rw (same_count t.switches) lawful.few_ports;
   };
   links = record {
-    each = λ k l below. let link = lawful.links k l below in (rw (same_ports t.switches (get_or t.links k l).first.0) link.0, rw (same_ports t.switches (get_or t.links k l).second.0) link.1, link.2);
+    each = λ k l below. let link = lawful.links k l below in (
+      rw (same_ports t.switches (get_or t.links k l).first.0) link.0,
+      rw (same_ports t.switches (get_or t.links k l).second.0) link.1,
+      link.2,
+    );
     linked_once = lawful.linked_once;
     ascending = lawful.links_ascend;
   };
@@ -117,14 +128,16 @@ old_as_read i lawful old = record {
 }
 
 -- an install that is spelled at the front is there as it is read
-pub spelled_at_front : (bytes : List ℕ) (i : Install) (rest : List ℕ) → IsLawfulInstall i → bytes ≡ install_bytes 0x32 i ++ rest → IsInstallAtFront bytes (install_as_read i) rest
+pub spelled_at_front : (bytes : List ℕ) (i : Install) (rest : List ℕ) → IsLawfulInstall i → bytes ≡ install_bytes 0x32 i ++ rest
+    → IsInstallAtFront bytes (install_as_read i) rest
 spelled_at_front bytes i rest lawful e = (
   New,
   new_as_read i lawful,
   e ∙ ap (λ (spelled : List ℕ). spelled ++ rest) (sym (new_parts (install_as_read i) ∙ same_spelling 0x32 i)),
 )
 
-pub spelled_old_at_front : (bytes : List ℕ) (i : Install) (rest : List ℕ) → IsLawfulInstall i → IsOldInstall i → bytes ≡ install_bytes 0x31 i ++ rest → IsInstallAtFront bytes (install_as_read i) rest
+pub spelled_old_at_front : (bytes : List ℕ) (i : Install) (rest : List ℕ) → IsLawfulInstall i → IsOldInstall i
+    → bytes ≡ install_bytes 0x31 i ++ rest → IsInstallAtFront bytes (install_as_read i) rest
 spelled_old_at_front bytes i rest lawful old e = (
   Old,
   old_as_read i lawful old,

@@ -14,21 +14,26 @@ use Rattle.pq_install.proofs.Chains.{chain_more, ascending_chain}
 use Rattle.pq_install.proofs.UnitLists.{all_more}
 
 -- the test on the queries of instances tells whether they are lawful
-pub lawful_pairs : (queries : ℕ) (pairs : List Instance) → All HasNumbers pairs → IsTrue (list_all (λ i. nat_lt i.query queries) pairs) ↔ All (IsLawfulPair queries) pairs
+pub lawful_pairs : (queries : ℕ) (pairs : List Instance) → All HasNumbers pairs
+    → IsTrue (list_all (λ i. nat_lt i.query queries) pairs) ↔ All (IsLawfulPair queries) pairs
 lawful_pairs queries [] fit = (λ e. λ k d below. absurd (omega (arith, below)), λ all. refl)
 lawful_pairs queries (i ∷ is) fit =
     let later = lawful_pairs queries is (All-tail HasNumbers i is fit) in
     let here = fit 0 i (omega arith) in (
-      λ e. let parts = and_parts (nat_lt i.query queries) (list_all (λ j. nat_lt j.query queries) is) e in All-cons (IsLawfulPair queries) i is (grind (arith, nat_tests, parts.0), here.1.0, here.1.1) (later.0 parts.1),
-      λ all. let first : nat_lt i.query queries ≡ true = grind (arith, nat_tests, (all 0 i (omega arith)).0) in rw (first, later.1 (All-tail (IsLawfulPair queries) i is all)) refl,
+      λ e. let parts = and_parts (nat_lt i.query queries) (list_all (λ j. nat_lt j.query queries) is) e in
+          All-cons (IsLawfulPair queries) i is (grind (arith, nat_tests, parts.0), here.1.0, here.1.1) (later.0 parts.1),
+      λ all. let first : nat_lt i.query queries ≡ true = grind (arith, nat_tests, (all 0 i (omega arith)).0) in
+          rw (first, later.1 (All-tail (IsLawfulPair queries) i is all)) refl,
     )
 
 -- a lawful row has numbers that fit their places
 pub lawful_has_pairs : (queries : ℕ) → queries ≤ 256 → (row : Row) → IsLawfulRow queries row → HasPairs row
-lawful_has_pairs queries few row lawful = (omega (arith, lawful.1), (lawful.3, λ k i below. let pair = lawful.4 k i below in (omega (arith, pair.0, few), (pair.1, pair.2))))
+lawful_has_pairs queries few row lawful =
+    (omega (arith, lawful.1), (lawful.3, λ k i below. let pair = lawful.4 k i below in (omega (arith, pair.0, few), (pair.1, pair.2))))
 
 -- a lawful row above the last
-pub row_follows : (queries : ℕ) (before : List Row) (row : Row) → AreReadRows queries before → IsLawfulRow queries row × AtLast (λ r. r.tag < row.tag) before ↔ AreReadRows queries (before ++ row ∷ [])
+pub row_follows : (queries : ℕ) (before : List Row) (row : Row) → AreReadRows queries before
+    → IsLawfulRow queries row × AtLast (λ r. r.tag < row.tag) before ↔ AreReadRows queries (before ++ row ∷ [])
 row_follows queries before row are =
     let above = λ (r s : Row). r.tag < s.tag in
     let chain = chain_more above before row in

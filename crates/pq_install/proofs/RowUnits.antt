@@ -19,7 +19,8 @@ instance_of p = record { query = p.0; label = p.1 }
 -- two instances at one front are the same
 pub unique_instance : Unique HasNumbers pair_bytes
 unique_instance i j a b fi fj e =
-    let same = unique_pair IsU16 (to_be_bytes w16) unique_u16 (AreFew IsU32 IsU64) (counted_by w32 (to_be_bytes w64)) unique_values (i.query, i.label) (j.query, j.label) a b fi fj e in
+    let same = unique_pair IsU16 (to_be_bytes w16) unique_u16 (AreFew IsU32 IsU64) (counted_by w32 (to_be_bytes w64)) unique_values
+    (i.query, i.label) (j.query, j.label) a b fi fj e in
     (ap instance_of same.0, same.1)
 
 unique_pairs : Unique (AreFew IsU16 HasNumbers) (counted_by w16 pair_bytes)
@@ -31,5 +32,6 @@ row_of p = record { tag = p.0; pairs = p.1 }
 -- two rows at one front are the same
 pub unique_row : Unique HasPairs row_bytes
 unique_row r s a b fr fs e =
-    let same = unique_pair IsU16 (to_be_bytes w16) unique_u16 (AreFew IsU16 HasNumbers) (counted_by w16 pair_bytes) unique_pairs (r.tag, r.pairs) (s.tag, s.pairs) a b fr fs e in
+    let same = unique_pair IsU16 (to_be_bytes w16) unique_u16 (AreFew IsU16 HasNumbers) (counted_by w16 pair_bytes) unique_pairs
+    (r.tag, r.pairs) (s.tag, s.pairs) a b fr fs e in
     (ap row_of same.0, same.1)

@@ -10,13 +10,15 @@ use Rattle.pq_install.proofs.Chains.{chain_more, ascending_chain}
 use Rattle.pq_install.proofs.UnitLists.{all_more}
 
 -- a switch above the last, whose ports are not too many with those of the others
-pub follows : (before : List Switch) (s : Switch) → AreReadSwitches before → IsReadSwitch s → AtLast (λ t. t.datapath < s.datapath) before × (port_count before + length s.ports ≤ 4096) ↔ AreReadSwitches (before ++ s ∷ [])
+pub follows : (before : List Switch) (s : Switch) → AreReadSwitches before → IsReadSwitch s
+    → AtLast (λ t. t.datapath < s.datapath) before × (port_count before + length s.ports ≤ 4096) ↔ AreReadSwitches (before ++ s ∷ [])
 follows before s are fit =
     let above = λ (t u : Switch). t.datapath < u.datapath in
     let chain = chain_more above before s in
     let up = ascending_chain (λ (t : Switch). t.datapath) in
     let each = all_more IsReadSwitch before s in
-    let sum : port_count (before ++ s ∷ []) ≡ port_count before + length s.ports = grind (arith, sum_by-append (λ (t : Switch). length t.ports) before (s ∷ [])) in (
+    let sum : port_count (before ++ s ∷ []) ≡ port_count before + length s.ports =
+    grind (arith, sum_by-append (λ (t : Switch). length t.ports) before (s ∷ [])) in (
       λ may. record {
         each = each.1 (are.each, fit);
         ascending = (up (before ++ s ∷ [])).1 (chain.1 ((up before).0 are.ascending, may.0));

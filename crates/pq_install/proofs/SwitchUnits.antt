@@ -35,8 +35,11 @@ are_parts s fit = (fit.0.0, (omega (arith, fit.1), λ k d below. omega (arith, (
 no_parts : (bytes : List ℕ) → NoneAtFront AreParts parts_bytes bytes → NoneAtFront IsReadSwitch switch_bytes bytes
 no_parts bytes none s rest fit e = none (parts_of s) rest (are_parts s fit) e
 
-pub no_ports : (bytes : List ℕ) (datapath : ℕ) (after : List ℕ) → IsAtFront IsU64 (to_be_bytes w64) bytes datapath after → NoneAtFront (AreFew IsU16 IsU32) (counted_by w16 (to_be_bytes w32)) after → NoneAtFront IsReadSwitch switch_bytes bytes
-no_ports bytes datapath after front none = no_parts bytes (no_second IsU64 (to_be_bytes w64) unique_u64 (AreFew IsU16 IsU32) (counted_by w16 (to_be_bytes w32)) bytes datapath after front none)
+pub no_ports : (bytes : List ℕ) (datapath : ℕ) (after : List ℕ) → IsAtFront IsU64 (to_be_bytes w64) bytes datapath after
+    → NoneAtFront (AreFew IsU16 IsU32) (counted_by w16 (to_be_bytes w32)) after → NoneAtFront IsReadSwitch switch_bytes bytes
+no_ports bytes datapath after front none =
+    no_parts bytes (no_second IsU64 (to_be_bytes w64) unique_u64 (AreFew IsU16 IsU32)
+    (counted_by w16 (to_be_bytes w32)) bytes datapath after front none)
 
 -- the switch that is read from parts
 abbrev pub read_of : Parts → Switch
@@ -54,7 +57,10 @@ unique_switch s t a b fs ft e =
     (sym (read_again s fs) ∙ (ap read_of same.0 ∙ read_again t ft), same.1)
 
 -- no switch where the ports may not be those of a switch
-pub bad_ports : (bytes : List ℕ) (datapath : ℕ) (after : List ℕ) (ports rest : List ℕ) → IsAtFront IsU64 (to_be_bytes w64) bytes datapath after → IsAtFront (AreFew IsU16 IsU32) (counted_by w16 (to_be_bytes w32)) after ports rest → (ArePorts ports → ⊥) → NoneAtFront IsReadSwitch switch_bytes bytes
+pub bad_ports : (bytes : List ℕ) (datapath : ℕ) (after : List ℕ) (ports rest : List ℕ)
+    → IsAtFront IsU64 (to_be_bytes w64) bytes datapath after
+    → IsAtFront (AreFew IsU16 IsU32) (counted_by w16 (to_be_bytes w32)) after ports rest → (ArePorts ports → ⊥)
+    → NoneAtFront IsReadSwitch switch_bytes bytes
 bad_ports bytes datapath after ports rest front behind bad s more fit e =
     let first = unique_u64 datapath s.datapath after (counted_by w16 (to_be_bytes w32) s.ports ++ more) front.0 fit.0.0 (sym front.1 ∙ e) in
     let second = unique_ports ports s.ports rest more behind.0 (are_parts s fit).1 (sym behind.1 ∙ first.1) in

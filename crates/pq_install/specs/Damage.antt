@@ -45,15 +45,18 @@ IsReadList v ms = IsU32 (length ms) × All (IsReadMessage v) ms
 
 -- the count of the messages to a switch fails, or one of them
 abbrev pub ListFailsAt : Version → List ℕ → ℕ → Type 0
-ListFailsAt v = FailsOrAfter (UnitFails IsU32 (to_be_bytes w32)) (IsAtFront IsU32 (to_be_bytes w32)) (λ count. ListFails (All (IsReadMessage v)) message_bytes count)
+ListFailsAt v = FailsOrAfter (UnitFails IsU32 (to_be_bytes w32)) (IsAtFront IsU32 (to_be_bytes w32))
+    (λ count. ListFails (All (IsReadMessage v)) message_bytes count)
 
 -- the messages to some of so many switches are read, and those to the next fail
 abbrev pub ListsFail : Version → ℕ → List ℕ → ℕ → Type 0
-ListsFail v count bytes left = (lists : List (List Message)) × (rest : List ℕ) × (length lists < count) × IsAtFront (All (IsReadList v)) (flat_map list_bytes) bytes lists rest × ListFailsAt v rest left
+ListsFail v count bytes left = (lists : List (List Message)) × (rest : List ℕ) × (length lists < count) × IsAtFront (All (IsReadList v))
+    (flat_map list_bytes) bytes lists rest × ListFailsAt v rest left
 
 -- the switches fail, or the links
 abbrev pub TopologyFails : List ℕ → ℕ → Type 0
-TopologyFails = FailsOrAfter (CountedFails 256 AreReadSwitches switch_bytes) (IsSection 256 AreReadSwitches switch_bytes) (λ ss. CountedFails 65535 (AreReadLinks ss) link_bytes)
+TopologyFails = FailsOrAfter (CountedFails 256 AreReadSwitches switch_bytes) (IsSection 256 AreReadSwitches switch_bytes)
+    (λ ss. CountedFails 65535 (AreReadLinks ss) link_bytes)
 
 -- the switches and the links
 pub record IsReadTopology (t : Topology) : Type 0 where
@@ -67,7 +70,8 @@ topology_bytes t = counted_by w16 switch_bytes t.switches ++ counted_by w16 link
 
 -- the names fail, or the rows of the report
 abbrev pub ReportFails : List ℕ → ℕ → Type 0
-ReportFails = FailsOrAfter (CountedFails 256 AreReadNames name_bytes) (IsSection 256 AreReadNames name_bytes) (λ names. CountedFails 4094 (AreReadRows (length names)) row_bytes)
+ReportFails = FailsOrAfter (CountedFails 256 AreReadNames name_bytes) (IsSection 256 AreReadNames name_bytes)
+    (λ names. CountedFails 4094 (AreReadRows (length names)) row_bytes)
 
 -- the names of the queries, and the report on them
 abbrev pub Reporting : Type 0

@@ -12,7 +12,8 @@ UnitFails P spell bytes left = (left ≡ length bytes) × NoneAtFront P spell by
 
 -- of so many units some stand at the front that together keep the rules, and no further one does
 abbrev pub ListFails : {X : Type 0} → (List X → Type 0) → (X → List ℕ) → ℕ → List ℕ → ℕ → Type 0
-ListFails {X} Rules spell count bytes left = (xs : List X) × (rest : List ℕ) × (length xs < count) × IsAtFront Rules (flat_map spell) bytes xs rest × UnitFails (λ x. Rules (xs ++ x ∷ [])) spell rest left
+ListFails {X} Rules spell count bytes left = (xs : List X) × (rest : List ℕ) × (length xs < count)
+    × IsAtFront Rules (flat_map spell) bytes xs rest × UnitFails (λ x. Rules (xs ++ x ∷ [])) spell rest left
 
 -- at most so many units that together keep the rules are at the front, behind their count
 abbrev pub IsSection : {X : Type 0} → ℕ → (List X → Type 0) → (X → List ℕ) → List ℕ → List X → List ℕ → Type 0
@@ -20,7 +21,9 @@ IsSection most Rules spell bytes xs rest = IsAtFront (λ ys. (length ys ≤ most
 
 -- the count fails, or one of the units
 abbrev pub CountedFails : {X : Type 0} → ℕ → (List X → Type 0) → (X → List ℕ) → List ℕ → ℕ → Type 0
-CountedFails most Rules spell bytes left = UnitFails (λ n. n ≤ most) (to_be_bytes w16) bytes left ⊎ ((count : ℕ) × (rest : List ℕ) × IsAtFront (λ n. n ≤ most) (to_be_bytes w16) bytes count rest × ListFails Rules spell count rest left)
+CountedFails most Rules spell bytes left =
+    UnitFails (λ n. n ≤ most) (to_be_bytes w16) bytes left ⊎
+    ((count : ℕ) × (rest : List ℕ) × IsAtFront (λ n. n ≤ most) (to_be_bytes w16) bytes count rest × ListFails Rules spell count rest left)
 
 -- what a fault tells is true of it; want of memory has no cause
 abbrev pub Tells : (ℕ → Type 0) → Fault → Type 0

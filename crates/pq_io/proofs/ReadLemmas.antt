@@ -1,5 +1,6 @@
 -- What a read from a list of bytes gives and takes.
-use Rattle.std.proofs.Common.{◌≡◌, ℕ, ◌<◌, min, List, [], ◌++◌, length, take, drop, sym, ap, ◌∙◌, arith, take_at, length-take-le, take-append-drop, drop_of_length-le}
+use Rattle.std.proofs.Common.{◌≡◌, ℕ, ◌<◌, min, List, [], ◌++◌, length, take, drop, sym, ap, ◌∙◌, arith, take_at, length-take-le}
+use Rattle.std.proofs.Common.{take-append-drop, drop_of_length-le}
 
 -- n bytes, as many as are left, fit and may come at once, come from the front of what is left, and there is none only at the end or without room
 pub front_is_read : (left into : List ℕ) (n most : ℕ) → 0 < most → n ≡ min (min (length left) (length into)) most

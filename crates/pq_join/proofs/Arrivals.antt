@@ -63,9 +63,13 @@ pub arrive_told : (a : LettersValue) (m : Machine) (t : ℕ) (y : Numbers) → l
 arrive_told a m t y below =
     let next = next_told m (t - 1) (letter_number a y) below in
     (λ i. record { tag = suc (next i); capture = captures_at m (next i) })
-    ∙ (λ i. record { tag = suc (get_or (get_or m.rows (t - 1) []) (letter_number a y) 0); capture = captures_told m (get_or (get_or m.rows (t - 1) []) (letter_number a y) 0) i })
+    ∙ (λ i. record {
+      tag = suc (get_or (get_or m.rows (t - 1) []) (letter_number a y) 0);
+      capture = captures_told m (get_or (get_or m.rows (t - 1) []) (letter_number a y) 0) i;
+    })
 
-module _ (T : Topology) (a : LettersValue) (m : Machine) (d : ℕ) (lawful : IsLawfulTopology T) (lettered : IsLettered a) (same : m.letters ≡ length a.least) (fits : d < 2 ^ 64) where
+module _ (T : Topology) (a : LettersValue) (m : Machine) (d : ℕ) (lawful : IsLawfulTopology T) (lettered : IsLettered a)
+    (same : m.letters ≡ length a.least) (fits : d < 2 ^ 64) where
   -- what is made of what is seen of a packet is its arrival
   pub arrival_told : (k : Key) (x : Numbers) → Fit x → arrival_of m k (seen_of T a d x) ≡ arrival T (tagging_of a m) k (at_switch d x)
   arrival_told Plain x fit =

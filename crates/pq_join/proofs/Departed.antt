@@ -1,5 +1,6 @@
 -- The departures of packets by writes: of one, of several, and of those at the leaves of a tree.
-use Rattle.std.proofs.Common.{ℕ, ◌<◌, ◌≡◌, ◌∙◌, ◌⊎◌, Bool, true, false, List, [], ◌∷◌, ◌++◌, length, Some, if◌then◌else◌, inl, inr, refl, sym, ap, subst, append-nil, ◌==◌, eqb-true}
+use Rattle.std.proofs.Common.{ℕ, ◌<◌, ◌≡◌, ◌∙◌, ◌⊎◌, Bool, true, false, List, [], ◌∷◌, ◌++◌, length, Some, if◌then◌else◌, inl, inr, refl}
+use Rattle.std.proofs.Common.{sym, ap, subst, append-nil, ◌==◌, eqb-true}
 use Rattle.std.specs.Prelude.{slice_get}
 use Rattle.std.proofs.lemmas.Option.{slice_get_within}
 use Rattle.std.proofs.lemmas.List.Concat.{flat_map-append}
@@ -32,7 +33,8 @@ use Rattle.pq_join.specs.Overwriting.{OverwritesAt}
 use Rattle.pq_join.specs.Departing.{AppendsAt, DepartsAt, DepartsFromAt, IsDeparting, departures_by, departures_of}
 
 -- departures stay while both stores grow
-pub departs_still : (u : Tree (List Written)) (ts us : List (Tree Seen)) (root : ℕ) (old new : List (Tree (List Departure))) (id : ℕ) → Keeps ts us → Keeps old new
+pub departs_still : (u : Tree (List Written)) (ts us : List (Tree Seen)) (root : ℕ) (old new : List (Tree (List Departure))) (id : ℕ)
+    → Keeps ts us → Keeps old new
     → DepartsAt u ts root old id → DepartsAt u us root new id
 departs_still u ts us root old new id keeps more departs = record {
   seen = departs.seen;
@@ -43,7 +45,8 @@ departs_still u ts us root old new id keeps more departs = record {
 }
 
 -- their tree is in the store
-pub departs_within : (u : Tree (List Written)) (ts : List (Tree Seen)) (root : ℕ) (into : List (Tree (List Departure))) (id : ℕ) → DepartsAt u ts root into id → id < length into
+pub departs_within : (u : Tree (List Written)) (ts : List (Tree Seen)) (root : ℕ) (into : List (Tree (List Departure))) (id : ℕ)
+    → DepartsAt u ts root into id → id < length into
 departs_within u ts root into id departs = slice_get_within into id departs.made departs.made_is
 
 -- what is required of the sight stays
@@ -63,7 +66,8 @@ written_within w ts us root k within overwrites =
     slice_get_within us k made.0 made.1
 
 -- the sight of the packet written fits alone
-pub written_fits : (w : Written) (ts us : List (Tree Seen)) (root k : ℕ) → root < length ts → FitsAloneAt ts root → OverwritesAt w ts root us k → FitsAloneAt us k
+pub written_fits : (w : Written) (ts us : List (Tree Seen)) (root k : ℕ) → root < length ts → FitsAloneAt ts root
+    → OverwritesAt w ts root us k → FitsAloneAt us k
 written_fits w ts us root k within fits overwrites t is =
     let whole = at_place ts root within in
     let made = overwrites whole.0 whole.1 in
@@ -72,8 +76,10 @@ written_fits w ts us root k within fits overwrites t is =
     subst (λ u. HasRoom (λ ns. Within ns u)) same (room_for (λ ns inside f v tested. inside f v (made.2.tests (Equal f v) tested)) (fits whole.0 whole.1))
 
 -- and where each of its leaves becomes the departure, the diagram is that of the departure
-pub written_departs : (w : Written) (ts us : List (Tree Seen)) (root k : ℕ) (into : List (Tree (List Departure))) (id : ℕ) (R : Seen → Bool → List Departure → Type 0)
-    → ((s : Seen) (b : Bool) (ds : List Departure) → R s b ds → ds ≡ departures_by w s) → root < length ts → Keeps ts us → OverwritesAt w ts root us k → MapsAt R us k into id
+pub written_departs : (w : Written) (ts us : List (Tree Seen)) (root k : ℕ) (into : List (Tree (List Departure))) (id : ℕ) (R : Seen → Bool
+    → List Departure → Type 0)
+    → ((s : Seen) (b : Bool) (ds : List Departure) → R s b ds → ds ≡ departures_by w s) → root < length ts → Keeps ts us
+    → OverwritesAt w ts root us k → MapsAt R us k into id
     → DepartsAt (Tip (w ∷ [])) us root into id
 written_departs w ts us root k into id R tells within keeps overwrites maps =
     let whole = at_place ts root within in
@@ -85,7 +91,8 @@ written_departs w ts us root k into id R tells within keeps overwrites maps =
       seen_is = keeps root whole.0 whole.1;
       made_is = mapped.1;
       departs = record {
-        gives = λ x. tells (value moved.0 x) true (value mapped.0 x) (mapped.2.gives x) ∙ (ap (departures_by w) (moved.2.gives x) ∙ sym (append-nil (departures_by w _)));
+        gives = λ x. tells (value moved.0 x) true (value mapped.0 x) (mapped.2.gives x)
+            ∙ (ap (departures_by w) (moved.2.gives x) ∙ sym (append-nil (departures_by w _)));
         tests = λ s tested. inl (moved.2.tests s (mapped.2.tests s tested));
       };
     }
@@ -94,13 +101,15 @@ written_departs w ts us root k into id R tells within keeps overwrites maps =
 abbrev pub Knows : {S : Type 0} → List (Tree Seen) → ℕ → List (Tree (List Departure)) → IndexMap Written ℕ S → Type 0
 Knows ts root into made = Remembers writes_eq (λ key id. DepartsAt (Tip (key ∷ [])) ts root into id) made
 
-pub knows_still : {S : Type 0} (ts us : List (Tree Seen)) (root : ℕ) (old new : List (Tree (List Departure))) (made : IndexMap Written ℕ S) → Keeps ts us → Keeps old new
+pub knows_still : {S : Type 0} (ts us : List (Tree Seen)) (root : ℕ) (old new : List (Tree (List Departure))) (made : IndexMap Written ℕ S)
+    → Keeps ts us → Keeps old new
     → Knows ts root old made → Knows us root new made
 knows_still ts us root old new made keeps more knows =
     remembers_still writes_eq (λ key id. DepartsAt (Tip (key ∷ [])) ts root old id) (λ key id. DepartsAt (Tip (key ∷ [])) us root new id) made
     (λ key id departs. departs_still (Tip (key ∷ [])) ts us root old new id keeps more departs) knows
 
-pub knows_more : {S : Type 0} (w : Written) (ts us : List (Tree Seen)) (root : ℕ) (old new : List (Tree (List Departure))) (id : ℕ) (made more : IndexMap Written ℕ S) → Keeps ts us → Keeps old new
+pub knows_more : {S : Type 0} (w : Written) (ts us : List (Tree Seen)) (root : ℕ) (old new : List (Tree (List Departure))) (id : ℕ)
+    (made more : IndexMap Written ℕ S) → Keeps ts us → Keeps old new
     → Knows ts root old made → DepartsAt (Tip (w ∷ [])) us root new id → Updates writes_eq made more w (Some id) → Knows us root new more
 knows_more w ts us root old new id made more keeps grows knows departs updates =
     remembers_more writes_eq (λ key id. DepartsAt (Tip (key ∷ [])) us root new id) made more w id (λ v u equal. (same_writes v u).0 equal)
@@ -108,7 +117,8 @@ knows_more w ts us root old new id made more keeps grows knows departs updates =
 
 -- The departures by several.
 
-pub none_depart : (ts : List (Tree Seen)) (root : ℕ) (into : List (Tree (List Departure))) (id : ℕ) → root < length ts → slice_get into id ≡ Some (Tip []) → DepartsAt (Tip []) ts root into id
+pub none_depart : (ts : List (Tree Seen)) (root : ℕ) (into : List (Tree (List Departure))) (id : ℕ) → root < length ts
+    → slice_get into id ≡ Some (Tip []) → DepartsAt (Tip []) ts root into id
 none_depart ts root into id within leaf =
     let whole = at_place ts root within in
     record {
@@ -134,7 +144,8 @@ both_fit v w ts root into x y fits left right t u t_is u_is =
     let right_departs = right.departs in
     room_for (λ ns inside. (
       subst (Within ns) t_same (within_both ns left.seen (Tip v) left.made left_departs.tests inside (λ f n tested. absurd tested)),
-      subst (Within ns) u_same (within_both ns right.seen (Tip w) right.made right_departs.tests (subst (Within ns) (sym seen_same) inside) (λ f n tested. absurd tested)),
+      subst (Within ns) u_same (within_both ns right.seen (Tip w) right.made right_departs.tests (subst (Within ns) (sym seen_same) inside)
+          (λ f n tested. absurd tested)),
     )) (fits left.seen left.seen_is)
 
 -- one after another they are those of both
@@ -174,7 +185,8 @@ product_appends R tells old new x y id product t u t_is u_is = (
 -- Those at the leaves of a tree.
 
 -- the sight fits alone where it fits with the tree
-pub sight_alone : (ts : List (Tree Seen)) (root : ℕ) (us : List (Tree (List Written))) (node : ℕ) → node < length us → FitTogetherAt ts root us node → FitsAloneAt ts root
+pub sight_alone : (ts : List (Tree Seen)) (root : ℕ) (us : List (Tree (List Written))) (node : ℕ) → node < length us
+    → FitTogetherAt ts root us node → FitsAloneAt ts root
 sight_alone ts root us node within fits t is = let u = at_place us node within in room_for (λ ns both. both.0) (fits t u.0 is u.1)
 
 module _ (us : List (Tree (List Written))) (node i j : ℕ) (s : Test) (shows : ShowsBranch us node s i j) where
@@ -183,15 +195,18 @@ module _ (us : List (Tree (List Written))) (node i j : ℕ) (s : Test) (shows : 
   yes_fits ts ts2 root keeps within fits t u t_is u_is =
       let yes = shows.yes_is in
       let same : shows.yes_tree ≡ u = cc in
-      room_for (λ ns both. (both.0, subst (Within ns) same (λ f v tested. both.1 f v (inr (inl tested))))) (fits t _ (tree_before ts ts2 root t keeps within t_is) shows.is)
+      room_for (λ ns both. (both.0, subst (Within ns) same (λ f v tested. both.1 f v (inr (inl tested)))))
+      (fits t _ (tree_before ts ts2 root t keeps within t_is) shows.is)
 
   pub no_fits : (ts ts2 : List (Tree Seen)) (root : ℕ) → Keeps ts ts2 → root < length ts → FitTogetherAt ts root us node → FitTogetherAt ts2 root us j
   no_fits ts ts2 root keeps within fits t u t_is u_is =
       let no = shows.no_is in
       let same : shows.no_tree ≡ u = cc in
-      room_for (λ ns both. (both.0, subst (Within ns) same (λ f v tested. both.1 f v (inr (inr tested))))) (fits t _ (tree_before ts ts2 root t keeps within t_is) shows.is)
+      room_for (λ ns both. (both.0, subst (Within ns) same (λ f v tested. both.1 f v (inr (inr tested)))))
+      (fits t _ (tree_before ts ts2 root t keeps within t_is) shows.is)
 
-  module _ (ts old : List (Tree Seen)) (root : ℕ) (into : List (Tree (List Departure))) (a b : ℕ) (left : DepartsFromAt us i ts root into a) (right : DepartsFromAt us j ts root into b) where
+  module _ (ts old : List (Tree Seen)) (root : ℕ) (into : List (Tree (List Departure))) (a b : ℕ) (left : DepartsFromAt us i ts root into a)
+      (right : DepartsFromAt us j ts root into b) where
     yes_departs : DepartsAt shows.yes_tree ts root into a
     yes_departs = left shows.yes_tree shows.yes_is
 
@@ -225,8 +240,10 @@ module _ (us : List (Tree (List Written))) (node i j : ℕ) (s : Test) (shows : 
         let seen_is = tree_before old ts root (yes_departs).seen keeps within (yes_departs).seen_is in
         room_for (λ ns both. (
           test_within ns s shows.yes_tree shows.no_tree both.1,
-          subst (Within ns) y_same (within_both ns (yes_departs).seen shows.yes_tree (yes_departs).made yes_departing.tests both.0 (λ f v tested. both.1 f v (inr (inl tested)))),
-          subst (Within ns) n_same (within_both ns (yes_departs).seen shows.no_tree (no_departs).made (no_departing).tests both.0 (λ f v tested. both.1 f v (inr (inr tested)))),
+          subst (Within ns) y_same (within_both ns (yes_departs).seen shows.yes_tree (yes_departs).made yes_departing.tests both.0
+              (λ f v tested. both.1 f v (inr (inl tested)))),
+          subst (Within ns) n_same (within_both ns (yes_departs).seen shows.no_tree (no_departs).made (no_departing).tests both.0
+              (λ f v tested. both.1 f v (inr (inr tested)))),
         )) (fits (yes_departs).seen _ seen_is shows.is)
 
     -- and the choice by the test has those of the fork
@@ -254,7 +271,8 @@ module _ (us : List (Tree (List Written))) (node i j : ℕ) (s : Test) (shows : 
         ]
 
 -- the tree at a leaf is that of its writes
-pub leaf_departs : (us : List (Tree (List Written))) (node : ℕ) (ws : List Written) (ts : List (Tree Seen)) (root : ℕ) (into : List (Tree (List Departure))) (id : ℕ)
+pub leaf_departs : (us : List (Tree (List Written))) (node : ℕ) (ws : List Written) (ts : List (Tree Seen)) (root : ℕ)
+    (into : List (Tree (List Departure))) (id : ℕ)
     → slice_get us node ≡ Some (Tip ws) → DepartsAt (Tip ws) ts root into id → DepartsFromAt us node ts root into id
 leaf_departs us node ws ts root into id is departs u u_is = let same : Tip ws ≡ u = cc in subst (λ w. DepartsAt w ts root into id) same departs
 
@@ -262,12 +280,15 @@ leaf_departs us node ws ts root into id is departs u u_is = let same : Tip ws �
 abbrev pub KnowsFrom : {S : Type 0} → List (Tree (List Written)) → List (Tree Seen) → ℕ → List (Tree (List Departure)) → IndexMap ℕ ℕ S → Type 0
 KnowsFrom us ts root into done = Remembers (λ x y. x == y) (λ key id. DepartsFromAt us key ts root into id) done
 
-pub from_still : (us : List (Tree (List Written))) (ts ts2 : List (Tree Seen)) (root : ℕ) (old new : List (Tree (List Departure))) (k id : ℕ) → Keeps ts ts2 → Keeps old new
+pub from_still : (us : List (Tree (List Written))) (ts ts2 : List (Tree Seen)) (root : ℕ) (old new : List (Tree (List Departure)))
+    (k id : ℕ) → Keeps ts ts2 → Keeps old new
     → DepartsFromAt us k ts root old id → DepartsFromAt us k ts2 root new id
 from_still us ts ts2 root old new k id keeps more departs u u_is = departs_still u ts ts2 root old new id keeps more (departs u u_is)
 
-pub from_more : {S : Type 0} (us : List (Tree (List Written))) (ts ts2 : List (Tree Seen)) (root : ℕ) (old new : List (Tree (List Departure))) (k id : ℕ) (done more : IndexMap ℕ ℕ S)
-    → Keeps ts ts2 → Keeps old new → KnowsFrom us ts root old done → DepartsFromAt us k ts2 root new id → Updates (λ x y. x == y) done more k (Some id) → KnowsFrom us ts2 root new more
+pub from_more : {S : Type 0} (us : List (Tree (List Written))) (ts ts2 : List (Tree Seen)) (root : ℕ)
+    (old new : List (Tree (List Departure))) (k id : ℕ) (done more : IndexMap ℕ ℕ S)
+    → Keeps ts ts2 → Keeps old new → KnowsFrom us ts root old done → DepartsFromAt us k ts2 root new id
+    → Updates (λ x y. x == y) done more k (Some id) → KnowsFrom us ts2 root new more
 from_more us ts ts2 root old new k id done more keeps grows knows departs updates =
     remembers_more (λ x y. x == y) (λ key i. DepartsFromAt us key ts2 root new i) done more k id eqb-true
     (remembers_still (λ x y. x == y) (λ key i. DepartsFromAt us key ts root old i) (λ key i. DepartsFromAt us key ts2 root new i) done

@@ -19,8 +19,10 @@ use Rattle.pq_join.specs.Departing.{DepartsFromAt, IsDeparting}
 use Rattle.pq_join.specs.Drops.{DepartsOrDropsAt, DropsAt, or_drop}
 
 -- the product that puts a drop where there are no departures
-pub product_drops : (R : List Departure → Seen → List Departure → Type 0) → ((v : List Departure) (s : Seen) (ds : List Departure) → R v s ds → ds ≡ or_drop v s)
-    → (ts : List (Tree (List Departure))) (i : ℕ) (ss : List (Tree Seen)) (j : ℕ) (into : List (Tree (List Departure))) (id : ℕ) → IsProduct R ts i ss j into id → DropsAt ts i ss j into id
+pub product_drops : (R : List Departure → Seen → List Departure → Type 0)
+    → ((v : List Departure) (s : Seen) (ds : List Departure) → R v s ds → ds ≡ or_drop v s)
+    → (ts : List (Tree (List Departure))) (i : ℕ) (ss : List (Tree Seen)) (j : ℕ) (into : List (Tree (List Departure))) (id : ℕ)
+    → IsProduct R ts i ss j into id → DropsAt ts i ss j into id
 product_drops R tells ts i ss j into id product t s t_is s_is = (
   product.product,
   product.is,
@@ -30,7 +32,8 @@ product_drops R tells ts i ss j into id product t s t_is s_is = (
   },
 )
 
-module _ (us : List (Tree (List Written))) (node : ℕ) (ts ts2 : List (Tree Seen)) (root : ℕ) (into : List (Tree (List Departure))) (id k : ℕ) (keeps : Keeps ts ts2) (within : root < length ts)
+module _ (us : List (Tree (List Written))) (node : ℕ) (ts ts2 : List (Tree Seen)) (root : ℕ) (into : List (Tree (List Departure)))
+    (id k : ℕ) (keeps : Keeps ts ts2) (within : root < length ts)
     (inside : node < length us) (departs : DepartsFromAt us node ts2 root into id) (restricts : RestrictsAt Port 0 ts2 root ts2 k) where
   -- departures and the sight at port 0 fit together
   pub drops_fit : FitTogetherAt ts root us node → FitTogetherAt into id ts2 k

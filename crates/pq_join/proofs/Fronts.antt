@@ -77,7 +77,8 @@ module _ {L : Type 0} where
   -- Choices by a test.
 
   -- it may choose between two trees where the test may stand before them
-  pub test_fits : (s : Test) (cs : List (Tree Bool)) (k : ℕ) (ts : List (Tree L)) (i j : ℕ) → slice_get cs k ≡ Some (test_tree s) → FitByTestAt s ts i j → FitAsChoiceAt cs k ts i j
+  pub test_fits : (s : Test) (cs : List (Tree Bool)) (k : ℕ) (ts : List (Tree L)) (i j : ℕ) → slice_get cs k ≡ Some (test_tree s)
+      → FitByTestAt s ts i j → FitAsChoiceAt cs k ts i j
   test_fits s cs k ts i j test fits c y n c_is y_is n_is =
       let same : test_tree s ≡ c = cc in
       subst (λ d. HasRoom (λ ns. Within ns d × Within ns y × Within ns n)) same

@@ -1,5 +1,6 @@
 -- Trees of a switch test a field only below its prerequisites.
-use Rattle.std.proofs.Common.{ℕ, suc, ◌<◌, ◌^◌, ◌-◌, ◌≡◌, ◌∙◌, Bool, true, false, cond, List, ◌∷◌, [], ◌++◌, None, Some, get_or, if◌then◌else◌, refl, sym, ap, arith}
+use Rattle.std.proofs.Common.{ℕ, suc, ◌<◌, ◌^◌, ◌-◌, ◌≡◌, ◌∙◌, Bool, true, false, cond, List, ◌∷◌, [], ◌++◌, None, Some, get_or}
+use Rattle.std.proofs.Common.{if◌then◌else◌, refl, sym, ap, arith}
 use Rattle.std.specs.Prelude.{slice_get}
 use Rattle.std.specs.List.{All, filter, flat_map}
 use Rattle.std.specs.Option.{option_map, unwrap_or}
@@ -59,10 +60,12 @@ module _ (T : Topology) (a : LettersValue) (m : Machine) (lt : Tree ℕ) (lt_is 
   arrival_same (Tag t) y fit lacks =
       let own = apart f y lacks in
       let letter = letter_same y fit lacks in
-      λ i. if is_linked T (own.switch n y i) (own.port n y i) then Some (arrive (tagging_of a m) (suc (get_or (get_or m.rows (t - 1) []) (letter i) 0))) else None
+      λ i. if is_linked T (own.switch n y i) (own.port n y i) then Some
+      (arrive (tagging_of a m) (suc (get_or (get_or m.rows (t - 1) []) (letter i) 0))) else None
 
   -- nor do the copies of a departure
-  copies_same : (b : ℕ) (y : Numbers) (w : Written) → Fit y → has_field f y ≡ false → AllFit w → copies_by T (tagging_of a m) b (with_number f n y) w ≡ copies_by T (tagging_of a m) b y w
+  copies_same : (b : ℕ) (y : Numbers) (w : Written) → Fit y → has_field f y ≡ false → AllFit w
+      → copies_by T (tagging_of a m) b (with_number f n y) w ≡ copies_by T (tagging_of a m) b y w
   copies_same b y w fit lacks fits =
       let own = apart f y lacks in
       let past = on_lacking f n w y lacks in
@@ -70,7 +73,8 @@ module _ (T : Topology) (a : LettersValue) (m : Machine) (lt : Tree ℕ) (lt_is 
       let port : (on w (with_number f n y)).port ≡ (on w y).port = ap (λ z. z.port) past ∙ own.port n (on w y) in
       let letter : letter_number a (on w (with_number f n y)) ≡ letter_number a (on w y) =
       ap (letter_number a) past ∙ letter_same (on w y) (on_fits w y fits fit) (has_on f w y ∙ lacks) in
-      let tag : (tagging_of a m).after b (on w (with_number f n y)) ≡ (tagging_of a m).after b (on w y) = ap (λ l. suc (get_or (get_or m.rows (b - 1) []) l 0)) letter in
+      let tag : (tagging_of a m).after b (on w (with_number f n y)) ≡ (tagging_of a m).after b (on w y) =
+      ap (λ l. suc (get_or (get_or m.rows (b - 1) []) l 0)) letter in
       λ i. record { writes = w; tag = if is_linked T (switch i) (port i) then Some (tag i) else None; kind = Send } ∷ capture_of (tagging_of a m) w (tag i)
 
   -- nor which writes depart
@@ -80,7 +84,8 @@ module _ (T : Topology) (a : LettersValue) (m : Machine) (lt : Tree ℕ) (lt_is 
       λ i w. is_port T (own.switch n y i) ((ap (λ z. z.port) (on_lacking f n w y lacks) ∙ own.port n (on w y)) i)
 
   -- nor the copies of all
-  all_same : (b : ℕ) (y : Numbers) (ws : List Written) → Fit y → has_field f y ≡ false → All AllFit ws → copies_of T (tagging_of a m) b (with_number f n y) ws ≡ copies_of T (tagging_of a m) b y ws
+  all_same : (b : ℕ) (y : Numbers) (ws : List Written) → Fit y → has_field f y ≡ false → All AllFit ws
+      → copies_of T (tagging_of a m) b (with_number f n y) ws ≡ copies_of T (tagging_of a m) b y ws
   all_same b y [] fit lacks fits =
       let own = apart f y lacks in
       let zero_fit : Fit (record y { port = 0 }) = at_zero fit in
@@ -118,7 +123,8 @@ arriving_stand_below T a m d fits lt lt_is ignores k t tree f = prerequisites_fi
         let own = apart f x lacks in
         tree.gives (with_number f n x) (own.fit n x below fit)
         ∙ (ap (arrival T (tagging_of a m) k) (own.at_switch d n x)
-        ∙ (arrival_same T a m lt lt_is ignores f n below k (at_switch d x) (at_switch_fits d x fits fit) (has_at_switch f d x ∙ lacks) ∙ sym (tree.gives x fit)))
+        ∙ (arrival_same T a m lt lt_is ignores f n below k (at_switch d x) (at_switch_fits d x fits fit) (has_at_switch f d x ∙ lacks)
+        ∙ sym (tree.gives x fit)))
 
 -- and so does each in one of the second
 pub leaving_stand_below : LeavingStandBelow
@@ -136,5 +142,6 @@ leaving_stand_below T a m d fits lt lt_is ignores p idle_free others b t tree f 
         tree.gives (with_number f n x) (own.fit n x below fit)
         ∙ (ap (λ z. copies_of T (tagging_of a m) b z (departing T (value p) z)) (own.at_switch d n x)
         ∙ (ap (copies_of T (tagging_of a m) b (with_number f n y)) kept
-        ∙ (all_same T a m lt lt_is ignores f n below b y (filter (departs_by T y) (value p y)) y_fit y_lacks (all_filtered AllFit (departs_by T y) (value p y) given.fit)
+        ∙ (all_same T a m lt lt_is ignores f n below b y (filter (departs_by T y) (value p y)) y_fit y_lacks
+        (all_filtered AllFit (departs_by T y) (value p y) given.fit)
         ∙ sym (tree.gives x fit))))

@@ -1,5 +1,6 @@
 -- What the trees of the second table say.
-use Rattle.std.proofs.Common.{ℕ, suc, ◌<◌, ◌^◌, ◌-◌, ◌≡◌, ◌∙◌, Bool, true, false, cond, List, ◌∷◌, [], ◌++◌, length, map, None, Some, if◌then◌else◌, refl, ap, arith, append-nil}
+use Rattle.std.proofs.Common.{ℕ, suc, ◌<◌, ◌^◌, ◌-◌, ◌≡◌, ◌∙◌, Bool, true, false, cond, List, ◌∷◌, [], ◌++◌, length, map, None, Some}
+use Rattle.std.proofs.Common.{if◌then◌else◌, refl, ap, arith, append-nil}
 use Rattle.std.specs.Prelude.{slice_get}
 use Rattle.std.specs.List.{All, filter, flat_map}
 use Rattle.std.proofs.lemmas.List.Elements.{All-head, All-tail}
@@ -64,7 +65,8 @@ module _ (T : Topology) (a : LettersValue) (d : ℕ) (t : Tree Seen) (sight : Is
   all_depart [] = refl
   all_depart (w ∷ ws) = (λ i. one_departs w i ++ all_depart ws i) ∙ by (departs w)
     where
-      by : (b : Bool) → cond b (departing_by w ∷ []) [] ++ map (departing_by) (filter (departs) ws) ≡ map (departing_by) (cond b (w ∷ filter (departs) ws) (filter (departs) ws))
+      by : (b : Bool) → cond b (departing_by w ∷ []) [] ++ map (departing_by) (filter (departs) ws)
+          ≡ map (departing_by) (cond b (w ∷ filter (departs) ws) (filter (departs) ws))
       by true = refl
       by false = refl
 
@@ -74,7 +76,8 @@ module _ (T : Topology) (a : LettersValue) (d : ℕ) (t : Tree Seen) (sight : Is
 captured_told : (a : LettersValue) (m : Machine) (dep : Departure) (c : ℕ) → captured_by m dep c ≡ capture_of (tagging_of a m) dep.writes (suc c)
 captured_told a m dep c = ap (λ b. if b then record { writes = dep.writes; tag = Some (suc c); kind = CaptureOut } ∷ [] else []) (captures_told m c)
 
-module _ (T : Topology) (a : LettersValue) (m : Machine) (d : ℕ) (lettered : IsLettered a) (same : m.letters ≡ length a.least) (fits : d < 2 ^ 64) (x : Numbers) (fit : Fit x) (t : ℕ) where
+module _ (T : Topology) (a : LettersValue) (m : Machine) (d : ℕ) (lettered : IsLettered a) (same : m.letters ≡ length a.least)
+    (fits : d < 2 ^ 64) (x : Numbers) (fit : Fit x) (t : ℕ) where
   -- the packet at the switch
   abbrev here : Numbers
   here = at_switch d x
@@ -98,7 +101,8 @@ module _ (T : Topology) (a : LettersValue) (m : Machine) (d : ℕ) (lettered : I
       let next = next_here (on w (here)) y_fit in
       let letter : letter_number a (at_switch d (put w x)) ≡ letter_number a (on w (here)) = ap (letter_number a) written in
       ap (λ l. sent_at (port_kind T d (put w x).port) w (suc (next_class m (t - 1) l)) ++ captured_by m (departure T a d x w) (next_class m (t - 1) l)) letter
-      ∙ (λ i. sent_at (port_kind T d (put w x).port) w (next i) ++ captured_told a m (departure T a d x w) (next_class m (t - 1) (letter_number a (on w (here)))) i)
+      ∙ (λ i. sent_at (port_kind T d (put w x).port) w (next i) ++ captured_told a m (departure T a d x w)
+      (next_class m (t - 1) (letter_number a (on w (here)))) i)
       ∙ (λ i. sent (next_tag) i ++ capture_of (tags) w (next i))
     where
       next_tag : ℕ
@@ -113,24 +117,30 @@ module _ (T : Topology) (a : LettersValue) (m : Machine) (d : ℕ) (lettered : I
 
   -- the copies of all
   pub all_copied : (ws : List Written) → All IsGood ws
-      → flat_map (copies_by m (t - 1)) (map (departure T a d x) (filter (departs_by T (here)) ws)) ≡ flat_map (copies_told T (tags) t (here)) (filter (departs_by T (here)) ws)
+      → flat_map (copies_by m (t - 1)) (map (departure T a d x) (filter (departs_by T (here)) ws))
+      ≡ flat_map (copies_told T (tags) t (here)) (filter (departs_by T (here)) ws)
   all_copied [] good = refl
   all_copied (w ∷ ws) good = by (all_copied ws (All-tail IsGood w ws good)) (departs_by T (here) w) refl
     where
-      by : flat_map (copies_by m (t - 1)) (map (departure T a d x) (filter (departs_by T (here)) ws)) ≡ flat_map (copies_told T (tags) t (here)) (filter (departs_by T (here)) ws)
+      by : flat_map (copies_by m (t - 1)) (map (departure T a d x) (filter (departs_by T (here)) ws))
+          ≡ flat_map (copies_told T (tags) t (here)) (filter (departs_by T (here)) ws)
           → (b : Bool) → departs_by T (here) w ≡ b
-          → flat_map (copies_by m (t - 1)) (map (departure T a d x) (cond (departs_by T (here) w) (w ∷ filter (departs_by T (here)) ws) (filter (departs_by T (here)) ws)))
+          → flat_map (copies_by m (t - 1))
+          (map (departure T a d x)
+          (cond (departs_by T (here) w) (w ∷ filter (departs_by T (here)) ws) (filter (departs_by T (here)) ws)))
           ≡ flat_map (copies_told T (tags) t (here)) (cond (departs_by T (here) w) (w ∷ filter (departs_by T (here)) ws) (filter (departs_by T (here)) ws))
       by later true leaves = rw leaves (λ i. one_copied w (All-head IsGood w ws good) leaves i ++ later i)
       by later false stays = rw stays later
 
   -- the copies of a drop
   pub drop_copied : is_port T d 0 ≡ false → (w : Written) → w ≡ no_writes
-      → copies_by m (t - 1) (record { writes = w; seen = seen_of T a d (record x { port = 0 }) }) ≡ capture_of (tags) w ((tags).after t (record here { port = 0 }))
+      → copies_by m (t - 1) (record { writes = w; seen = seen_of T a d (record x { port = 0 }) })
+      ≡ capture_of (tags) w ((tags).after t (record here { port = 0 }))
   drop_copied none w is =
       let y : Numbers = record here { port = 0 } in
       let next = next_here y (at_zero (at_switch_fits d x fits fit)) in
-      ap (λ p. sent_at (if p then own_kind T d 0 else Missing) w (suc (next_class m (t - 1) (letter_number a y))) ++ captured_by m (dropped) (next_class m (t - 1) (letter_number a y))) none
+      ap (λ p. sent_at (if p then own_kind T d 0 else Missing) w (suc (next_class m (t - 1) (letter_number a y)))
+      ++ captured_by m (dropped) (next_class m (t - 1) (letter_number a y))) none
       ∙ (captured_told a m (dropped) (next_class m (t - 1) (letter_number a y)) ∙ ap (capture_of (tags) w) next)
     where
       dropped : Departure
@@ -155,7 +165,8 @@ module _ (T : Topology) (a : LettersValue) (m : Machine) (d : ℕ) (lettered : I
       }
 
   -- the copies of departures, or of a drop where there are none
-  copies_or_drop : is_port T d 0 ≡ false → (vs : List Written) → flat_map (copies_by m (t - 1)) (map (departure T a d x) vs) ≡ flat_map (copies_told T (tags) t (here)) vs
+  copies_or_drop : is_port T d 0 ≡ false → (vs : List Written)
+      → flat_map (copies_by m (t - 1)) (map (departure T a d x) vs) ≡ flat_map (copies_told T (tags) t (here)) vs
       → copies_at m (t - 1) (or_drop (map (departure T a d x) vs) (seen_of T a d (record x { port = 0 }))) ≡ copies_of T (tags) t (here) vs
   copies_or_drop none [] equal = append-nil _ ∙ drop_copied none no_writes refl
   copies_or_drop none (v ∷ vs) equal = equal
@@ -173,12 +184,16 @@ module _ (T : Topology) (a : LettersValue) (m : Machine) (d : ℕ) (lettered : I
 all_good : (T : Topology) (P Q : Written → Type 0) (ws : List Written) → All P ws → All Q ws → All (λ w. P w × Q w) ws
 all_good T P Q ws p q = λ k e within. (p k e within, q k e within)
 
-module _ (T : Topology) (a : LettersValue) (m : Machine) (d : ℕ) (lettered : IsLettered a) (same : m.letters ≡ length a.least) (fits : d < 2 ^ 64) (none : is_port T d 0 ≡ false)
-    (seen : List (Tree Seen)) (root : ℕ) (sight : HasAt (IsSight T a d) seen root) (us : List (Tree (List Written))) (policy here : ℕ) (restricts : RestrictsAt Switch d us policy us here)
-    (whole : List (Tree (List Departure))) (node : ℕ) (departs : DepartsOrDropsAt seen root us here whole node) (p : Tree (List Written)) (p_is : slice_get us policy ≡ Some p)
+module _ (T : Topology) (a : LettersValue) (m : Machine) (d : ℕ) (lettered : IsLettered a) (same : m.letters ≡ length a.least)
+    (fits : d < 2 ^ 64) (none : is_port T d 0 ≡ false)
+    (seen : List (Tree Seen)) (root : ℕ) (sight : HasAt (IsSight T a d) seen root) (us : List (Tree (List Written))) (policy here : ℕ)
+    (restricts : RestrictsAt Switch d us policy us here)
+    (whole : List (Tree (List Departure))) (node : ℕ) (departs : DepartsOrDropsAt seen root us here whole node) (p : Tree (List Written))
+    (p_is : slice_get us policy ≡ Some p)
     (idle_free : IsIdleFree p) where
   -- what the tree of a tag says
-  copied : (t : ℕ) (second : List (Tree (List Outgoing))) (id : ℕ) → MakesAt (copies_at m (t - 1)) whole node second id → HasAt (IsLeaving T (tagging_of a m) (departing T (value p)) d t) second id
+  copied : (t : ℕ) (second : List (Tree (List Outgoing))) (id : ℕ) → MakesAt (copies_at m (t - 1)) whole node second id
+      → HasAt (IsLeaving T (tagging_of a m) (departing T (value p)) d t) second id
   copied t second id makes =
       let restricted = restricts p p_is in
       let made = departs sight.0 restricted.0 sight.1 restricted.1 in
@@ -197,7 +212,9 @@ module _ (T : Topology) (a : LettersValue) (m : Machine) (d : ℕ) (lettered : I
       )
 
   -- so the trees made of departures are those of the second table
-  pub leaving_whole : (second : List (Tree (List Outgoing))) (trees : List (ℕ × ℕ)) → LeavesAt m whole node second trees → AreLeaving T (tagging_of a m) (departing T (value p)) d second trees
+  pub leaving_whole : (second : List (Tree (List Outgoing))) (trees : List (ℕ × ℕ)) → LeavesAt m whole node second trees
+      → AreLeaving T (tagging_of a m) (departing T (value p)) d second trees
   leaving_whole second trees leaves =
-      zip_weaker (λ t q. (q.0 ≡ t) × MakesAt (copies_at m (t - 1)) whole node second q.1) (λ t q. (q.0 ≡ t) × HasAt (IsLeaving T (tagging_of a m) (departing T (value p)) d t) second q.1)
+      zip_weaker (λ t q. (q.0 ≡ t) × MakesAt (copies_at m (t - 1)) whole node second q.1)
+      (λ t q. (q.0 ≡ t) × HasAt (IsLeaving T (tagging_of a m) (departing T (value p)) d t) second q.1)
       (λ t q both. (both.0, copied t second q.1 both.1)) (odd_tags (tagging_of a m)) trees leaves

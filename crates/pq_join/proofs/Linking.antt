@@ -1,5 +1,6 @@
 -- The ports of a lawful topology, and those in links.
-use Rattle.std.proofs.Common.{ℕ, ◌≡◌, ◌∙◌, Bool, true, false, List, [], ◌∷◌, ◌==◌, ◌&&◌, Option, None, Some, if◌then◌else◌, refl, sym, ap, subst, arith, eqb-true, ne_eqb}
+use Rattle.std.proofs.Common.{ℕ, ◌≡◌, ◌∙◌, Bool, true, false, List, [], ◌∷◌, ◌==◌, ◌&&◌, Option, None, Some, if◌then◌else◌, refl, sym, ap}
+use Rattle.std.proofs.Common.{subst, arith, eqb-true, ne_eqb}
 use Rattle.std.specs.Prelude.{is_none, is_some}
 use Rattle.std.specs.List.{All}
 use Rattle.std.proofs.lemmas.List.Elements.{All-head, All-tail, All-weaker}
@@ -44,7 +45,8 @@ linked_port T d p lawful linked = linked_in T T.links d p lawful.links linked
 -- no port has the number 0
 pub no_port_zero : (T : Topology) (d : ℕ) → All IsPortNumber (ports_of T d) → is_port T d 0 ≡ false
 no_port_zero T d numbers =
-    list_any_none (λ q. q == 0) (ports_of T d) (All-weaker IsPortNumber (λ q. (q == 0) ≡ false) (λ q number. ne_eqb q 0 (λ e. omega (arith, number.0, e))) (ports_of T d) numbers)
+    list_any_none (λ q. q == 0) (ports_of T d)
+    (All-weaker IsPortNumber (λ q. (q == 0) ≡ false) (λ q number. ne_eqb q 0 (λ e. omega (arith, number.0, e))) (ports_of T d) numbers)
 
 -- a packet comes in at the edge at an edge port
 pub edge_comes_in : (T : Topology) (d p : ℕ) → comes_in (port_kind T d p) false ≡ is_edge T d p

@@ -1,5 +1,6 @@
 -- The trees over the ports of a switch.
-use Rattle.std.proofs.Common.{ℕ, ◌<◌, ◌≡◌, ◌∙◌, List, [], ◌∷◌, ◌++◌, length, Some, ◌==◌, if◌then◌else◌, inl, inr, refl, sym, ap, subst, arith, append_assoc, append-nil}
+use Rattle.std.proofs.Common.{ℕ, ◌<◌, ◌≡◌, ◌∙◌, List, [], ◌∷◌, ◌++◌, length, Some, ◌==◌, if◌then◌else◌, inl, inr, refl, sym, ap, subst}
+use Rattle.std.proofs.Common.{arith, append_assoc, append-nil}
 use Rattle.std.specs.Prelude.{slice_get}
 use Rattle.std.specs.List.{All, Any, list_any, push}
 use Rattle.std.proofs.lemmas.Bool.{eq-eqb, ne_eqb}
@@ -85,7 +86,8 @@ module _ (kind : ℕ → PortKind) (p : ℕ) (met : List ℕ) (n : Tree PortKind
     before_yes = tt;
     before_no = over.first p up;
     once = tt;
-    fits = few_fit room.numbers (Fork (Equal Port p) (Tip (kind p)) n) room.few (ports_within room.numbers (p ∷ met) (Fork (Equal Port p) (Tip (kind p)) n) fork_tests room.within)
+    fits = few_fit room.numbers (Fork (Equal Port p) (Tip (kind p)) n) room.few
+        (ports_within room.numbers (p ∷ met) (Fork (Equal Port p) (Tip (kind p)) n) fork_tests room.within)
         (fork_lawful number) fork_ascends;
   }
 
@@ -114,11 +116,13 @@ pub record IsBehind (kind : ℕ → PortKind) (front ps : List ℕ) (ts : List (
   pub has : HasAt (IsOverPorts kind met) ts k
 
 -- none are met at first
-pub behind_all : (kind : ℕ → PortKind) (front ps : List ℕ) (ts : List (Tree PortKind)) (k : ℕ) → front ≡ ps → slice_get ts k ≡ Some (Tip Missing) → IsBehind kind front ps ts k
+pub behind_all : (kind : ℕ → PortKind) (front ps : List ℕ) (ts : List (Tree PortKind)) (k : ℕ) → front ≡ ps
+    → slice_get ts k ≡ Some (Tip Missing) → IsBehind kind front ps ts k
 behind_all kind front ps ts k whole is = record { met = []; all = sym (append-nil front ∙ whole); has = (Tip Missing, is, over_none kind) }
 
 -- the tree stays while the store grows
-pub behind_still : (kind : ℕ → PortKind) (front ps : List ℕ) (old new : List (Tree PortKind)) (k : ℕ) → Keeps old new → IsBehind kind front ps old k → IsBehind kind front ps new k
+pub behind_still : (kind : ℕ → PortKind) (front ps : List ℕ) (old new : List (Tree PortKind)) (k : ℕ) → Keeps old new
+    → IsBehind kind front ps old k → IsBehind kind front ps new k
 behind_still kind front ps old new k keeps behind = record {
   met = behind.met;
   all = behind.all;

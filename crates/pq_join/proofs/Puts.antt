@@ -38,13 +38,15 @@ module _ {L : Type 0} where
   sets_none w ts k t is = (t, is, record { gives = λ x. refl; tests = λ s tested. tested })
 
   -- a field without a number changes nothing
-  pub sets_unwritten : (f : Field) (fs : List Field) (w : Written) (old new : List (Tree L)) (k id : ℕ) → written_in f w ≡ None → SetsAllAt fs w old k new id → SetsAllAt (f ∷ fs) w old k new id
+  pub sets_unwritten : (f : Field) (fs : List Field) (w : Written) (old new : List (Tree L)) (k id : ℕ) → written_in f w ≡ None
+      → SetsAllAt fs w old k new id → SetsAllAt (f ∷ fs) w old k new id
   sets_unwritten f fs w old new k id none sets t is =
       let made = sets t is in
       (made.0, made.1, record { gives = λ x. made.2.gives x ∙ ap (value t) (sym (put_none f w (put_all fs w x) none)); tests = made.2.tests })
 
   -- a number is set before the others
-  pub sets_more : (f : Field) (n : ℕ) (fs : List Field) (w : Written) (old mid new : List (Tree L)) (k i id : ℕ) → written_in f w ≡ Some n → RestrictsAt f n old k mid i
+  pub sets_more : (f : Field) (n : ℕ) (fs : List Field) (w : Written) (old mid new : List (Tree L)) (k i id : ℕ) → written_in f w ≡ Some n
+      → RestrictsAt f n old k mid i
       → SetsAllAt fs w mid i new id → SetsAllAt (f ∷ fs) w old k new id
   sets_more f n fs w old mid new k i id some restricts sets t is =
       let first = restricts t is in
@@ -60,8 +62,14 @@ module _ {L : Type 0} where
   -- with those and the port, all are set
   pub all_set : (w : Written) (old new : List (Tree L)) (k id : ℕ) → w.port ≡ None → SetsAllAt header_fields w old k new id → OverwritesAt w old k new id
   all_set w old new k id none sets t is =
-      let made = sets t is in
-      (made.0, made.1, record { gives = λ x. made.2.gives x ∙ ap (λ o. value t (record (put w x) { port = unwrap_or o x.port })) (sym none); tests = made.2.tests })
+      let made = sets t is in (
+        made.0,
+        made.1,
+        record {
+          gives = λ x. made.2.gives x ∙ ap (λ o. value t (record (put w x) { port = unwrap_or o x.port })) (sym none);
+          tests = made.2.tests;
+        },
+      )
 
   pub port_and_all_set : (w : Written) (p : ℕ) (old mid new : List (Tree L)) (k i id : ℕ) → w.port ≡ Some p → RestrictsAt Port p old k mid i
       → SetsAllAt header_fields w mid i new id → OverwritesAt w old k new id
@@ -71,7 +79,8 @@ module _ {L : Type 0} where
         made.0,
         made.1,
         record {
-          gives = λ x. made.2.gives x ∙ (first.2.gives (put_all header_fields w x) ∙ ap (λ o. value t (record (put w x) { port = unwrap_or o x.port })) (sym some));
+          gives = λ x. made.2.gives x
+              ∙ (first.2.gives (put_all header_fields w x) ∙ ap (λ o. value t (record (put w x) { port = unwrap_or o x.port })) (sym some));
           tests = λ s tested. first.2.tests s (made.2.tests s tested);
         },
       )
@@ -82,7 +91,8 @@ module _ {L : Type 0} where
 set_after : (f : Field) (w : Written) (x : Numbers) → ChangesAll x w → unwrap_or (written_in f w) (number_in f x) ≡ number_after f w x
 set_after f w x changes = by (written_in f w) refl
   where
-    by : (o : Option ℕ) → written_in f w ≡ o → unwrap_or (written_in f w) (number_in f x) ≡ (if has_field f x then unwrap_or (written_in f w) (number_in f x) else number_in f x)
+    by : (o : Option ℕ) → written_in f w ≡ o
+        → unwrap_or (written_in f w) (number_in f x) ≡ (if has_field f x then unwrap_or (written_in f w) (number_in f x) else number_in f x)
     by None none = ap (λ o. unwrap_or o (number_in f x)) none ∙ (one_of_same (has_field f x) (number_in f x)
         ∙ ap (λ o. if has_field f x then unwrap_or o (number_in f x) else number_in f x) (sym none))
     by (Some n) some = ap (λ b. if b then unwrap_or (written_in f w) (number_in f x) else number_in f x) (sym (changes f n some).0)

@@ -28,7 +28,8 @@ use Rattle.pq_join.specs.Switch.{FitsAsSwitch}
 ports_among : (ns : List ℕ) (ss : List SwitchValue) (d : ℕ) → All (λ s. All (λ p. IsAmong p ns) s.ports) ss → All (λ p. IsAmong p ns) (ports_in ss d)
 ports_among ns [] d among = All-nil (λ p. IsAmong p ns)
 ports_among ns (s ∷ ss) d among =
-    by (s.datapath == d) (ports_among ns ss d (All-tail (λ r. All (λ p. IsAmong p ns) r.ports) s ss among)) (All-head (λ r. All (λ p. IsAmong p ns) r.ports) s ss among)
+    by (s.datapath == d) (ports_among ns ss d (All-tail (λ r. All (λ p. IsAmong p ns) r.ports) s ss among))
+    (All-head (λ r. All (λ p. IsAmong p ns) r.ports) s ss among)
   where
     by : (b : Bool) → All (λ p. IsAmong p ns) (ports_in ss d) → All (λ p. IsAmong p ns) s.ports → All (λ p. IsAmong p ns) (if b then s.ports else ports_in ss d)
     by true later own = own

@@ -90,7 +90,8 @@ pub record HasParts (T : Topology) (a : LettersValue) (d : ℕ) (ls : List (Tree
   pub restricts : IsRestriction Switch d letters restricted
   pub ports : HasAt (IsPortTree T d) ps i
 
-pub has_parts : (T : Topology) (a : LettersValue) (d : ℕ) (ls : List (Tree ℕ)) (root k : ℕ) (ps : List (Tree PortKind)) (i : ℕ) → ls ≡ a.trees → root ≡ a.root → root < length a.trees
+pub has_parts : (T : Topology) (a : LettersValue) (d : ℕ) (ls : List (Tree ℕ)) (root k : ℕ) (ps : List (Tree PortKind)) (i : ℕ)
+    → ls ≡ a.trees → root ≡ a.root → root < length a.trees
     → RestrictsAt Switch d ls root ls k → HasAt (IsPortTree T d) ps i → HasParts T a d ls k ps i
 has_parts T a d ls root k ps i store is within restricts ports =
     let whole = at_place a.trees root within in

@@ -1,11 +1,13 @@
 -- The trees of a switch are such that entries can stand for them.
-use Rattle.std.proofs.Common.{ℕ, ◌<◌, ◌^◌, ◌-◌, ◌≡◌, ◌∙◌, Bool, true, false, cond, List, ◌∷◌, [], length, Option, None, Some, get_or, ◌==◌, if◌then◌else◌, inl, inr, refl, sym, subst, arith, eqb-true}
+use Rattle.std.proofs.Common.{ℕ, ◌<◌, ◌^◌, ◌-◌, ◌≡◌, ◌∙◌, Bool, true, false, cond, List, ◌∷◌, [], length, Option, None, Some, get_or, ◌==◌}
+use Rattle.std.proofs.Common.{if◌then◌else◌, inl, inr, refl, sym, subst, arith, eqb-true}
 use Rattle.std.specs.Prelude.{IfSome}
 use Rattle.std.specs.List.{All, filter, flat_map}
 use Rattle.std.specs.Option.{unwrap_or}
 use Rattle.std.proofs.lemmas.List.Elements.{All-append, All-cons, All-get_or, All-head, All-nil, All-tail}
 use Rattle.std.proofs.lemmas.List.Folds.{Any-from_list_any}
-use Rattle.pq_fields.specs.declared.field.Field.TheVariants.{Switch, Port, EthType, IpProto, EthSrc, EthDst, Ipv4Src, Ipv4Dst, TcpSrc, TcpDst, UdpSrc, UdpDst, Ipv6Src, Ipv6Dst}
+use Rattle.pq_fields.specs.declared.field.Field.TheVariants.{Switch, Port, EthType, IpProto, EthSrc, EthDst, Ipv4Src, Ipv4Dst, TcpSrc}
+use Rattle.pq_fields.specs.declared.field.Field.TheVariants.{TcpDst, UdpSrc, UdpDst, Ipv6Src, Ipv6Dst}
 use Rattle.pq_fields.specs.Packet.{Fit, Numbers}
 use Rattle.pq_fields.specs.Writes.{AllFit, Written, no_writes, on}
 use Rattle.pq_model.specs.Install.{IsLawfulSwitch, IsLawfulTopology}
@@ -49,7 +51,8 @@ module _ {L : Type 0} where
 
   -- the switch is not tested
   pub no_switch : (F : Numbers → L) (d : ℕ) (t : Tree L) → IsTreeOf (λ x. F (at_switch d x)) t → IsUntested Switch t
-  no_switch F d t tree = untested Switch t tree.diagram (λ x n fit below here. tree.gives (at_switch n x) (at_switch_fits n x below fit) ∙ sym (tree.gives x fit))
+  no_switch F d t tree = untested Switch t tree.diagram (λ x n fit below here. tree.gives (at_switch n x) (at_switch_fits n x below fit)
+      ∙ sym (tree.gives x fit))
 
 -- Tags.
 
@@ -161,23 +164,36 @@ changes_anywhere d x w changes UdpDst n is = changes UdpDst n is
 changes_anywhere d x w changes Ipv6Src n is = absurd cc
 changes_anywhere d x w changes Ipv6Dst n is = absurd cc
 
-module _ (T : Topology) (a : LettersValue) (m : Machine) (tags : HasTags T a m) (d : ℕ) (fits : d < 2 ^ 64) (x : Numbers) (fit : Fit x) (b : ℕ) (tag : IsTagOf m b) where
+module _ (T : Topology) (a : LettersValue) (m : Machine) (tags : HasTags T a m) (d : ℕ) (fits : d < 2 ^ 64) (x : Numbers) (fit : Fit x)
+    (b : ℕ) (tag : IsTagOf m b) where
   -- a sound copy that changes the packet
   abbrev IsRight : Outgoing → Type 0
   IsRight c = IsSoundCopy c × ChangesAll x c.writes
 
   -- the copy to the collector
-  capture_right : (w : Written) (y : Numbers) → IsGood (at_switch d x) w → IfSome w.port IsPortNumber → Fit y → All IsRight (capture_of (tagging_of a m) w ((tagging_of a m).after b y))
+  capture_right : (w : Written) (y : Numbers) → IsGood (at_switch d x) w → IfSome w.port IsPortNumber → Fit y
+      → All IsRight (capture_of (tagging_of a m) w ((tagging_of a m).after b y))
   capture_right w y good port y_fit = by (captures (tagging_of a m) ((tagging_of a m).after b y))
     where
       by : (c : Bool) → All IsRight (if c then record { writes = w; tag = Some ((tagging_of a m).after b y); kind = CaptureOut } ∷ [] else [])
-      by true = All-cons IsRight _ [] (record { tag = tag_after T a m tags b y tag y_fit; fit = good.0; port = port }, changes_anywhere d x w good.1) (All-nil IsRight)
+      by true = All-cons IsRight _ [] (
+        record { tag = tag_after T a m tags b y tag y_fit; fit = good.0; port = port },
+        changes_anywhere d x w good.1,
+      ) (All-nil IsRight)
       by false = All-nil IsRight
 
   -- the copies of a departure
-  copies_right : (w : Written) → IsGood (at_switch d x) w × (departs_by T (at_switch d x) w ≡ true) → All IsRight (copies_by T (tagging_of a m) b (at_switch d x) w)
+  copies_right : (w : Written) → IsGood (at_switch d x) w × (departs_by T (at_switch d x) w ≡ true)
+      → All IsRight (copies_by T (tagging_of a m) b (at_switch d x) w)
   copies_right w good =
-      All-cons IsRight _ _ (record { tag = sent_tag (is_linked T d (on w (at_switch d x)).port); fit = good.0.0; port = written_port w.port refl }, changes_anywhere d x w good.0.1)
+      All-cons IsRight _ _ (
+        record {
+          tag = sent_tag (is_linked T d (on w (at_switch d x)).port);
+          fit = good.0.0;
+          port = written_port w.port refl;
+        },
+        changes_anywhere d x w good.0.1,
+      )
       (capture_right w (on w (at_switch d x)) good.0 (written_port w.port refl) (y_fit))
     where
       y_fit : Fit (on w (at_switch d x))
@@ -192,7 +208,8 @@ module _ (T : Topology) (a : LettersValue) (m : Machine) (tags : HasTags T a m) 
       written_port (Some q) some = port_number T d q tags.lawful (subst (λ o. is_port T d (unwrap_or o x.port) ≡ true) some good.1)
 
   -- the copies of all
-  all_right : (ws : List Written) → All (λ w. IsGood (at_switch d x) w × (departs_by T (at_switch d x) w ≡ true)) ws → All IsRight (copies_of T (tagging_of a m) b (at_switch d x) ws)
+  all_right : (ws : List Written) → All (λ w. IsGood (at_switch d x) w × (departs_by T (at_switch d x) w ≡ true)) ws
+      → All IsRight (copies_of T (tagging_of a m) b (at_switch d x) ws)
   all_right [] good = capture_right no_writes (record (at_switch d x) { port = 0 }) (none_good (at_switch d x)) tt (at_zero (at_switch_fits d x fits fit))
     where
       at_zero : Fit (at_switch d x) → Fit (record (at_switch d x) { port = 0 })
@@ -216,7 +233,8 @@ module _ (T : Topology) (a : LettersValue) (m : Machine) (tags : HasTags T a m) 
       all_flat IsRight (copies_by T (tagging_of a m) b (at_switch d x)) (w ∷ ws) (λ k e within. copies_right (get_or (w ∷ ws) k e) (good k e within))
 
 -- what a tree of the second table says of a packet
-value_right : (T : Topology) (a : LettersValue) (m : Machine) (d : ℕ) → HasTags T a m → d < 2 ^ 64 → (p : Tree (List Written)) → IsIdleFree p → (b : ℕ) (t : Tree (List Outgoing)) → IsTagOf m b
+value_right : (T : Topology) (a : LettersValue) (m : Machine) (d : ℕ) → HasTags T a m → d < 2 ^ 64 → (p : Tree (List Written))
+    → IsIdleFree p → (b : ℕ) (t : Tree (List Outgoing)) → IsTagOf m b
     → IsLeaving T (tagging_of a m) (departing T (value p)) d b t → (x : Numbers) → Fit x → All (λ c. IsSoundCopy c × ChangesAll x c.writes) (value t x)
 value_right T a m d tags fits p idle_free b t tag tree x fit =
     let given = idle_free (at_switch d x) (at_switch_fits d x fits fit) in

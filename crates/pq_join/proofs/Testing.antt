@@ -32,7 +32,8 @@ use Rattle.pq_join.specs.Switch.{TestPortsAt}
 use Rattle.pq_join.proofs.Soundness.{numbers_in}
 
 -- a tree made of another tests ports where that does
-made_ports : {A C : Type 0} (make : A → C) (from : List (Tree A)) (k : ℕ) (into : List (Tree C)) (id : ℕ) → HasAt TestsPortsOrZero from k → MakesAt make from k into id → TestPortsAt into id
+made_ports : {A C : Type 0} (make : A → C) (from : List (Tree A)) (k : ℕ) (into : List (Tree C)) (id : ℕ) → HasAt TestsPortsOrZero from k
+    → MakesAt make from k into id → TestPortsAt into id
 made_ports make from k into id ports makes t t_is v tested =
     let made = makes ports.0 ports.1 in
     let made_is = made.1 in
@@ -57,14 +58,18 @@ module _ (T : Topology) (a : LettersValue) (d : ℕ) (lawful : IsLawfulTopology 
       number_of (Bit f n) = n
 
   -- the trees of the first table
-  pub arriving_ports : (m : Machine) (into : List (Tree (Option Arrive))) (trees : List (Key × ℕ)) → ArrivesAt m seen root into trees → All (λ p. TestPortsAt into p.1) trees
+  pub arriving_ports : (m : Machine) (into : List (Tree (Option Arrive))) (trees : List (Key × ℕ)) → ArrivesAt m seen root into trees
+      → All (λ p. TestPortsAt into p.1) trees
   arriving_ports m into trees arrives =
       zip_right (λ k p. (p.0 ≡ k) × MakesAt (arrival_of m k) seen root into p.1) (λ p. TestPortsAt into p.1)
-      (λ k p both. made_ports (arrival_of m k) seen root into p.1 (sight.0, sight.1, sight_ports) both.1) (Plain ∷ map Tag (even_to m (length m.rows))) trees arrives
+      (λ k p both. made_ports (arrival_of m k) seen root into p.1 (sight.0, sight.1, sight_ports) both.1)
+      (Plain ∷ map Tag (even_to m (length m.rows))) trees arrives
 
   -- and those of the second
-  pub leaving_ports : (m : Machine) (us : List (Tree (List Written))) (policy here : ℕ) → policy < length us → RestrictsAt Switch d us policy us here → TestPortsAt us policy
-      → (whole : List (Tree (List Departure))) (node : ℕ) → DepartsOrDropsAt seen root us here whole node → (into : List (Tree (List Outgoing))) (trees : List (ℕ × ℕ))
+  pub leaving_ports : (m : Machine) (us : List (Tree (List Written))) (policy here : ℕ) → policy < length us
+      → RestrictsAt Switch d us policy us here → TestPortsAt us policy
+      → (whole : List (Tree (List Departure))) (node : ℕ) → DepartsOrDropsAt seen root us here whole node
+      → (into : List (Tree (List Outgoing))) (trees : List (ℕ × ℕ))
       → LeavesAt m whole node into trees → All (λ p. TestPortsAt into p.1) trees
   leaving_ports m us policy here inside restricts tests whole node departs into trees leaves =
       zip_right (λ t p. (p.0 ≡ t) × MakesAt (copies_at m (t - 1)) whole node into p.1) (λ p. TestPortsAt into p.1)

@@ -1,5 +1,6 @@
 -- Port 0 is not tested: it is no port, and neither is the first number beyond those of ports.
-use Rattle.std.proofs.Common.{ℕ, ◌⊎◌, get_or, ◌<◌, ◌≤◌, ◌^◌, ◌≡◌, ◌∙◌, Bool, true, false, List, ◌∷◌, [], Option, None, Some, ◌==◌, ◌&&◌, if◌then◌else◌, inl, inr, refl, sym, ap, subst, arith}
+use Rattle.std.proofs.Common.{ℕ, ◌⊎◌, get_or, ◌<◌, ◌≤◌, ◌^◌, ◌≡◌, ◌∙◌, Bool, true, false, List, ◌∷◌, [], Option, None, Some, ◌==◌, ◌&&◌}
+use Rattle.std.proofs.Common.{if◌then◌else◌, inl, inr, refl, sym, ap, subst, arith}
 use Rattle.std.specs.Prelude.{is_none}
 use Rattle.std.specs.List.{All, filter}
 use Rattle.std.specs.Option.{unwrap_or}
@@ -58,7 +59,8 @@ module _ {L : Type 0} where
   yes_later (Fork (Bit g i) y n) (inr same) skips lawful = absurd (kinds_differ Port g refl lawful.0.0 same.0)
 
   -- what stands behind the ports is what packets at an untested port reach
-  rest_value : (n : Tree L) → Ascends n → AllLawful n → Starts Port n → (IsTested (Equal Port beyond) n → ⊥) → (x : Numbers) → value n (with_number Port beyond x) ≡ value (rest Port n) x
+  rest_value : (n : Tree L) → Ascends n → AllLawful n → Starts Port n → (IsTested (Equal Port beyond) n → ⊥) → (x : Numbers)
+      → value n (with_number Port beyond x) ≡ value (rest Port n) x
   rest_value (Tip l) up lawful starts untested x = refl
   rest_value (Fork (Bit g i) y n) up lawful starts untested x =
       later_same Port beyond x (Fork (Bit g i) y n) (bit_later g lawful.0.0 (starts (Bit g i) (inl refl))) up
@@ -75,7 +77,8 @@ module _ {L : Type 0} where
   ]
 
   -- no diagram begins with port 0 where packets there reach what they reach beyond all ports
-  zero_root : (y n : Tree L) → IsDiagram (Fork (Equal Port 0) y n) → IsUntested Switch (Fork (Equal Port 0) y n) → (IsTested (Equal Port beyond) (Fork (Equal Port 0) y n) → ⊥)
+  zero_root : (y n : Tree L) → IsDiagram (Fork (Equal Port 0) y n) → IsUntested Switch (Fork (Equal Port 0) y n)
+      → (IsTested (Equal Port beyond) (Fork (Equal Port 0) y n) → ⊥)
       → ((x : Numbers) → Fit x → value (Fork (Equal Port 0) y n) (record x { port = 0 }) ≡ value (Fork (Equal Port 0) y n) (record x { port = beyond })) → ⊥
   zero_root y n d untested other same =
       let starts = ports_first (Fork (Equal Port 0) y n) untested in
@@ -130,7 +133,8 @@ module _ {L : Type 0} where
         | inr other ↦ passes_kept (Equal g u) Port v x (λ e. other.1 (sym e)) ∙ sym (passes_kept (Equal g u) Port w x (λ e. other.1 (sym e)))
       ]
       tests_same (Bit g i) fine other_v other_w =
-          passes_kept (Bit g i) Port v x (λ e. kinds_differ Port g refl fine.0 (sym e)) ∙ sym (passes_kept (Bit g i) Port w x (λ e. kinds_differ Port g refl fine.0 (sym e)))
+          passes_kept (Bit g i) Port v x (λ e. kinds_differ Port g refl fine.0 (sym e))
+          ∙ sym (passes_kept (Bit g i) Port w x (λ e. kinds_differ Port g refl fine.0 (sym e)))
 
   -- tested ports are those of ports where port 0 is not tested
   ports_only : (t : Tree L) → IsDiagram t → IsUntested Switch t → TestsPortsOrZero t
@@ -168,7 +172,8 @@ at_port_fits x q below fit = record {
 none_beyond : (T : Topology) (d : ℕ) → IsLawfulTopology T → is_port T d beyond ≡ false
 none_beyond T d lawful =
     list_any_none (λ q. q == beyond) (ports_of T d)
-    (All-weaker IsPortNumber (λ q. (q == beyond) ≡ false) (λ q number. ne_eqb q beyond (λ e. omega (arith, number.1, e))) (ports_of T d) (numbers_in T.switches d lawful.switches))
+    (All-weaker IsPortNumber (λ q. (q == beyond) ≡ false) (λ q number. ne_eqb q beyond (λ e. omega (arith, number.1, e))) (ports_of T d)
+    (numbers_in T.switches d lawful.switches))
 
 none_zero : (T : Topology) (d : ℕ) → IsLawfulTopology T → is_port T d 0 ≡ false
 none_zero T d lawful = no_port_zero T d (numbers_in T.switches d lawful.switches)
@@ -179,7 +184,8 @@ module _ (T : Topology) (a : LettersValue) (m : Machine) (d : ℕ) (lawful : IsL
   no_arrival Plain y none = ap (λ b. if b && is_none (peer T y.switch y.port) then Some (arrive (tagging_of a m) ((tagging_of a m).after 1 y)) else None) none
   no_arrival (Tag t) y none = by (is_linked T y.switch y.port) refl
     where
-      by : (b : Bool) → is_linked T y.switch y.port ≡ b → (if is_linked T y.switch y.port then Some (arrive (tagging_of a m) ((tagging_of a m).after t y)) else None) ≡ None
+      by : (b : Bool) → is_linked T y.switch y.port ≡ b
+          → (if is_linked T y.switch y.port then Some (arrive (tagging_of a m) ((tagging_of a m).after t y)) else None) ≡ None
       by true linked = let port = linked_port T y.switch y.port lawful linked in absurd cc
       by false linked = ap (λ b. if b then Some (arrive (tagging_of a m) ((tagging_of a m).after t y)) else None) linked
 
@@ -196,7 +202,8 @@ module _ (T : Topology) (a : LettersValue) (m : Machine) (d : ℕ) (lawful : IsL
       by (Some q) = refl
 
   -- so their copies are the same
-  copies_same : (b : ℕ) (x : Numbers) (w : Written) → departs_by T (at_port beyond x) w ≡ true → copies_by T (tagging_of a m) b (at_port 0 x) w ≡ copies_by T (tagging_of a m) b (at_port beyond x) w
+  copies_same : (b : ℕ) (x : Numbers) (w : Written) → departs_by T (at_port beyond x) w ≡ true
+      → copies_by T (tagging_of a m) b (at_port 0 x) w ≡ copies_by T (tagging_of a m) b (at_port beyond x) w
   copies_same b x w leaves =
       let port = by w.port refl in
       let packet : on w (at_port 0 x) ≡ on w (at_port beyond x) = λ i. record (on w (at_port 0 x)) { port = port i } in
@@ -223,14 +230,16 @@ arriving_test_ports T a m d lawful fits k t tree tests =
     (λ x fit.
     tree.gives (record x { port = 0 }) (at_port_fits x 0 (omega arith) fit)
     ∙ (no_arrival T a m d lawful k (at_switch d (record x { port = 0 })) (none_zero T d lawful)
-    ∙ sym (tree.gives (record x { port = beyond }) (at_port_fits x beyond (omega arith) fit) ∙ no_arrival T a m d lawful k (at_switch d (record x { port = beyond })) (none_beyond T d lawful))))
+    ∙ sym (tree.gives (record x { port = beyond }) (at_port_fits x beyond (omega arith) fit)
+    ∙ no_arrival T a m d lawful k (at_switch d (record x { port = beyond })) (none_beyond T d lawful))))
 
 -- and so do those of the second
 pub leaving_test_ports : LeavingTestPorts
 leaving_test_ports T a m d lawful fits p p_diagram p_tests b t tree tests =
     ports_only t tree.diagram (no_switch (λ y. copies_of T (tagging_of a m) b y (departing T (value p) y)) d t tree) tests
     (λ x fit.
-    let moot = port_moot p p_diagram.lawful 0 beyond (λ q. let n = p_tests 0 q in omega (arith, n.0)) (λ q. let n = p_tests beyond q in omega (arith, n.1)) (at_switch d x) in
+    let moot = port_moot p p_diagram.lawful 0 beyond (λ q. let n = p_tests 0 q in omega (arith, n.0)) (λ q. let n = p_tests beyond q in
+    omega (arith, n.1)) (at_switch d x) in
     let kept : filter (departs_by T (at_switch d (record x { port = 0 }))) (value p (at_switch d (record x { port = 0 })))
     ≡ filter (departs_by T (at_switch d (record x { port = beyond }))) (value p (at_switch d (record x { port = beyond }))) =
     (λ i. filter (λ w. departs_same T a m d lawful x w i) (moot i)) in

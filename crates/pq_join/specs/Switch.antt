@@ -35,6 +35,7 @@ abbrev pub TestPortsAt : {L : Type 0} → List (Tree L) → ℕ → Type 0
 TestPortsAt {L} ts k = (t : Tree L) → slice_get ts k ≡ Some t → TestsPortsOrZero t
 
 -- where the policy and the letters test only such ports, so do the trees
-abbrev pub AllTestPorts : List (Tree (List Written)) → ℕ → LettersValue → List (Tree (Option Arrive)) → List (Key × ℕ) → List (Tree (List Outgoing)) → List (ℕ × ℕ) → Type 0
+abbrev pub AllTestPorts : List (Tree (List Written)) → ℕ → LettersValue → List (Tree (Option Arrive)) → List (Key × ℕ)
+    → List (Tree (List Outgoing)) → List (ℕ × ℕ) → Type 0
 AllTestPorts forward policy a first arriving second leaving =
     TestPortsAt forward policy → TestPortsAt a.trees a.root → All (λ p. TestPortsAt first p.1) arriving × All (λ p. TestPortsAt second p.1) leaving

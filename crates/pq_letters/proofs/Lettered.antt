@@ -25,7 +25,8 @@ as_many ts (e ∷ es) [] have = absurd have
 as_many ts (e ∷ es) (s ∷ ss) have = omega (arith, as_many ts es ss have.1)
 
 -- the signature at the place of a leaf is its own
-signature_at : (ts : List (Tree (List Bool))) (es : List Least) (ss : List (List Bool)) → HaveSignatures ts es ss → (i : ℕ) (d : Least) → i < length es → slice_get ts (get_or es i d).leaf ≡ Some (Tip (get_or ss i []))
+signature_at : (ts : List (Tree (List Bool))) (es : List Least) (ss : List (List Bool)) → HaveSignatures ts es ss → (i : ℕ) (d : Least)
+    → i < length es → slice_get ts (get_or es i d).leaf ≡ Some (Tip (get_or ss i []))
 signature_at ts [] ss have i d within = absurd (omega arith)
 signature_at ts (e ∷ es) [] have i d within = absurd have
 signature_at ts (e ∷ es) (s ∷ ss) have zero d within = have.0
@@ -45,7 +46,8 @@ module _ (ts : List (Tree (List Bool))) (k : ℕ) (found : List Least) (least : 
   found_leaves i d within = let reaches = (least.each i d within).reaches in (reaches.0, reaches.2)
 
   -- two of them have different leaves
-  tips_differ : (i j : ℕ) (d : Least) → i < j → j < length found → (s : List Bool) → slice_get ts (get_or found i d).leaf ≡ Some (Tip s) → slice_get ts (get_or found j d).leaf ≡ Some (Tip s) → ⊥
+  tips_differ : (i j : ℕ) (d : Least) → i < j → j < length found → (s : List Bool) → slice_get ts (get_or found i d).leaf ≡ Some (Tip s)
+      → slice_get ts (get_or found j d).leaf ≡ Some (Tip s) → ⊥
   tips_differ i j d less within s left right =
       let first = least.each i d (omega arith) in
       let same : first.reaches.0 ≡ s = let own = first.reaches.2 in cc in
@@ -66,11 +68,14 @@ module _ (ts : List (Tree (List Bool))) (k : ℕ) (found : List Least) (least : 
         let d = nothing zero_packet in
         elim (cases_order i j) [
           | inl equal ↦ equal
-          | inr (inl less) ↦ absurd (tips_differ i j d less (omega arith) (get_or ss j []) (signature_at ts found ss have i d (omega arith) ∙ ap (λ s. Some (Tip s)) same) (signature_at ts found ss have j d (omega arith)))
-          | inr (inr less) ↦ absurd (tips_differ j i d less (omega arith) (get_or ss i []) (signature_at ts found ss have j d (omega arith) ∙ ap (λ s. Some (Tip s)) (sym same)) (signature_at ts found ss have i d (omega arith)))
+          | inr (inl less) ↦ absurd (tips_differ i j d less (omega arith) (get_or ss j []) (signature_at ts found ss have i d (omega arith)
+              ∙ ap (λ s. Some (Tip s)) same) (signature_at ts found ss have j d (omega arith)))
+          | inr (inr less) ↦ absurd (tips_differ j i d less (omega arith) (get_or ss i []) (signature_at ts found ss have j d (omega arith)
+              ∙ ap (λ s. Some (Tip s)) (sym same)) (signature_at ts found ss have i d (omega arith)))
         ]
 
-    module _ (t : Tree (List Bool)) (at : slice_get ts k ≡ Some t) (rs : List (Tree ℕ)) (root : ℕ) (r : Tree ℕ) (root_at : slice_get rs root ≡ Some r) (numbered : IsNumbered ss t r) where
+    module _ (t : Tree (List Bool)) (at : slice_get ts k ≡ Some t) (rs : List (Tree ℕ)) (root : ℕ) (r : Tree ℕ)
+        (root_at : slice_get rs root ≡ Some r) (numbered : IsNumbered ss t r) where
       -- the letters
       abbrev letters : LettersValue
       letters = record { trees = rs; root = root; signatures = ss; least = packets found }
@@ -89,7 +94,8 @@ module _ (ts : List (Tree (List Bool))) (k : ℕ) (found : List Least) (least : 
       -- so the place is its letter
       own_letter : (x : Numbers) (i : ℕ) (d : Least) → i < length found → Reaches ts k x (get_or found i d).leaf → letter_at letters x ≡ Some i
       own_letter x i d within reaches =
-          letter_is x ∙ ap Some (ap (place_in ss) (own_signature x i d within reaches) ∙ own_place ss signatures_differ i (omega (arith, as_many ts found ss have)))
+          letter_is x ∙ ap Some (ap (place_in ss) (own_signature x i d within reaches)
+          ∙ own_place ss signatures_differ i (omega (arith, as_many ts found ss have)))
 
       -- a packet with this letter has the place's signature
       letter_signature : (x : Numbers) (letter : ℕ) → letter < length found → letter_at letters x ≡ Some letter → get_or ss letter [] ≡ value t x
@@ -98,9 +104,14 @@ module _ (ts : List (Tree (List Bool))) (k : ℕ) (found : List Least) (least : 
           subst (λ n. get_or ss n [] ≡ value t x) is (at_place ss (value t x) (omega (arith, is, as_many ts found ss have)))
 
       -- and reaches the place's leaf
-      letter_reaches : (x : Numbers) (letter : ℕ) (d : Least) → letter < length found → letter_at letters x ≡ Some letter → Reaches ts k x (get_or found letter d).leaf
-      letter_reaches x letter d within has =
-          (value t x, ap (option_map (λ u. value u x)) at, signature_at ts found ss have letter d within ∙ ap (λ s. Some (Tip s)) (letter_signature x letter within has))
+      letter_reaches : (x : Numbers) (letter : ℕ) (d : Least) → letter < length found → letter_at letters x ≡ Some letter
+          → Reaches ts k x (get_or found letter d).leaf
+      letter_reaches x letter d within has = (
+        value t x,
+        ap (option_map (λ u. value u x)) at,
+        signature_at ts found ss have letter d within
+            ∙ ap (λ s. Some (Tip s)) (letter_signature x letter within has),
+      )
 
       -- each packet has a letter
       whole : (x : Numbers) → Fit x → (letter : ℕ) × (letter < length found) × (letter_at letters x ≡ Some letter)
@@ -126,9 +137,11 @@ module _ (ts : List (Tree (List Bool))) (k : ℕ) (found : List Least) (least : 
             root = slice_get_within rs root r root_at;
             signed = as_many ts found ss have ∙ sym long;
             whole = λ x fit. let (letter, within, has) = whole x fit in (letter, omega (arith, long, within), has);
-            each = λ letter within. subst (IsLeastOf letters letter) (sym (packet_at found letter zero_packet)) (least_at letter (nothing zero_packet) (omega (arith, long, within)));
+            each = λ letter within. subst (IsLeastOf letters letter) (sym (packet_at found letter zero_packet))
+                (least_at letter (nothing zero_packet) (omega (arith, long, within)));
             ascending = λ i j x less within. rw (packet_at found i x, packet_at found j x) (least.ascending i j (nothing x) less (omega (arith, long, within)));
-            differ = λ i j in_i in_j. signatures_differ i j (omega (arith, long, in_i, as_many ts found ss have)) (omega (arith, long, in_j, as_many ts found ss have));
+            differ = λ i j in_i in_j. signatures_differ i j (omega (arith, long, in_i, as_many ts found ss have))
+                (omega (arith, long, in_j, as_many ts found ss have));
           }
 
       -- they tell which trees are true of a packet
@@ -144,16 +157,22 @@ module _ (ts : List (Tree (List Bool))) (k : ℕ) (found : List Least) (least : 
       }
 
 -- the letters of what was found at a node, with the signatures and least packets at their places
-pub found_lettered : (ts : List (Tree (List Bool))) (k : ℕ) (found : List Least) (us : List (Tree Bool)) (ss : List (List Bool)) (rs : List (Tree ℕ)) (root : ℕ) (xs : List Numbers) → AreLeast ts k found → SignedAt us ts k → HaveSignatures ts found ss → NumbersAt ss ts k rs root → xs ≡ packets found → IsLettered (record { trees = rs; root = root; signatures = ss; least = xs })
+pub found_lettered : (ts : List (Tree (List Bool))) (k : ℕ) (found : List Least) (us : List (Tree Bool)) (ss : List (List Bool))
+    (rs : List (Tree ℕ)) (root : ℕ) (xs : List Numbers) → AreLeast ts k found → SignedAt us ts k → HaveSignatures ts found ss
+    → NumbersAt ss ts k rs root → xs ≡ packets found → IsLettered (record { trees = rs; root = root; signatures = ss; least = xs })
 found_lettered ts k found us ss rs root xs least (t, at, signed) have numbers are =
     let (r, root_at, numbered) = numbers t at in
-    subst (λ ys. IsLettered (record { trees = rs; root = root; signatures = ss; least = ys })) (sym are) (is_lettered ts k found least ss have t at rs root r root_at numbered)
+    subst (λ ys. IsLettered (record { trees = rs; root = root; signatures = ss; least = ys })) (sym are)
+    (is_lettered ts k found least ss have t at rs root r root_at numbered)
 
 -- they are those of the trees
-pub found_partition : (ts : List (Tree (List Bool))) (k : ℕ) (found : List Least) (us : List (Tree Bool)) (ss : List (List Bool)) (rs : List (Tree ℕ)) (root : ℕ) (xs : List Numbers) → AreLeast ts k found → SignedAt us ts k → HaveSignatures ts found ss → NumbersAt ss ts k rs root → xs ≡ packets found → IsPartition us (record { trees = rs; root = root; signatures = ss; least = xs })
+pub found_partition : (ts : List (Tree (List Bool))) (k : ℕ) (found : List Least) (us : List (Tree Bool)) (ss : List (List Bool))
+    (rs : List (Tree ℕ)) (root : ℕ) (xs : List Numbers) → AreLeast ts k found → SignedAt us ts k → HaveSignatures ts found ss
+    → NumbersAt ss ts k rs root → xs ≡ packets found → IsPartition us (record { trees = rs; root = root; signatures = ss; least = xs })
 found_partition ts k found us ss rs root xs least (t, at, signed) have numbers are =
     let (r, root_at, numbered) = numbers t at in
-    subst (λ ys. IsPartition us (record { trees = rs; root = root; signatures = ss; least = ys })) (sym are) (is_partition ts k found least ss have t at rs root r root_at numbered us signed)
+    subst (λ ys. IsPartition us (record { trees = rs; root = root; signatures = ss; least = ys })) (sym are)
+    (is_partition ts k found least ss have t at rs root r root_at numbered us signed)
 
 -- the signed node is there
 pub signed_there : (us : List (Tree Bool)) (ts : List (Tree (List Bool))) (k : ℕ) → SignedAt us ts k → k < length ts

@@ -1,5 +1,6 @@
 -- The places of signatures in lists of them.
-use Rattle.std.proofs.Common.{ℕ, zero, suc, ◌<◌, ◌≤◌, ◌≡◌, ◌∙◌, Bool, true, false, List, [], ◌∷◌, ◌++◌, None, Some, length, get_or, refl, sym, ap, subst, inl, inr, arith}
+use Rattle.std.proofs.Common.{ℕ, zero, suc, ◌<◌, ◌≤◌, ◌≡◌, ◌∙◌, Bool, true, false, List, [], ◌∷◌, ◌++◌, None, Some, length, get_or, refl}
+use Rattle.std.proofs.Common.{sym, ap, subst, inl, inr, arith}
 use Rattle.std.specs.Prelude.{cond, if◌then◌else◌, nat_lt}
 use Rattle.std.specs.List.{list_any, position, position_or_len}
 use Rattle.std.proofs.lemmas.Bool.Decides.{leb_tells}
@@ -47,7 +48,8 @@ place_found ts s k found = by (nat_lt (position_or_len (truths_eq s) ts) (length
 -- where it finds none, the place is the length
 pub place_missing : (ts : List (List Bool)) (s : List Bool) → None ≡ position (truths_eq s) ts → length ts ≡ place_in ts s
 place_missing ts s none = elim (leb_tells (suc (position_or_len (truths_eq s) ts)) (length ts)) [
-  | inl less ↦ let found : position (truths_eq s) ts ≡ Some (position_or_len (truths_eq s) ts) = ap (λ b. cond b (Some (position_or_len (truths_eq s) ts)) None) less.0 in absurd cc
+  | inl less ↦ let found : position (truths_eq s) ts ≡ Some (position_or_len (truths_eq s) ts) =
+      ap (λ b. cond b (Some (position_or_len (truths_eq s) ts)) None) less.0 in absurd cc
   | inr over ↦ omega (arith, over.1, first_place ts s, place_within ts s)
 ]
 
@@ -77,7 +79,8 @@ place_before (t ∷ ts) (suc k) within = elim (cases_Bool (truths_eq t (get_or t
 ]
 
 -- the place of a signature among different ones is where it stands
-pub own_place : (ts : List (List Bool)) → ((i j : ℕ) → i < length ts → j < length ts → get_or ts i [] ≡ get_or ts j [] → i ≡ j) → (k : ℕ) → k < length ts → place_in ts (get_or ts k []) ≡ k
+pub own_place : (ts : List (List Bool)) → ((i j : ℕ) → i < length ts → j < length ts → get_or ts i [] ≡ get_or ts j [] → i ≡ j) → (k : ℕ)
+    → k < length ts → place_in ts (get_or ts k []) ≡ k
 own_place ts differ k within =
     let before = place_before ts k within in
     differ (place_in ts (get_or ts k [])) k (omega arith) within (at_place ts (get_or ts k []) (omega arith))

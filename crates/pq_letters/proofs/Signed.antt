@@ -1,5 +1,6 @@
 -- Diagrams that say which of some predicates hold.
-use Rattle.std.proofs.Common.{ℕ, ◌<◌, ◌≤◌, ◌≡◌, ◌∙◌, Bool, true, false, List, [], ◌∷◌, ◌++◌, take, drop, get_or, length, Some, if◌then◌else◌, refl, sym, ap, subst, inl, inr, arith}
+use Rattle.std.proofs.Common.{ℕ, ◌<◌, ◌≤◌, ◌≡◌, ◌∙◌, Bool, true, false, List, [], ◌∷◌, ◌++◌, take, drop, get_or, length, Some}
+use Rattle.std.proofs.Common.{if◌then◌else◌, refl, sym, ap, subst, inl, inr, arith}
 use Rattle.std.specs.Prelude.{slice_get, All}
 use Rattle.std.proofs.lemmas.List.{map-append, take-append-drop}
 use Rattle.std.proofs.lemmas.List.Elements.{All-head}
@@ -18,7 +19,8 @@ use Rattle.pq_apply.proofs.Pairs.{fit_there}
 use Rattle.pq_letters.specs.Letters.{SignedAt, truths}
 
 -- a choice between the two signatures of one predicate says whether it holds
-pub one_says : (cs : List (Tree Bool)) (old new : List (Tree (List Bool))) (k i j id : ℕ) → slice_get old i ≡ Some (Tip (true ∷ [])) → slice_get old j ≡ Some (Tip (false ∷ []))
+pub one_says : (cs : List (Tree Bool)) (old new : List (Tree (List Bool))) (k i j id : ℕ) → slice_get old i ≡ Some (Tip (true ∷ []))
+    → slice_get old j ≡ Some (Tip (false ∷ []))
     → ChoosesAt cs k old i j new id → (u : Tree Bool) → slice_get cs k ≡ Some u → SignedAt (u ∷ []) new id
 one_says cs old new k i j id yes_is no_is chooses u u_is =
     let found = chooses u (Tip (true ∷ [])) (Tip (false ∷ [])) u_is yes_is no_is in
@@ -39,7 +41,8 @@ one_says cs old new k i j id yes_is no_is chooses u u_is =
     by false = refl
 
 -- a product that appends signatures says what the first tree says and then what the second says
-pub both_say : (R : List Bool → List Bool → List Bool → Type 0) (ls rs new : List (Tree (List Bool))) (x y id : ℕ) → ((a b c : List Bool) → R a b c → c ≡ a ++ b)
+pub both_say : (R : List Bool → List Bool → List Bool → Type 0) (ls rs new : List (Tree (List Bool))) (x y id : ℕ)
+    → ((a b c : List Bool) → R a b c → c ≡ a ++ b)
     → IsProduct R ls x rs y new id → (us vs : List (Tree Bool)) → SignedAt us ls x → SignedAt vs rs y → SignedAt (us ++ vs) new id
 both_say R ls rs new x y id appends made us vs (t, t_is, left) (u, u_is, right) = (
   made.product,
@@ -58,25 +61,30 @@ both_say R ls rs new x y id appends made us vs (t, t_is, left) (u, u_is, right) 
 )
 
 -- the trees that say what others say may come together where the others may
-pub both_fit : (us vs : List (Tree Bool)) (ls rs : List (Tree (List Bool))) (x y : ℕ) → FitTogetherAll (us ++ vs) → SignedAt us ls x → SignedAt vs rs y → FitTogetherAt ls x rs y
+pub both_fit : (us vs : List (Tree Bool)) (ls rs : List (Tree (List Bool))) (x y : ℕ) → FitTogetherAll (us ++ vs) → SignedAt us ls x
+    → SignedAt vs rs y → FitTogetherAt ls x rs y
 both_fit us vs ls rs x y fit (t, t_is, left) (u, u_is, right) =
     fit_there ls x rs y t u t_is u_is
     (room_for (λ ns within. (left.tests ns (all_front (Within ns) us vs within), right.tests ns (all_back (Within ns) us vs within))) fit)
 
 -- the trees at the first places and then those at the places behind them are the trees at all places
-pub both_parts : (ts : List (Tree Bool)) (ids front back : List ℕ) (m : ℕ) → front ≡ take m ids → back ≡ drop m ids → trees_at ts front ++ trees_at ts back ≡ trees_at ts ids
+pub both_parts : (ts : List (Tree Bool)) (ids front back : List ℕ) (m : ℕ) → front ≡ take m ids → back ≡ drop m ids
+    → trees_at ts front ++ trees_at ts back ≡ trees_at ts ids
 both_parts ts ids front back m front_is back_is =
     sym (map-append (λ id. get_or ts id (Tip false)) front back)
     ∙ ap (trees_at ts) (ap (λ k. k ++ back) front_is ∙ (ap (λ k. take m ids ++ k) back_is ∙ take-append-drop m ids))
 
 -- at one place there is one tree
-pub only_tree : (ts : List (Tree Bool)) (ids : List ℕ) (i : ℕ) (u : Tree Bool) → length ids < 2 → 1 ≤ length ids → i ≡ get_or ids 0 i → slice_get ts i ≡ Some u → trees_at ts ids ≡ u ∷ []
+pub only_tree : (ts : List (Tree Bool)) (ids : List ℕ) (i : ℕ) (u : Tree Bool) → length ids < 2 → 1 ≤ length ids → i ≡ get_or ids 0 i
+    → slice_get ts i ≡ Some u → trees_at ts ids ≡ u ∷ []
 only_tree ts [] i u short long is u_is = absurd (omega arith)
-only_tree ts (id ∷ []) i u short long is u_is = ap (λ k. get_or ts k (Tip false) ∷ []) (sym is) ∙ ap (λ t. t ∷ []) (get_or_from_slice_get ts i u (Tip false) u_is)
+only_tree ts (id ∷ []) i u short long is u_is = ap (λ k. get_or ts k (Tip false) ∷ []) (sym is)
+    ∙ ap (λ t. t ∷ []) (get_or_from_slice_get ts i u (Tip false) u_is)
 only_tree ts (a ∷ b ∷ ids) i u short long is u_is = absurd (omega arith)
 
 -- so what says whether that tree is true says which of all are
-pub only_says : (ts : List (Tree Bool)) (ids : List ℕ) (i : ℕ) (new : List (Tree (List Bool))) (id : ℕ) → length ids < 2 → 1 ≤ length ids → i ≡ get_or ids 0 i → All (λ k. k < length ts) ids
+pub only_says : (ts : List (Tree Bool)) (ids : List ℕ) (i : ℕ) (new : List (Tree (List Bool))) (id : ℕ) → length ids < 2 → 1 ≤ length ids
+    → i ≡ get_or ids 0 i → All (λ k. k < length ts) ids
     → ((u : Tree Bool) → slice_get ts i ≡ Some u → SignedAt (u ∷ []) new id) → SignedAt (trees_at ts ids) new id
 only_says ts ids i new id short long is within signed =
     let u = at_place ts i (subst (λ k. k < length ts) (sym is) (within 0 i long)) in

@@ -1,5 +1,6 @@
 -- The least packets of letters spell words of letters.
-use Rattle.std.proofs.Common.{◌≡◌, ◌<◌, ℕ, Bool, true, false, List, [], ◌∷◌, ◌++◌, Some, length, get_or, flat_map, refl, sym, ap, ap₂, subst, ◌∙◌, inl, inr, arith}
+use Rattle.std.proofs.Common.{◌≡◌, ◌<◌, ℕ, Bool, true, false, List, [], ◌∷◌, ◌++◌, Some, length, get_or, flat_map, refl, sym, ap, ap₂}
+use Rattle.std.proofs.Common.{subst, ◌∙◌, inl, inr, arith}
 use Rattle.std.specs.Option.{unwrap_or}
 use Rattle.std.proofs.lemmas.List.Elements.{All-head, All-tail}
 use Rattle.std.proofs.lemmas.List.{length-map}
@@ -68,7 +69,8 @@ module _ (a : LettersValue) (lettered : IsLettered a) where
 
   -- a packet isn't before the least packet of its letter
   not_less : (o : Observation) → Fit (observed_packet o) → precedes (observed_packet o) (least_packet a o) ≡ false
-  not_less o fit = subst (λ y. precedes (observed_packet o) y ≡ false) (sym (observed_least a o)) ((is_least o fit).least (observed_packet o) fit (letter_is (observed_packet o) fit).1)
+  not_less o fit = subst (λ y. precedes (observed_packet o) y ≡ false) (sym (observed_least a o))
+      ((is_least o fit).least (observed_packet o) fit (letter_is (observed_packet o) fit).1)
 
   -- a word's packets aren't before the least packets of its letters
   not_less_spelling : (w : Word) → AllObservedFit w → is_before (spelling w) (spelling (least_word a w)) ≡ false
@@ -96,7 +98,8 @@ module _ (a : LettersValue) (lettered : IsLettered a) where
   one_letter o p same = observed_least a o ∙ ap (λ k. get_or a.least k zero_packet) same ∙ sym (observed_least a p)
 
   -- of two words as long as each other, the least packets of the one with the lesser letters are the lesser ones
-  lesser_spelling : (v w : Word) → AllObservedFit w → length v ≡ length w → is_before (letters_of a v) (letters_of a w) ≡ true → is_before (spelling (least_word a v)) (spelling (least_word a w)) ≡ true
+  lesser_spelling : (v w : Word) → AllObservedFit w → length v ≡ length w → is_before (letters_of a v) (letters_of a w) ≡ true
+      → is_before (spelling (least_word a v)) (spelling (least_word a w)) ≡ true
   lesser_spelling [] [] fit long less = less
   lesser_spelling [] (p ∷ w) fit long less = absurd (omega arith)
   lesser_spelling (o ∷ v) [] fit long less = less
@@ -113,14 +116,17 @@ module _ (a : LettersValue) (lettered : IsLettered a) where
       ]
 
   -- of two words of least packets the one with the lesser letters is the lesser
-  pub lesser_word : (v w : Word) → AllObservedFit w → letters_are_before (letters_of a v) (letters_of a w) ≡ true → word_is_before (least_word a v) (least_word a w) ≡ true
+  pub lesser_word : (v w : Word) → AllObservedFit w → letters_are_before (letters_of a v) (letters_of a w) ≡ true
+      → word_is_before (least_word a v) (least_word a w) ≡ true
   lesser_word v w fit less =
       let numbered : (u : Word) → length (letters_of a u) ≡ length u = λ u. length-map u (letter a) in
       let spelled : (u : Word) → length (least_word a u) ≡ length u = λ u. length-map u (least_observation a) in
       elim (first_or_rest (length (letters_of a v)) (length (letters_of a w)) (letters_of a v) (letters_of a w) less) [
-        | inl shorter ↦ by_first (length (least_word a v)) (length (least_word a w)) (spelling (least_word a v)) (spelling (least_word a w)) (omega (arith, numbered v, numbered w, spelled v, spelled w))
+        | inl shorter ↦ by_first (length (least_word a v)) (length (least_word a w)) (spelling (least_word a v)) (spelling (least_word a w))
+            (omega (arith, numbered v, numbered w, spelled v, spelled w))
         | inr same ↦
             let long : length v ≡ length w = sym (numbered v) ∙ same.0 ∙ numbered w in
-            subst (λ n. is_before (length (least_word a v) ∷ spelling (least_word a v)) (n ∷ spelling (least_word a w)) ≡ true) (spelled v ∙ long ∙ sym (spelled w))
+            subst (λ n. is_before (length (least_word a v) ∷ spelling (least_word a v)) (n ∷ spelling (least_word a w)) ≡ true) (spelled v
+            ∙ long ∙ sym (spelled w))
             (same_first (length (least_word a v)) (spelling (least_word a v)) (spelling (least_word a w)) ∙ lesser_spelling v w fit long same.1)
       ]

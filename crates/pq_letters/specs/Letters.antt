@@ -25,7 +25,8 @@ pub record LettersValue : Type 0 where
 abbrev pub letters_code : Coded LettersValue
 letters_code =
     code_by (List (Tree ℕ) × (ℕ × (List (List Bool) × List Numbers)))
-    (coded× (coded_list (coded_tree tests.the_row.coded coded_ℕ)) (coded× coded_ℕ (coded× (coded_list (coded_list coded_bool)) (coded_list packet.the_row.coded))))
+    (coded× (coded_list (coded_tree tests.the_row.coded coded_ℕ))
+    (coded× coded_ℕ (coded× (coded_list (coded_list coded_bool)) (coded_list packet.the_row.coded))))
     (λ a. (a.trees, (a.root, (a.signatures, a.least)))) (λ p. record { trees = p.0; root = p.1.0; signatures = p.1.1.0; least = p.1.1.1 }) (λ _. refl)
 
 -- the letter of a packet

@@ -43,7 +43,8 @@ module _ (T : Topology) (h : Tagging) (more : Departures) where
   trees_in (s ∷ ss) [] come = absurd come
   trees_in (s ∷ ss) (ms ∷ all) come = record { first = come.0.0.first; second = come.0.0.second } ∷ trees_in ss all come.1
 
-  are_in : (ss : List Switch) (all : List (List Message)) (come : AllZip Comes ss all) → AllZip (λ s t. AreTrees T h more s.datapath t.first t.second) ss (trees_in ss all come)
+  are_in : (ss : List Switch) (all : List (List Message)) (come : AllZip Comes ss all)
+      → AllZip (λ s t. AreTrees T h more s.datapath t.first t.second) ss (trees_in ss all come)
   are_in [] [] come = tt
   are_in [] (ms ∷ all) come = absurd come
   are_in (s ∷ ss) [] come = absurd come
@@ -53,7 +54,8 @@ module _ (T : Topology) (h : Tagging) (more : Departures) where
   module _ (g : Tagging) (writes : Departures)
       (move : (d : ℕ) → d < 2 ^ 64 → (a : ArrivingTrees) (b : LeavingTrees) → AreTrees T h more d a b → AreTrees T g writes d a b) where
     serve : (ss : List Switch) (all : List (List Message)) (come : AllZip Comes ss all) → first_fault table_fault ss (trees_in ss all come) ≡ None
-        → first_fault group_fault ss (trees_in ss all come) ≡ None → AllByRecursion IsLawfulSwitch ss → AllByRecursion IsLawfulList all → AllZip (IsServed T g writes) ss all
+        → first_fault group_fault ss (trees_in ss all come) ≡ None → AllByRecursion IsLawfulSwitch ss → AllByRecursion IsLawfulList all
+        → AllZip (IsServed T g writes) ss all
     serve [] [] come tables groups switches lists = tt
     serve [] (ms ∷ all) come tables groups switches lists = absurd come
     serve (s ∷ ss) [] come tables groups switches lists = absurd come
@@ -73,7 +75,8 @@ module _ (T : Topology) (h : Tagging) (more : Departures) where
           serve ss all come.1 table.1 group.1 switches.1 lists.1,
         )
 
-module _ (depart : PartsDepart) (tag : ClassesTag) (d : DocumentTree) (is : List Instance) (a : LettersValue) (m : Machine) (classified : AreClassified d is a m) where
+module _ (depart : PartsDepart) (tag : ClassesTag) (d : DocumentTree) (is : List Instance) (a : LettersValue) (m : Machine)
+    (classified : AreClassified d is a m) where
   -- what the diagram of some parts leaves at ports, and the tags of the classes, are the document's with these parts
   pub laid_with : (ps : List (Named PolicyTree)) (forward : List (Tree (List Written))) (k : ℕ) (at : ForwardsAt (with_parts d ps) forward k)
       → IsLaidFor (with_parts d ps) (tagging_of a m) (departing d.topology (value at.0))
@@ -84,7 +87,8 @@ module _ (depart : PartsDepart) (tag : ClassesTag) (d : DocumentTree) (is : List
   }
 
   -- the old messages serve the switches by what the old diagram leaves at ports, and by these tags
-  pub served_before : HasOneSetOfTrees → IsCompilable d → (forward : List (Tree (List Written))) (before : ℕ) (old : Install) (was : IsBefore d forward before old)
+  pub served_before : HasOneSetOfTrees → IsCompilable d
+      → (forward : List (Tree (List Written))) (before : ℕ) (old : Install) (was : IsBefore d forward before old)
       → AllZip (IsServed d.topology (tagging_of a m) (departing d.topology (value was.forwards.0))) d.topology.switches old.messages
   served_before one can forward before old was =
       let T = d.topology in
@@ -96,9 +100,11 @@ module _ (depart : PartsDepart) (tag : ClassesTag) (d : DocumentTree) (is : List
       let are : AreAllTrees T install.tags install.writes trees = are_in T install.tags install.writes T.switches old.messages come in
       let none = none_told T install.tags install.writes trees are (was.within install.tags install.writes install.laid) in
       let both = or_nothing (first_fault table_fault T.switches trees) (first_fault group_fault T.switches trees) none in
-      let move = one T (parts_in (with_parts d was.parts)) (queries_in d) install.tags g install.writes writes install.laid (laid_with was.parts forward before was.forwards) in
+      let move = one T (parts_in (with_parts d was.parts)) (queries_in d) install.tags g install.writes writes install.laid
+      (laid_with was.parts forward before was.forwards) in
       serve T install.tags install.writes g writes move T.switches old.messages come both.0 both.1
-      (recursion_from_All IsLawfulSwitch T.switches can.lawful.topology.lawful.switches) (recursion_from_All IsLawfulList old.messages was.installed.lawful.messages)
+      (recursion_from_All IsLawfulSwitch T.switches can.lawful.topology.lawful.switches)
+      (recursion_from_All IsLawfulList old.messages was.installed.lawful.messages)
 
   pub served_at_before : HasOneSetOfTrees → IsCompilable d → (forward : List (Tree (List Written))) (before : ℕ) (old : Install) → IsBefore d forward before old
       → AreServedAt d.topology forward before a m old.messages

@@ -27,7 +27,8 @@ module _ {L : Type 0} where
   side_value false x y n = refl
 
   -- so does the side that the switch's number decides
-  pub behind_side : (d : ℕ) (ts : List (Tree L)) (from at : ℕ) (s : Test) (i j next : ℕ) → IsBehind d ts from at → ShowsBranch ts at s i j → rank (field_of s) ≡ rank Switch
+  pub behind_side : (d : ℕ) (ts : List (Tree L)) (from at : ℕ) (s : Test) (i j next : ℕ) → IsBehind d ts from at → ShowsBranch ts at s i j
+      → rank (field_of s) ≡ rank Switch
       → next ≡ (if decides s d then i else j) → IsBehind d ts from next
   behind_side d ts from at s i j next behind shows same is =
       let there = side_is (decides s d) ts i j next shows.yes_tree shows.no_tree shows.yes_is shows.no_is is in
@@ -36,6 +37,7 @@ module _ {L : Type 0} where
         agrees = λ x.
             let z = at_switch d x in
             let told : value (if decides s d then shows.yes_tree else shows.no_tree) z ≡ value (Fork s shows.yes_tree shows.no_tree) z =
-            side_value (decides s d) z shows.yes_tree shows.no_tree ∙ ap (λ b. if b then value shows.yes_tree z else value shows.no_tree z) (sym (passes_set s Switch d x same)) in
+            side_value (decides s d) z shows.yes_tree shows.no_tree
+            ∙ ap (λ b. if b then value shows.yes_tree z else value shows.no_tree z) (sym (passes_set s Switch d x same)) in
             ap (option_map (λ t. value t z)) there ∙ (ap Some told ∙ (ap (option_map (λ t. value t z)) (sym shows.is) ∙ behind.agrees x));
       }

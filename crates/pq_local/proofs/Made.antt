@@ -28,7 +28,8 @@ use Rattle.pq_rules.specs.Refusals.{FitRules}
 use Rattle.pq_rules.specs.Tables.{arriving_trees, leaving_trees}
 use Rattle.pq_classes.specs.Letters.{TestsQueries}
 use Rattle.pq_meaning.specs.Parts.{IsUnionOfParts}
-use Rattle.pq_join.specs.Sound.{ArrivingAreSound, ArrivingStandBelow, ArrivingTestPorts, HasTags, IgnoresLacking, LeavingAreSound, LeavingStandBelow, LeavingTestPorts}
+use Rattle.pq_join.specs.Sound.{ArrivingAreSound, ArrivingStandBelow, ArrivingTestPorts, HasTags, IgnoresLacking, LeavingAreSound}
+use Rattle.pq_join.specs.Sound.{LeavingStandBelow, LeavingTestPorts}
 use Rattle.pq_join.specs.Switch.{AllTestPorts, TestPortsAt}
 use Rattle.pq_join.specs.Tags.{tagging_of}
 use Rattle.pq_emit.specs.Network.{StandBelowAll}
@@ -51,7 +52,8 @@ pub one_sound : (d : DocumentTree) → IsCompilable d → (a : LettersValue) (m 
     → (firsts : List (Tree (Option Arrive))) (seconds : List (Tree (List Outgoing))) (s : Switch) (t : SwitchTrees) → s.datapath < 2 ^ 64
     → IsSwitchAt d.topology (tagging_of a m) (departing d.topology (value policy.0)) firsts seconds s t
     → AllTestPorts forward k a firsts t.arriving.items seconds t.leaving.items → IsSoundAt firsts seconds t
-one_sound d is a m tags forward k policy diagram idle_free ignores lt at letters_ignore tests arriving_sound leaving_sound arriving_below leaving_below arriving_ports leaving_ports firsts seconds s t small are ports =
+one_sound d is a m tags forward k policy diagram idle_free ignores lt at letters_ignore tests arriving_sound leaving_sound arriving_below
+    leaving_below arriving_ports leaving_ports firsts seconds s t small are ports =
     let T = d.topology in
     let g = tagging_of a m in
     let p = policy.0 in
@@ -62,9 +64,11 @@ one_sound d is a m tags forward k policy diagram idle_free ignores lt at letters
       λ b t made f. leaving_below T a m e fits lt at letters_ignore p idle_free ignores b t made f,
     ) in
     let sound = sound_layout T a m p tags idle_free arriving_sound leaving_sound arriving_ports leaving_ports diagram own_ports below in
-    let policy_tests : TestPortsAt forward k = λ t there v tested. inl (own_ports v (subst (IsTested (Equal Port v)) (same_Some t p (sym there ∙ policy.1)) tested)) in
+    let policy_tests : TestPortsAt forward k =
+    λ t there v tested. inl (own_ports v (subst (IsTested (Equal Port v)) (same_Some t p (sym there ∙ policy.1)) tested)) in
     let placed = placed_ports T g writes firsts seconds s.datapath t are.0 are.1 (ports policy_tests (letter_ports d is a tests)) in
-    let both = sound s.datapath (arriving_trees firsts t.arriving.items) (leaving_trees seconds t.leaving.items) small (switch_located T g writes firsts seconds s t are)
+    let both = sound s.datapath (arriving_trees firsts t.arriving.items) (leaving_trees seconds t.leaving.items) small
+    (switch_located T g writes firsts seconds s t are)
     (tests_with key_word firsts t.arriving.items placed.0) (tests_with tag_word seconds t.leaving.items placed.1) in
     record {
       arriving_ids = within_store (IsArriving T g s.datapath) firsts (keys_of g) t.arriving.items are.0;
@@ -74,7 +78,8 @@ one_sound d is a m tags forward k policy diagram idle_free ignores lt at letters
     }
 
 -- messages of trees that give tables
-pub made_served : (T : Topology) (g : Tagging) (writes : Departures) (firsts : List (Tree (Option Arrive))) (seconds : List (Tree (List Outgoing))) (s : Switch) (t : SwitchTrees) (ms : List Message)
+pub made_served : (T : Topology) (g : Tagging) (writes : Departures) (firsts : List (Tree (Option Arrive)))
+    (seconds : List (Tree (List Outgoing))) (s : Switch) (t : SwitchTrees) (ms : List Message)
     → IsSwitchAt T g writes firsts seconds s t → ms ≡ messages_of (arriving_trees firsts t.arriving.items) (leaving_trees seconds t.leaving.items)
     → AreFilled (arriving_trees firsts t.arriving.items) (leaving_trees seconds t.leaving.items)
     → FitRules s.limit (arriving_trees firsts t.arriving.items) (leaving_trees seconds t.leaving.items) → IsLawfulList ms → IsServed T g writes s ms

@@ -31,8 +31,16 @@ module _ (T : Topology) (g : Tagging) (writes more : Departures) where
   leaving_moved d same [] (p ∷ ps) all = absurd all
   leaving_moved d same (k ∷ ks) [] all = absurd all
   leaving_moved d same (k ∷ ks) (p ∷ ps) all =
-      let tree = all.0.1 in
-      ((all.0.0, record { gives = λ x fit. tree.gives x fit ∙ ap (copies_of T g k (at_switch d x)) (same x); diagram = tree.diagram }), leaving_moved d same ks ps all.1)
+      let tree = all.0.1 in (
+        (
+          all.0.0,
+          record {
+            gives = λ x fit. tree.gives x fit ∙ ap (copies_of T g k (at_switch d x)) (same x);
+            diagram = tree.diagram;
+          },
+        ),
+        leaving_moved d same ks ps all.1,
+      )
 
   served_moved : (s : Switch) (ms : List Message) → DepartAlike s.datapath → IsServed T g writes s ms → IsServed T g more s ms
   served_moved s ms same old =

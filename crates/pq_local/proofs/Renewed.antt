@@ -45,7 +45,8 @@ module _ (T : Topology) (g : Tagging) (writes : Departures) where
       zip_weaker (IsServed T g writes) IsFrom
       (λ s ms is. (record { first = is.trees.first; second = is.trees.second; trees = is.are; messages = is.made.messages }, is.made.filled)) ss all served
 
-  pub all_messages : (ss : List Switch) (all : List (List Message)) → AllZip (IsServed T g writes) ss all → AllZip (λ s ms. AreMessages T g writes s.datapath ms) ss all
+  pub all_messages : (ss : List Switch) (all : List (List Message)) → AllZip (IsServed T g writes) ss all
+      → AllZip (λ s ms. AreMessages T g writes s.datapath ms) ss all
   all_messages ss all served = zip_weaker IsFrom (λ s ms. AreMessages T g writes s.datapath ms) (λ s ms from. from.0) ss all (all_from ss all served)
 
   abbrev trees_in : (ss : List Switch) (all : List (List Message)) → AllZip (IsServed T g writes) ss all → List TablesTrees
@@ -76,8 +77,10 @@ module _ (T : Topology) (g : Tagging) (writes : Departures) where
       nothing_or (first_fault table_fault T.switches trees) (first_fault group_fault T.switches trees)
       (none_in table_fault (λ s ms is. is.tables) T.switches all served) (none_in group_fault (λ s ms is. is.groups) T.switches all served)
 
-module _ (depart : PartsDepart) (tag : ClassesTag) (d : DocumentTree) (is : List Instance) (a : LettersValue) (m : Machine) (classified : AreClassified d is a m) (can : IsCompilable d)
-    (forward : List (Tree (List Written))) (policy : ℕ) (forwards : ForwardsAt d forward policy) (all : List (List Message)) (at : AreServedAt d.topology forward policy a m all) where
+module _ (depart : PartsDepart) (tag : ClassesTag) (d : DocumentTree) (is : List Instance) (a : LettersValue) (m : Machine)
+    (classified : AreClassified d is a m) (can : IsCompilable d)
+    (forward : List (Tree (List Written))) (policy : ℕ) (forwards : ForwardsAt d forward policy) (all : List (List Message))
+    (at : AreServedAt d.topology forward policy a m all) where
   abbrev tags : Tagging
   tags = tagging_of a m
 
@@ -86,13 +89,15 @@ module _ (depart : PartsDepart) (tag : ClassesTag) (d : DocumentTree) (is : List
 
   served : AllZip (IsServed d.topology tags writes) d.topology.switches all
   served =
-      zip_weaker (IsServedAt d.topology forward policy a m) (IsServed d.topology tags writes) (λ s ms serves. serves forwards.0 forwards.1) d.topology.switches all at
+      zip_weaker (IsServedAt d.topology forward policy a m) (IsServed d.topology tags writes)
+      (λ s ms serves. serves forwards.0 forwards.1) d.topology.switches all at
 
   -- all tables are within the limits
   pub tables_small : AreTablesWithin d
   tables_small =
       tables_within d can.lawful.topology.lawful tags writes (laid_with depart tag d is a m classified d.parts forward policy forwards)
-      (no_fault d.topology tags writes (trees_in d.topology tags writes d.topology.switches all served) (are_in d.topology tags writes d.topology.switches all served)
+      (no_fault d.topology tags writes (trees_in d.topology tags writes d.topology.switches all served)
+      (are_in d.topology tags writes d.topology.switches all served)
       (none_full d.topology tags writes all served))
 
   module _ (one : HasOneSetOfTrees) (only : HasOneInstall) (before : ℕ) (old : Install) (was : IsBefore d forward before old) where
@@ -111,10 +116,13 @@ module _ (depart : PartsDepart) (tag : ClassesTag) (d : DocumentTree) (is : List
             topology = emission.topology;
             queries = emission.queries;
             report = refl;
-            messages = all_messages d.topology tags more d.topology.switches old.messages (served_before depart tag d is a m classified one can forward before old was);
+            messages = all_messages d.topology tags more d.topology.switches old.messages
+                (served_before depart tag d is a m classified one can forward before old was);
           };
         } in
-        ap (λ (i : Install). i.report) (only d.topology (names_in d.queries) (parts_in (with_parts d was.parts)) (queries_in d) old same can.lawful.topology.lawful was.installed.install compiled)
+        ap (λ (i : Install). i.report)
+        (only d.topology (names_in d.queries) (parts_in (with_parts d was.parts))
+        (queries_in d) old same can.lawful.topology.lawful was.installed.install compiled)
 
     abbrev pub new_install : Install
     new_install = record { topology = old.topology; queries = old.queries; report = old.report; messages = all }
@@ -122,7 +130,13 @@ module _ (depart : PartsDepart) (tag : ClassesTag) (d : DocumentTree) (is : List
     new_emission : IsEmission d.topology (names_in d.queries) writes tags (instances_of d.topology (queries_in d)) new_install
     new_emission =
         let emission = was.installed.install.emission in
-        record { topology = emission.topology; queries = emission.queries; report = old_report; messages = all_messages d.topology tags writes d.topology.switches all served }
+        record {
+          topology = emission.topology;
+          queries = emission.queries;
+          report = old_report;
+          messages =
+              all_messages d.topology tags writes d.topology.switches all served;
+        }
 
     new_lawful : IsLawfulInstall new_install
     new_lawful =
@@ -134,7 +148,8 @@ module _ (depart : PartsDepart) (tag : ClassesTag) (d : DocumentTree) (is : List
           names_differ = lawful.names_differ;
           rows = lawful.rows;
           tags_ascend = lawful.tags_ascend;
-          listed = AllZip-long (IsServed d.topology tags writes) d.topology.switches all served ∙ ap (λ (t : Topology). length t.switches) (sym was.installed.install.emission.topology);
+          listed = AllZip-long (IsServed d.topology tags writes) d.topology.switches all served
+              ∙ ap (λ (t : Topology). length t.switches) (sym was.installed.install.emission.topology);
           messages = zip_right (IsServed d.topology tags writes) IsLawfulList (λ s ms serves. serves.lawful) d.topology.switches all served;
         }
 
@@ -152,5 +167,6 @@ module _ (depart : PartsDepart) (tag : ClassesTag) (d : DocumentTree) (is : List
           install = install;
           filled = filled;
           lawful = new_lawful;
-          implements = λ m means. implement d.topology (names_in d.queries) (parts_in d) (queries_in d) new_install m can.lawful.topology.lawful install filled means;
+          implements = λ m means. implement d.topology (names_in d.queries) (parts_in d)
+              (queries_in d) new_install m can.lawful.topology.lawful install filled means;
         }

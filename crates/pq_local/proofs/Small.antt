@@ -47,20 +47,23 @@ group_named s t = by (many_copies (leaving_entries t.second))
     by None = tt
     by (Some n) = tt
 
-first_named : (fault : Switch → TablesTrees → Option RulesFault) → ((s : Switch) (t : TablesTrees) → IsNamed (fault s t)) → (ss : List Switch) (ts : List TablesTrees) → IsNamed (first_fault fault ss ts)
+first_named : (fault : Switch → TablesTrees → Option RulesFault) → ((s : Switch) (t : TablesTrees) → IsNamed (fault s t))
+    → (ss : List Switch) (ts : List TablesTrees) → IsNamed (first_fault fault ss ts)
 first_named fault named [] ts = tt
 first_named fault named (s ∷ ss) [] = tt
 first_named fault named (s ∷ ss) (t ∷ ts) = or_named (fault s t) (first_fault fault ss ts) (named s t) (first_named fault named ss ts)
 
 fault_named : (ss : List Switch) (ts : List TablesTrees) → IsNamed (fault_of ss ts)
-fault_named ss ts = or_named (first_fault table_fault ss ts) (first_fault group_fault ss ts) (first_named table_fault table_named ss ts) (first_named group_fault group_named ss ts)
+fault_named ss ts = or_named (first_fault table_fault ss ts) (first_fault group_fault ss ts) (first_named table_fault table_named ss ts)
+    (first_named group_fault group_named ss ts)
 
 none_left : (o : Option RulesFault) → IsNamed o → ((f : RulesFault) → o ≡ Some f → f ≡ Memory) → o ≡ None
 none_left None named all = refl
 none_left (Some f) named all = absurd (subst (λ e. IsNamed (Some e)) (all f refl) named)
 
 -- so trees of a network without a fault have none
-pub none_told : (T : Topology) (g : Tagging) (writes : Departures) (ts : List TablesTrees) → AreAllTrees T g writes ts → HasNoFault T g writes → fault_of T.switches ts ≡ None
+pub none_told : (T : Topology) (g : Tagging) (writes : Departures) (ts : List TablesTrees) → AreAllTrees T g writes ts
+    → HasNoFault T g writes → fault_of T.switches ts ≡ None
 none_told T g writes ts trees none = none_left (fault_of T.switches ts) (fault_named T.switches ts) (λ f is. none f (fault_told T g writes ts trees f (inr is)))
 
 -- The first fault of all switches, and the fault of each.

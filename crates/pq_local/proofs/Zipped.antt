@@ -8,7 +8,8 @@ use Rattle.std.proofs.lemmas.Slice.Zip.{all_zipped_more}
 
 module _ {A B : Type 0} where
   -- those at one place are related
-  pub zip_at : (P : A → B → Type 0) (xs : List A) (ys : List B) → AllZip P xs ys → (k : ℕ) (x : A) (y : B) → slice_get xs k ≡ Some x → slice_get ys k ≡ Some y → P x y
+  pub zip_at : (P : A → B → Type 0) (xs : List A) (ys : List B) → AllZip P xs ys → (k : ℕ) (x : A) (y : B) → slice_get xs k ≡ Some x
+      → slice_get ys k ≡ Some y → P x y
   zip_at P [] [] all k x y left right = absurd (none left)
     where
       none : slice_get {X = A} [] k ≡ Some x → ⊥
@@ -19,7 +20,8 @@ module _ {A B : Type 0} where
   zip_at P (w ∷ xs) (z ∷ ys) all (suc k) x y left right = zip_at P xs ys all.1 k x y left right
 
   -- one more place
-  pub zip_more : {V : Type 0} (P : A → B → Type 0) (items : V → B) (xs : List A) (k : ℕ) (x : A) (vs pushed : List V) (v : V) → slice_get xs k ≡ Some x → pushed ≡ vs ++ v ∷ []
+  pub zip_more : {V : Type 0} (P : A → B → Type 0) (items : V → B) (xs : List A) (k : ℕ) (x : A) (vs pushed : List V) (v : V)
+      → slice_get xs k ≡ Some x → pushed ≡ vs ++ v ∷ []
       → P x (items v) → AllZip P (take k xs) (map items vs) → AllZip P (take (k + 1) xs) (map items pushed)
   zip_more P items xs k x vs pushed v there push one all =
       let front : take (k + 1) xs ≡ take k xs ++ x ∷ [] =

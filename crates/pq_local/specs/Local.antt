@@ -67,4 +67,5 @@ pub record AreTablesOf (T : Topology) (g : Tagging) (writes : Departures) (s : S
 
 abbrev pub AreTablesAt : Topology → List (Tree (List Written)) → ℕ → LettersValue → Machine → ℕ → TablesAt → Type 0
 AreTablesAt T forward policy a m k t =
-    (s : Switch) → slice_get T.switches k ≡ Some s → (p : Tree (List Written)) → slice_get forward policy ≡ Some p → AreTablesOf T (tagging_of a m) (departing T (value p)) s t
+    (s : Switch) → slice_get T.switches k ≡ Some s → (p : Tree (List Written)) → slice_get forward policy ≡ Some p
+    → AreTablesOf T (tagging_of a m) (departing T (value p)) s t

@@ -55,12 +55,14 @@ module _ (groups : Groups) (x : Numbers) (a : Arrive) where
   arrival-runs : (v : Option ℕ) → runs (emits groups) (arrival_actions (not (vlan_word v == 0)) a) (record { packet = x; vlan = v }) ≡ arrival_sent x a
   arrival-runs None = by a.capture
     where
-      by : (b : Bool) → runs (emits groups) (arrival_actions false (record { tag = a.tag; capture = b })) (record { packet = x; vlan = None }) ≡ arrival_sent x (record { tag = a.tag; capture = b })
+      by : (b : Bool) → runs (emits groups) (arrival_actions false (record { tag = a.tag; capture = b }))
+          (record { packet = x; vlan = None }) ≡ arrival_sent x (record { tag = a.tag; capture = b })
       by true = λ i. Controller (renamed_to x (back a.tag i)) ∷ []
       by false = refl
   arrival-runs (Some t) = ap (λ b. runs (emits groups) (arrival_actions b a) (renamed_to x t)) (tagged t) ∙ by a.capture
     where
-      by : (b : Bool) → runs (emits groups) (arrival_actions true (record { tag = a.tag; capture = b })) (renamed_to x t) ≡ arrival_sent x (record { tag = a.tag; capture = b })
+      by : (b : Bool) → runs (emits groups) (arrival_actions true (record { tag = a.tag; capture = b })) (renamed_to x t)
+          ≡ arrival_sent x (record { tag = a.tag; capture = b })
       by true = λ i. Controller (renamed_to x (back a.tag i)) ∷ []
       by false = refl
 
@@ -77,10 +79,12 @@ module _ (first : ArrivingTrees) (second : LeavingTrees) (filled : AreFilled fir
   tables = renewed (renewal_of first second)
 
   -- table 1 sends what its trees say
-  second-sends : (more : ℕ) (x : Numbers) → Fit x → (t : ℕ) → sent_from_table (suc more) tables 1 (renamed_to x t) ≡ map (copy_sent x) (said_by second [] (tag_word t) x)
+  second-sends : (more : ℕ) (x : Numbers) → Fit x → (t : ℕ)
+      → sent_from_table (suc more) tables 1 (renamed_to x t) ≡ map (copy_sent x) (said_by second [] (tag_word t) x)
   second-sends more x fit t =
       rule-sends (sent_from_table more tables) tables.groups (renamed_to x t) (taken tables.entries 1 (renamed_to x t))
-      ∙ ap (sent_by_rule (sent_from_table more tables) tables.groups (renamed_to x t)) (second-found (renamed_to x t) _ _ (first_rules first) (second_rules second) (omega (arith, filled.second_few)))
+      ∙ ap (sent_by_rule (sent_from_table more tables) tables.groups (renamed_to x t))
+      (second-found (renamed_to x t) _ _ (first_rules first) (second_rules second) (omega (arith, filled.second_few)))
       ∙ leaving-sends second filled.leaving (sent_from_table more tables) x fit t
 
   module _ (more : ℕ) (x : TaggedPacket) (fit : Fit x.packet) where
@@ -92,17 +96,20 @@ module _ (first : ArrivingTrees) (second : LeavingTrees) (filled : AreFilled fir
         sent_by_rule onward tables.groups x (Some (first_rule (m, o))) ≡ sent_after (said_by second []) x.packet o
     arrival-sends m own None = refl
     arrival-sends m own (Some a) =
-        ap (λ v. runs (emits tables.groups) (arrival_actions (not (is_untagged v)) a) x ++ onward 1 (changed_by (arrival_actions (not (is_untagged v)) a) x)) own
+        ap (λ v. runs (emits tables.groups) (arrival_actions (not (is_untagged v)) a) x
+        ++ onward 1 (changed_by (arrival_actions (not (is_untagged v)) a) x)) own
         ∙ (λ i. arrival-runs tables.groups x.packet a x.vlan i ++ onward 1 (arrival-changes tables.groups x.packet a x.vlan i))
         ∙ ap (λ l. arrival_sent x.packet a ++ l) (second-sends more x.packet fit a.tag)
 
     told-sends : (o : Option Arrive) → IsTold is_nothing x (table_of is_nothing first) o →
         sent_by_rule onward tables.groups x (option_map first_rule (first_covering x (table_of is_nothing first))) ≡ sent_after (said_by second []) x.packet o
-    told-sends o (inl told) = ap (λ e. sent_by_rule onward tables.groups x (option_map first_rule e)) told.0 ∙ ap (sent_after (said_by second []) x.packet) (nothing o told.1)
+    told-sends o (inl told) = ap (λ e. sent_by_rule onward tables.groups x (option_map first_rule e)) told.0
+        ∙ ap (sent_after (said_by second []) x.packet) (nothing o told.1)
     told-sends o (inr told) = ap (λ e. sent_by_rule onward tables.groups x (option_map first_rule e)) told.1 ∙ arrival-sends told.0 told.2 o
 
     matchable : AllByRecursion (λ p. IsMatchable p.1) first
-    matchable = all_weaker (λ p. IsSoundArriving p.0 p.1) (λ p. IsMatchable p.1) (λ p h. h.matchable) first (recursion_from_All (λ p. IsSoundArriving p.0 p.1) first filled.arriving.each)
+    matchable = all_weaker (λ p. IsSoundArriving p.0 p.1) (λ p. IsMatchable p.1) (λ p h. h.matchable) first
+        (recursion_from_All (λ p. IsSoundArriving p.0 p.1) first filled.arriving.each)
 
     first-sends : sent_from_table (suc (suc more)) tables 0 x ≡ sent_by (said_by first None) (said_by second []) x
     first-sends =

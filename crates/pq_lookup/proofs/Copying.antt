@@ -1,5 +1,6 @@
 -- What the actions of arrivals and copies send.
-use Rattle.std.proofs.Common.{◌≡◌, ◌≢◌, ℕ, ◌+◌, ◌-◌, Bool, true, false, if◌then◌else◌, List, [], ◌∷◌, ◌++◌, map, Some, None, IfSome, refl, sym, ap, ◌∙◌, arith, append-nil, append_assoc}
+use Rattle.std.proofs.Common.{◌≡◌, ◌≢◌, ℕ, ◌+◌, ◌-◌, Bool, true, false, if◌then◌else◌, List, [], ◌∷◌, ◌++◌, map, Some, None, IfSome, refl}
+use Rattle.std.proofs.Common.{sym, ap, ◌∙◌, arith, append-nil, append_assoc}
 use Rattle.std.specs.List.{AllByRecursion, flat_map}
 use Rattle.std.specs.Option.{unwrap_or}
 use Rattle.std.specs.declared.option.Option.{Option}
@@ -38,7 +39,8 @@ set-changes f None y = by (has_field f y.packet)
     by false = λ i. record y { packet = sym (with_own f y.packet) i }
 set-changes f (Some n) y = by (has_field f y.packet)
   where
-    by : (b : Bool) → (if b then record y { packet = with_number f n y.packet } else y) ≡ record y { packet = with_number f (if b then n else number_in f y.packet) y.packet }
+    by : (b : Bool) → (if b then record y { packet = with_number f n y.packet } else y)
+        ≡ record y { packet = with_number f (if b then n else number_in f y.packet) y.packet }
     by true = refl
     by false = λ i. record y { packet = sym (with_own f y.packet) i }
 
@@ -88,7 +90,9 @@ module _ (w : Written) where
   headers-change : (y : TaggedPacket) → changed_by (header_actions w) y ≡ record y { packet = headers_on w y.packet }
   headers-change y =
       then-set to_udp_src UdpDst w.udp_dst y _ (then-set to_tcp_dst UdpSrc w.udp_src y _
-      (then-set to_tcp_src TcpDst w.tcp_dst y _ (then-set to_ipv4_dst TcpSrc w.tcp_src y _ (then-set to_ipv4_src Ipv4Dst w.ipv4_dst y _ (then-set to_eth_dst Ipv4Src w.ipv4_src y _
+      (then-set to_tcp_src TcpDst w.tcp_dst y _
+      (then-set to_ipv4_dst TcpSrc w.tcp_src y _
+      (then-set to_ipv4_src Ipv4Dst w.ipv4_dst y _ (then-set to_eth_dst Ipv4Src w.ipv4_src y _
       (then-set to_eth_src EthDst w.eth_dst y _ (set-changes EthSrc w.eth_src y)))))))
 
 -- the header takes the copy's tag
@@ -135,7 +139,8 @@ module _ (e : Action → TaggedPacket → List Sent) (emitting : IsEmitting e) w
   AreQuiet as_ = (bs : List Action) (y : TaggedPacket) → runs e (as_ ++ bs) y ≡ runs e bs (changed_by as_ y)
 
   quiet-append : (as_ bs : List Action) → AreQuiet as_ → AreQuiet bs → AreQuiet (as_ ++ bs)
-  quiet-append as_ bs h k cs y = ap (λ l. runs e l y) (append_assoc as_ bs cs) ∙ h (bs ++ cs) y ∙ k cs (changed_by as_ y) ∙ ap (runs e cs) (sym (changed_by-append as_ bs y))
+  quiet-append as_ bs h k cs y = ap (λ l. runs e l y) (append_assoc as_ bs cs) ∙ h (bs ++ cs) y ∙ k cs (changed_by as_ y)
+      ∙ ap (runs e cs) (sym (changed_by-append as_ bs y))
 
   set-quiet : (f : Field) (o : Option ℕ) → AreQuiet (set_field f o)
   set-quiet f None bs y = refl
@@ -162,7 +167,8 @@ module _ (e : Action → TaggedPacket → List Sent) (emitting : IsEmitting e) w
   tag-quiet (Some t) bs y = ap (λ l. l ++ runs e bs (changed (SetVlan (tag_word t)) y)) (emitting.tag (tag_word t) y)
 
   -- the actions of a copy send it and nothing else
-  pub copy-runs : (x : Numbers) (t : ℕ) (c : Outgoing) → IsSendable x c → runs e (copy_actions true c) (record { packet = x; vlan = Some t }) ≡ copy_sent x c ∷ []
+  pub copy-runs : (x : Numbers) (t : ℕ) (c : Outgoing) → IsSendable x c
+      → runs e (copy_actions true c) (record { packet = x; vlan = Some t }) ≡ copy_sent x c ∷ []
   copy-runs x t c h =
       let last = Output (output_port c.kind c.writes) ∷ [] in
       quiet-append (tag_actions true c.tag) (header_actions c.writes) (tag-quiet c.tag) (headers-quiet c.writes) last (record { packet = x; vlan = Some t })
@@ -179,5 +185,6 @@ pub buckets-run : (x : Numbers) (t : ℕ) (cs : List Outgoing) → AllByRecursio
     flat_map (λ b. runs emits_in_bucket b (record { packet = x; vlan = Some t })) (buckets_of cs) ≡ map (copy_sent x) cs
 buckets-run x t [] all = refl
 buckets-run x t (c ∷ cs) (here, all) =
-    ap (λ l. l ++ flat_map (λ b. runs emits_in_bucket b (record { packet = x; vlan = Some t })) (buckets_of cs)) (copy-runs emits_in_bucket bucket-emits x t c here)
+    ap (λ l. l ++ flat_map (λ b. runs emits_in_bucket b (record { packet = x; vlan = Some t })) (buckets_of cs))
+    (copy-runs emits_in_bucket bucket-emits x t c here)
     ∙ ap (λ l. copy_sent x c ∷ l) (buckets-run x t cs all)

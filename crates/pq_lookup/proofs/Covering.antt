@@ -25,7 +25,8 @@ use Rattle.pq_lookup.proofs.Views.{no_number, no_bits, covers-vlan}
 
 -- the packets that a match covers on a side of a test
 
-passing-covers : (t : Test) (m : MatchFields) (x : TaggedPacket) → IsLawful t → field_of t ≢ Switch → IsFresh t m → covers (passing t m) x ≡ covers m x && passes t x.packet
+passing-covers : (t : Test) (m : MatchFields) (x : TaggedPacket) → IsLawful t → field_of t ≢ Switch → IsFresh t m
+    → covers (passing t m) x ≡ covers m x && passes t x.packet
 passing-covers (Equal f v) m x lawful numbered fresh = covers-number m x f v lawful.0 numbered fresh
 passing-covers (Bit f i) m x lawful numbered fresh = covers-bit m x f i true lawful.0 lawful.1 fresh
 
@@ -75,7 +76,8 @@ module _ {L : Type 0} where
     ascends = h.ascends.3;
     once = h.once.2;
     switch = λ r tested. h.switch r (inr (inr tested));
-    fresh = λ r tested. fresh_failing s r m h.lawful.0 (lawful_tested r n h.lawful.2 tested) (before_tested s r n h.ascends.1 h.ascends.3 tested) (h.fresh s (inl refl)) (h.fresh r (inr (inr tested)));
+    fresh = λ r tested. fresh_failing s r m h.lawful.0 (lawful_tested r n h.lawful.2 tested)
+        (before_tested s r n h.ascends.1 h.ascends.3 tested) (h.fresh s (inl refl)) (h.fresh r (inr (inr tested)));
   }
 
   module _ (x : TaggedPacket) where
@@ -92,7 +94,8 @@ module _ {L : Type 0} where
     first-none [] fs h = refl
     first-none (d ∷ es) fs h = by (covers d.0 x) h (first-none es fs)
       where
-        by : (b : Bool) → (if b then Some d else first_covering x es) ≡ None → (first_covering x es ≡ None → first_covering x (es ++ fs) ≡ first_covering x fs) →
+        by : (b : Bool) → (if b then Some d else first_covering x es) ≡ None
+            → (first_covering x es ≡ None → first_covering x (es ++ fs) ≡ first_covering x fs) →
             (if b then Some d else first_covering x (es ++ fs)) ≡ first_covering x fs
         by true g more = cc
         by false g more = more g
@@ -103,7 +106,8 @@ module _ {L : Type 0} where
     Tells false es l v = first_covering x es ≡ None
 
     -- yes side first
-    joined : (b p : Bool) (es fs : List (MatchFields × L)) (l k : L) (v : Option ℕ) → Tells (b && p) es l v → (p ≡ false → Tells b fs k v) → (b ≡ false → Tells b fs k v) →
+    joined : (b p : Bool) (es fs : List (MatchFields × L)) (l k : L) (v : Option ℕ) → Tells (b && p) es l v → (p ≡ false → Tells b fs k v)
+        → (b ≡ false → Tells b fs k v) →
         Tells b (es ++ fs) (if p then l else k) v
     joined true true es fs l k v first second none = (first.0, first-some es fs (first.0, l) first.1, first.2)
     joined true false es fs l k v first second none = let found = second refl in (found.0, first-none es fs first ∙ found.1, found.2)
@@ -122,7 +126,8 @@ module _ {L : Type 0} where
         joined b (passes s x.packet) (matches_below (passing s m) y) (matches_below (failing s m) n) (value y x.packet) (value n x.packet) m.vlan
         (subst (Tells (b && passes s x.packet) (matches_below (passing s m) y) (value y x.packet)) (passing-vlan s m) in_yes)
         (λ miss. subst (Tells b (matches_below (failing s m) n) (value n x.packet)) (failing-vlan s m) (in_no (failing-covers s m x lawful fresh miss ∙ c)))
-        (λ none. subst (Tells b (matches_below (failing s m) n) (value n x.packet)) (failing-vlan s m) (in_no (failing-leaves s m x lawful fresh (c ∙ none) ∙ sym none)))
+        (λ none. subst (Tells b (matches_below (failing s m) n) (value n x.packet)) (failing-vlan s m)
+        (in_no (failing-leaves s m x lawful fresh (c ∙ none) ∙ sym none)))
 
   -- a tree stands below the match of its VLAN_VID word
   stands : (word : ℕ) (t : Tree L) → IsMatchable t → Stands (vlan_match word) t

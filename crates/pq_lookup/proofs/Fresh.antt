@@ -32,7 +32,8 @@ earlier f g i j (inl less) same = omega arith
 earlier f g i j (inr less) same = less.1
 
 -- with a bit stated, what a later test asks still isn't
-fresh_bit : (f : Field) (i : ℕ) (b : Bool) (s : Test) (m : MatchFields) → IsLawful (Bit f i) → IsLawful s → Precedes (Bit f i) s → IsFresh (Bit f i) m → IsFresh s m → IsFresh s (with_bit f i b m)
+fresh_bit : (f : Field) (i : ℕ) (b : Bool) (s : Test) (m : MatchFields) → IsLawful (Bit f i) → IsLawful s → Precedes (Bit f i) s
+    → IsFresh (Bit f i) m → IsFresh s m → IsFresh s (with_bit f i b m)
 fresh_bit f i b (Equal g u) m lawful other before own fresh = same_number f g i b m ∙ fresh
 fresh_bit f i b (Bit g j) m lawful other before own fresh = elim (cases_eq (rank f) (rank g)) [
   | inl same ↦
@@ -45,11 +46,13 @@ fresh_bit f i b (Bit g j) m lawful other before own fresh = elim (cases_eq (rank
 ]
 
 -- and so with a number
-fresh_number : (f : Field) (v : ℕ) (s : Test) (m : MatchFields) → IsLawful (Equal f v) → f ≢ Switch → AreOther (Equal f v) s → IsFresh s m → IsFresh s (with_number f v m)
+fresh_number : (f : Field) (v : ℕ) (s : Test) (m : MatchFields) → IsLawful (Equal f v) → f ≢ Switch → AreOther (Equal f v) s → IsFresh s m
+    → IsFresh s (with_number f v m)
 fresh_number f v (Equal g u) m lawful numbered other fresh = other_number f g v m lawful.0 numbered other ∙ fresh
 fresh_number f v (Bit g j) m lawful numbered other fresh = subst (AreWhole (width_of g - j)) (sym (same_bits f g v m)) fresh
 
-pub fresh_passing : (t s : Test) (m : MatchFields) → IsLawful t → IsLawful s → field_of t ≢ Switch → Precedes t s → AreOther t s → IsFresh t m → IsFresh s m → IsFresh s (passing t m)
+pub fresh_passing : (t s : Test) (m : MatchFields) → IsLawful t → IsLawful s → field_of t ≢ Switch → Precedes t s → AreOther t s
+    → IsFresh t m → IsFresh s m → IsFresh s (passing t m)
 fresh_passing (Equal f v) s m lawful later numbered before other own fresh = fresh_number f v s m lawful numbered other fresh
 fresh_passing (Bit f i) s m lawful later numbered before other own fresh = fresh_bit f i true s m lawful later before own fresh
 

@@ -83,7 +83,8 @@ in-once b (c ∷ cs) (inr later) = by (same_buckets c b) refl (in-once b cs late
     by true e k = inl (buckets_exact c b e)
     by false e k = inr (in-filter (λ d. not (same_buckets c d)) b (ap not e) (each_once cs) k)
 
-in-needed : (b : Buckets) (e : MatchFields × List Outgoing) → group_needed e.1 ≡ Some b → (es : List (MatchFields × List Outgoing)) → IsIn e es → IsIn b (filter_map (λ d. group_needed d.1) es)
+in-needed : (b : Buckets) (e : MatchFields × List Outgoing) → group_needed e.1 ≡ Some b → (es : List (MatchFields × List Outgoing))
+    → IsIn e es → IsIn b (filter_map (λ d. group_needed d.1) es)
 in-needed b e needed [] i = absurd i
 in-needed b e needed (d ∷ es) (inl is) = by (group_needed d.1) (ap (λ (c : MatchFields × List Outgoing). group_needed c.1) is ∙ needed)
   where
@@ -105,7 +106,8 @@ first-in {L} x (d ∷ es) e h = by (covers d.0 x) h (first-in x es e)
     by true k more = inl (same_Some d e k)
     by false k more = inr (more k)
 
-pub in-groups : (b : Buckets) (e : MatchFields × List Outgoing) → group_needed e.1 ≡ Some b → (es : List (MatchFields × List Outgoing)) → IsIn e es → IsIn b (groups_of es)
+pub in-groups : (b : Buckets) (e : MatchFields × List Outgoing) → group_needed e.1 ≡ Some b → (es : List (MatchFields × List Outgoing))
+    → IsIn e es → IsIn b (groups_of es)
 in-groups b e needed es i = in-once b (filter_map (λ d. group_needed d.1) es) (in-needed b e needed es i)
 
 -- Numbers.
@@ -121,7 +123,8 @@ some_number b (c ∷ cs) = by (same_buckets c b)
 abbrev pairs : List GroupValue → List (ℕ × Buckets)
 pairs gs = map (λ g. (g.group, g.buckets)) gs
 
-number-found : (b : Buckets) (xid k : ℕ) (gs : List Buckets) → IsIn b gs → (n : ℕ) → suc n ≡ k + group_number gs b → find nat_cmp n (pairs (groups_from xid k gs)) ≡ Some b
+number-found : (b : Buckets) (xid k : ℕ) (gs : List Buckets) → IsIn b gs → (n : ℕ) → suc n ≡ k + group_number gs b
+    → find nat_cmp n (pairs (groups_from xid k gs)) ≡ Some b
 number-found b xid k [] i n e = absurd i
 number-found b xid k (c ∷ cs) i n e = by (same_buckets c b) refl e i (λ later g. number-found b (suc xid) (suc k) cs later n g)
   where
@@ -132,7 +135,8 @@ number-found b xid k (c ∷ cs) i n e = by (same_buckets c b) refl e i (λ later
         (IsIn b cs → suc n ≡ suc k + group_number cs b → find nat_cmp n rest ≡ Some b) → find nat_cmp n ((k, c) ∷ rest) ≡ Some b
     by true same e i more = ap (λ t. cond t (Some c) (find nat_cmp n rest)) (unsigned_tied n k ∙ eq-eqb n k (omega arith)) ∙ ap Some (buckets_exact c b same)
     by false same e (inl is) more = absurd (true≢false (sym (ap (λ d. same_buckets d b) is ∙ buckets_itself b) ∙ same))
-    by false same e (inr later) more = ap (λ t. cond t (Some c) (find nat_cmp n rest)) (unsigned_tied n k ∙ ne_eqb n k (λ q. omega (arith, some_number b cs))) ∙ more later (omega arith)
+    by false same e (inr later) more = ap (λ t. cond t (Some c) (find nat_cmp n rest)) (unsigned_tied n k
+        ∙ ne_eqb n k (λ q. omega (arith, some_number b cs))) ∙ more later (omega arith)
 
 -- the group with these buckets is there under its number
 pub group-there : (b : Buckets) (gs : List Buckets) → IsIn b gs → get (added_groups (groups_from 4 1 gs)) (group_number gs b) ≡ Some b

@@ -20,7 +20,8 @@ use Rattle.pq_store.specs.Tree.{Tree, value}
 use Rattle.pq_store.specs.Tree.Tree.{Tip, Fork}
 use Rattle.pq_store.specs.Test.{passes}
 use Rattle.pq_layout.specs.Actions.{buckets_of, tag_word}
-use Rattle.pq_layout.specs.Messages.{Buckets, LeavingTrees, Rule, group_needed, group_number, groups_from, groups_of, is_without, leaving_actions, leaving_entries, second_rule, second_rules}
+use Rattle.pq_layout.specs.Messages.{Buckets, LeavingTrees, Rule, group_needed, group_number, groups_from, groups_of, is_without}
+use Rattle.pq_layout.specs.Messages.{leaving_actions, leaving_entries, second_rule, second_rules}
 use Rattle.pq_layout.specs.Sending.{copy_sent, said_by}
 use Rattle.pq_layout.specs.Sound.{AllLeaves, AreSoundLeaving, IsMatchable, IsSoundCopy, IsSoundLeaving}
 use Rattle.pq_lookup.specs.Lookup.{first_covering}
@@ -35,7 +36,8 @@ abbrev pub sent_by_rule : (ℕ → TaggedPacket → List Sent) → Groups → Ta
 sent_by_rule onward groups x None = []
 sent_by_rule onward groups x (Some r) = runs (emits groups) r.actions x ++ sent_onward onward r.goto (changed_by r.actions x)
 
-pub rule-sends : (onward : ℕ → TaggedPacket → List Sent) (groups : Groups) (x : TaggedPacket) (o : Option Entry) → sent_by_entry onward groups x o ≡ sent_by_rule onward groups x (option_map rule_of o)
+pub rule-sends : (onward : ℕ → TaggedPacket → List Sent) (groups : Groups) (x : TaggedPacket) (o : Option Entry)
+    → sent_by_entry onward groups x o ≡ sent_by_rule onward groups x (option_map rule_of o)
 rule-sends onward groups x None = refl
 rule-sends onward groups x (Some e) = refl
 
@@ -51,7 +53,8 @@ all-value P (Fork s y n) h x = by (passes s x) (all-value P y h.0 x) (all-value 
     by false k l = l
 
 -- and of what is said, where it holds of the default
-pub said-holds : {L : Type 0} (P : L → Type 0) (default : L) → P default → (word : ℕ) (x : Numbers) (ps : List (ℕ × Tree L)) → AllByRecursion (λ p. P (value p.1 x)) ps → P (said_by ps default word x)
+pub said-holds : {L : Type 0} (P : L → Type 0) (default : L) → P default → (word : ℕ) (x : Numbers) (ps : List (ℕ × Tree L))
+    → AllByRecursion (λ p. P (value p.1 x)) ps → P (said_by ps default word x)
 said-holds P default h word x [] all = h
 said-holds P default h word x (p ∷ ps) (here, all) = by (p.0 == word) (said-holds P default h word x ps all)
   where
@@ -111,11 +114,14 @@ module _ (second : LeavingTrees) (sound : AreSoundLeaving second) where
 
     told-sends : (cs : List Outgoing) → AllByRecursion (IsSendable x) cs → IsTold is_without arrived (leaving_entries second) cs →
         sent_by_rule onward added arrived (option_map (second_rule groups) (first_covering arrived (leaving_entries second))) ≡ map (copy_sent x) cs
-    told-sends cs all (inl told) = ap (λ o. sent_by_rule onward added arrived (option_map (second_rule groups) o)) told.0 ∙ ap (map (copy_sent x)) (without cs told.1)
+    told-sends cs all (inl told) = ap (λ o. sent_by_rule onward added arrived (option_map (second_rule groups) o)) told.0
+        ∙ ap (map (copy_sent x)) (without cs told.1)
     told-sends cs all (inr told) =
         ap (λ o. sent_by_rule onward added arrived (option_map (second_rule groups) o)) told.1
         ∙ append-nil (runs (emits added) (leaving_actions groups cs) arrived)
-        ∙ leaf-runs x t cs all (λ b needed. in-groups b (told.0, cs) needed (leaving_entries second) (first-in arrived (leaving_entries second) (told.0, cs) told.1))
+        ∙ leaf-runs x t cs all
+        (λ b needed. in-groups b (told.0, cs) needed (leaving_entries second)
+        (first-in arrived (leaving_entries second) (told.0, cs) told.1))
 
     -- the rule that is found in table 1 sends what the tree with the packet's VLAN_VID word says
     pub leaving-sends : sent_by_rule onward added arrived (found arrived (second_rules second)) ≡ map (copy_sent x) (said_by second [] (tag_word t) x)

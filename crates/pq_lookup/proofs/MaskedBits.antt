@@ -1,5 +1,6 @@
 -- A value and a mask with one bit more, below all bits that were stated before.
-use Rattle.std.proofs.Common.{◌≡◌, ℕ, suc, ◌+◌, ◌-◌, ◌*◌, ◌/◌, ◌%◌, ◌^◌, ◌<◌, ◌≤◌, Bool, true, false, not, if◌then◌else◌, Some, None, refl, sym, ap, ◌∙◌, arith, eqb-true}
+use Rattle.std.proofs.Common.{◌≡◌, ℕ, suc, ◌+◌, ◌-◌, ◌*◌, ◌/◌, ◌%◌, ◌^◌, ◌<◌, ◌≤◌, Bool, true, false, not, if◌then◌else◌, Some, None, refl}
+use Rattle.std.proofs.Common.{sym, ap, ◌∙◌, arith, eqb-true}
 use Rattle.std.specs.Prelude.{◌==◌, ◌&&◌, bit_and}
 use Rattle.std.specs.Int.{bit_at}
 use Rattle.std.proofs.Math.Nat.{pow-succ', mul-div_cancel_left, mod-add-div, mod-lt, mul_comm, mul_assoc}
@@ -71,7 +72,8 @@ digits_tell P B V d c some dl cl = two_tests _ _ _ into back
 
     into : B * (P * 2) + d * P == V * (P * 2) + c * P ≡ true → (B * (P * 2) == V * (P * 2) ≡ true) × (d == c ≡ true)
     into h =
-        let same : 2 * B + d ≡ 2 * V + c = sym (mul-div_cancel_left (2 * B + d) some) ∙ ap (λ m. m / P) (sym left ∙ eqb-true _ _ h ∙ right) ∙ mul-div_cancel_left (2 * V + c) some in
+        let same : 2 * B + d ≡ 2 * V + c = sym (mul-div_cancel_left (2 * B + d) some) ∙ ap (λ m. m / P) (sym left ∙ eqb-true _ _ h ∙ right)
+        ∙ mul-div_cancel_left (2 * V + c) some in
         let whole : B ≡ V = omega arith in
         (eq-eqb (B * (P * 2)) (V * (P * 2)) (ap (λ m. m * (P * 2)) whole), eq-eqb d c (omega arith))
 
@@ -100,13 +102,15 @@ masked_mask w true a = refl
 masked_mask w false a = refl
 
 -- one bit more is one test more
-masked_agrees : (k n : ℕ) (b : Bool) (a : ℕ × ℕ) → IsWhole (suc k) a → bit_and n (masked_with (2 ^ k) b a).1 == (masked_with (2 ^ k) b a).0 ≡ (bit_and n a.1 == a.0) && sided b (bit_at n k == 1)
+masked_agrees : (k n : ℕ) (b : Bool) (a : ℕ × ℕ) → IsWhole (suc k) a → bit_and n (masked_with (2 ^ k) b a).1 == (masked_with (2 ^ k) b a).0
+    ≡ (bit_and n a.1 == a.0) && sided b (bit_at n k == 1)
 masked_agrees k n b a whole =
     let double : 2 ^ suc k ≡ 2 ^ k * 2 = pow-succ' 2 k ∙ mul_comm 2 (2 ^ k) in
     let mask : (masked_with (2 ^ k) b a).1 ≡ whole.mask * 2 ^ suc k + 2 ^ k = masked_mask (2 ^ k) b a ∙ ap (λ m. m + 2 ^ k) whole.mask_is in
     let value : (masked_with (2 ^ k) b a).0 ≡ whole.value * (2 ^ k * 2) + digit b * 2 ^ k =
     masked_value (2 ^ k) b a ∙ ap (λ m. m + digit b * 2 ^ k) (whole.value_is ∙ ap (λ p. whole.value * p) double) in
-    let above : bit_and n (whole.mask * 2 ^ suc k) ≡ bit_and (n / 2 ^ suc k) whole.mask * (2 ^ k * 2) = common_above k n whole.mask ∙ ap (λ p. bit_and (n / 2 ^ suc k) whole.mask * p) double in
+    let above : bit_and n (whole.mask * 2 ^ suc k) ≡ bit_and (n / 2 ^ suc k) whole.mask * (2 ^ k * 2) = common_above k n whole.mask
+    ∙ ap (λ p. bit_and (n / 2 ^ suc k) whole.mask * p) double in
     let common : bit_and n (masked_with (2 ^ k) b a).1 ≡ bit_and (n / 2 ^ suc k) whole.mask * (2 ^ k * 2) + bit_at n k * 2 ^ k =
     ap (bit_and n) mask ∙ common_more k n whole.mask ∙ ap (λ m. m + bit_at n k * 2 ^ k) above in
     let before : bit_and n a.1 ≡ bit_and (n / 2 ^ suc k) whole.mask * (2 ^ k * 2) = ap (bit_and n) whole.mask_is ∙ above in
@@ -118,7 +122,8 @@ masked_agrees k n b a whole =
 none_whole : (k : ℕ) → IsWhole k (0, 0)
 none_whole k = record { value = 0; value_is = omega arith; mask = 0; mask_is = omega arith }
 
-pub stated_agrees : (k n : ℕ) (b : Bool) (o : Option (ℕ × ℕ)) → AreWhole (suc k) o → agrees_masked (stated_with (2 ^ k) b o) n ≡ agrees_masked o n && sided b (bit_at n k == 1)
+pub stated_agrees : (k n : ℕ) (b : Bool) (o : Option (ℕ × ℕ)) → AreWhole (suc k) o
+    → agrees_masked (stated_with (2 ^ k) b o) n ≡ agrees_masked o n && sided b (bit_at n k == 1)
 stated_agrees k n b None whole = masked_agrees k n b (0, 0) (none_whole (suc k)) ∙ ap (λ m. (m == 0) && sided b (bit_at n k == 1)) (and_zero n)
 stated_agrees k n b (Some a) whole = masked_agrees k n b a whole
 

@@ -1,5 +1,6 @@
 -- The messages of trees renew a switch's tables.
-use Rattle.std.proofs.Common.{◌≡◌, inl, inr, ℕ, suc, ◌+◌, ◌-◌, ◌<◌, ◌≤◌, Bool, true, false, not, List, [], ◌∷◌, ◌++◌, map, length, nat_eq, is_some, Some, None, refl, sym, ap, subst, ◌∙◌, arith}
+use Rattle.std.proofs.Common.{◌≡◌, inl, inr, ℕ, suc, ◌+◌, ◌-◌, ◌<◌, ◌≤◌, Bool, true, false, not, List, [], ◌∷◌, ◌++◌, map, length, nat_eq}
+use Rattle.std.proofs.Common.{is_some, Some, None, refl, sym, ap, subst, ◌∙◌, arith}
 use Rattle.std.specs.FinMap.{contains_key}
 use Rattle.std.specs.List.{AllByRecursion, IsDistinct, filter_map, list_all}
 use Rattle.std.specs.declared.option.Option.{Option}
@@ -61,9 +62,11 @@ abbrev entries_from : (xid table index : ℕ) → List Rule → List Entry
 entries_from xid table index rs = map entry_of (adds_from xid table index rs)
 
 -- an entry of lower index, and so of higher priority, is apart from those behind it
-behind-apart : (e : Entry) (i xid table index : ℕ) (rs : List Rule) → e.priority ≡ 65535 - i → i < index → index + length rs ≤ 65536 → AllByRecursion (AreApart e) (entries_from xid table index rs)
+behind-apart : (e : Entry) (i xid table index : ℕ) (rs : List Rule) → e.priority ≡ 65535 - i → i < index → index + length rs ≤ 65536
+    → AllByRecursion (AreApart e) (entries_from xid table index rs)
 behind-apart e i xid table index [] is less few = tt
-behind-apart e i xid table index (r ∷ rs) is less few = (λ same. λ equal. omega arith, behind-apart e i (suc xid) table (suc index) rs is (omega arith) (omega arith))
+behind-apart e i xid table index (r ∷ rs) is less few =
+    (λ same. λ equal. omega arith, behind-apart e i (suc xid) table (suc index) rs is (omega arith) (omega arith))
 
 in-table : (xid table index : ℕ) (rs : List Rule) → AllByRecursion (λ e. e.table ≡ table) (entries_from xid table index rs)
 in-table xid table index [] = tt
@@ -75,8 +78,10 @@ other-apart e (f ∷ fs) is (here, all) = ((λ same. absurd (omega arith)), othe
 
 own-priorities : (xid table index : ℕ) (rs : List Rule) → index + length rs ≤ 65536 → HaveOwnPriorities (entries_from xid table index rs)
 own-priorities xid table index [] few = tt
-own-priorities xid table index (r ∷ rs) few =
-    (behind-apart (entry_at table index r) index (suc xid) table (suc index) rs refl (omega arith) (omega arith), own-priorities (suc xid) table (suc index) rs (omega arith))
+own-priorities xid table index (r ∷ rs) few = (
+  behind-apart (entry_at table index r) index (suc xid) table (suc index) rs refl (omega arith) (omega arith),
+  own-priorities (suc xid) table (suc index) rs (omega arith),
+)
 
 both-priorities : (xid index : ℕ) (rs : List Rule) (fs : List Entry) → index + length rs ≤ 65536 → AllByRecursion (λ f. f.table ≡ 1) fs → HaveOwnPriorities fs →
     HaveOwnPriorities (entries_from xid 0 index rs ++ fs)
@@ -153,7 +158,8 @@ module _ (second : LeavingTrees) where
   leaf-there m (c ∷ []) i = ap (list_all (contains_key added)) (copy-none c)
   leaf-there m (c ∷ d ∷ cs) i =
       let b = buckets_of (c ∷ d ∷ cs) in
-      and_from (contains_key added (group_number groups b)) true (ap is_some (group-there b groups (in-groups b (m, c ∷ d ∷ cs) refl (leaving_entries second) i))) refl
+      and_from (contains_key added (group_number groups b)) true
+      (ap is_some (group-there b groups (in-groups b (m, c ∷ d ∷ cs) refl (leaving_entries second) i))) refl
 
   second-there : AllByRecursion (λ r. AreThere added r.actions) (second_rules second)
   second-there = all_map (second_rule groups) (λ r. AreThere added r.actions) (leaving_entries second)
@@ -188,4 +194,5 @@ module _ (first : ArrivingTrees) (second : LeavingTrees) (filled : AreFilled fir
 
   pub switch-sends : SwitchSends first second
   switch-sends ms is before order lawful x h =
-      renewal-sends (renewal_of first second) renewing before order (subst (λ l. IsLawfulOrder l order) is lawful) x ∙ tables-send_in_order first second filled x h
+      renewal-sends (renewal_of first second) renewing before order (subst (λ l. IsLawfulOrder l order) is lawful) x
+      ∙ tables-send_in_order first second filled x h

@@ -33,12 +33,14 @@ module _ {L : Type 0} (blank : L → Bool) where
         by true = refl
         by false = entries-pass_over p.1 p.0 x h (λ e. other (sym e))
 
-    none-tells : (ps : List (ℕ × Tree L)) → AllByRecursion (λ p. IsMatchable p.1) ps → AllByRecursion (λ p. p.0 ≢ vlan_word x.vlan) ps → first_covering x (table_of blank ps) ≡ None
+    none-tells : (ps : List (ℕ × Tree L)) → AllByRecursion (λ p. IsMatchable p.1) ps → AllByRecursion (λ p. p.0 ≢ vlan_word x.vlan) ps
+        → first_covering x (table_of blank ps) ≡ None
     none-tells [] all other = refl
     none-tells (p ∷ ps) (h, all) (here, other) = first-none x (entries_of blank p) (table_of blank ps) (others-none p h here) ∙ none-tells ps all other
 
     -- those with its word, where no tree behind has it
-    own-tells : (p : ℕ × Tree L) (fs : List (MatchFields × L)) → IsMatchable p.1 → p.0 ≡ vlan_word x.vlan → first_covering x fs ≡ None → IsTold (entries_of blank p ++ fs) (value p.1 x.packet)
+    own-tells : (p : ℕ × Tree L) (fs : List (MatchFields × L)) → IsMatchable p.1 → p.0 ≡ vlan_word x.vlan → first_covering x fs ≡ None
+        → IsTold (entries_of blank p ++ fs) (value p.1 x.packet)
     own-tells p fs h own none = by (is_blank blank p.1) refl
       where
         by : (b : Bool) → is_blank blank p.1 ≡ b → IsTold ((if b then [] else matches_below (vlan_match p.0) p.1) ++ fs) (value p.1 x.packet)
@@ -51,11 +53,13 @@ module _ {L : Type 0} (blank : L → Bool) where
     behind-tells es fs l none (inl told) = inl (first-none x es fs none ∙ told.0, told.1)
     behind-tells es fs l none (inr told) = inr (told.0, first-none x es fs none ∙ told.1, told.2)
 
-    apart : (word : ℕ) (ps : List (ℕ × Tree L)) → AllByRecursion (λ w. nat_eq word w ≡ false) (map (λ p. p.0) ps) → word ≡ vlan_word x.vlan → AllByRecursion (λ p. p.0 ≢ vlan_word x.vlan) ps
+    apart : (word : ℕ) (ps : List (ℕ × Tree L)) → AllByRecursion (λ w. nat_eq word w ≡ false) (map (λ p. p.0) ps) → word ≡ vlan_word x.vlan
+        → AllByRecursion (λ p. p.0 ≢ vlan_word x.vlan) ps
     apart word [] all own = tt
     apart word (p ∷ ps) (here, all) own = ((λ e. eqb-false word p.0 here (own ∙ sym e)), apart word ps all own)
 
-    pub table-tells : (default : L) → blank default ≡ true → (ps : List (ℕ × Tree L)) → IsDistinct nat_eq (map (λ p. p.0) ps) → AllByRecursion (λ p. IsMatchable p.1) ps →
+    pub table-tells : (default : L) → blank default ≡ true → (ps : List (ℕ × Tree L)) → IsDistinct nat_eq (map (λ p. p.0) ps)
+        → AllByRecursion (λ p. IsMatchable p.1) ps →
         IsTold (table_of blank ps) (said_by ps default (vlan_word x.vlan) x.packet)
     unfolding IsDistinct
     table-tells default empty [] distinct all = inl (refl, empty)

@@ -1,5 +1,6 @@
 -- The entry that a packet takes is that of the first rule whose match covers it.
-use Rattle.std.proofs.Common.{◌≡◌, ◌≢◌, ℕ, suc, ◌+◌, ◌-◌, ◌<◌, ◌≤◌, Bool, true, false, if◌then◌else◌, List, [], ◌∷◌, ◌++◌, map, length, Some, None, refl, ap, ◌∙◌, arith}
+use Rattle.std.proofs.Common.{◌≡◌, ◌≢◌, ℕ, suc, ◌+◌, ◌-◌, ◌<◌, ◌≤◌, Bool, true, false, if◌then◌else◌, List, [], ◌∷◌, ◌++◌, map, length}
+use Rattle.std.proofs.Common.{Some, None, refl, ap, ◌∙◌, arith}
 use Rattle.std.specs.Prelude.{◌==◌, ◌&&◌, nat_lt}
 use Rattle.std.specs.Option.{option_map}
 use Rattle.std.specs.declared.option.Option.{Option}
@@ -42,7 +43,8 @@ module _ (x : TaggedPacket) where
   taken-other : (n xid table index : ℕ) (rs : List Rule) → table ≢ n → taken (entries_from xid table index rs) n x ≡ None
   taken-other n xid table index [] other = refl
   taken-other n xid table index (r ∷ rs) other =
-      ap (λ b. if b && covers r.matching x then better (entry_at table index r) (taken (entries_from (suc xid) table (suc index) rs) n x) else taken (entries_from (suc xid) table (suc index) rs) n x)
+      ap (λ b. if b && covers r.matching x then better (entry_at table index r)
+      (taken (entries_from (suc xid) table (suc index) rs) n x) else taken (entries_from (suc xid) table (suc index) rs) n x)
       (ne_eqb table n other)
       ∙ taken-other n (suc xid) table (suc index) rs other
 
@@ -71,10 +73,12 @@ module _ (x : TaggedPacket) where
   taken-below : (p xid table index : ℕ) (rs : List Rule) → 65535 - index < p → IsBelow p (taken (entries_from xid table index rs) table x)
   taken-below p xid table index [] h = tt
   taken-below p xid table index (r ∷ rs) h =
-      either_below ((table == table) && covers r.matching x) p _ (taken (entries_from (suc xid) table (suc index) rs) table x) h (taken-below p (suc xid) table (suc index) rs (omega arith))
+      either_below ((table == table) && covers r.matching x) p _ (taken (entries_from (suc xid) table (suc index) rs) table x) h
+      (taken-below p (suc xid) table (suc index) rs (omega arith))
 
   -- the taken entry of a table is that of the first covering rule
-  taken-found : (xid table index : ℕ) (rs : List Rule) → index + length rs ≤ 65535 → option_map rule_of (taken (entries_from xid table index rs) table x) ≡ found rs
+  taken-found : (xid table index : ℕ) (rs : List Rule) → index + length rs ≤ 65535
+      → option_map rule_of (taken (entries_from xid table index rs) table x) ≡ found rs
   taken-found xid table index [] few = refl
   taken-found xid table index (r ∷ rs) few =
       ap (λ b. option_map rule_of (if b && covers r.matching x then better (entry_at table index r) rest else rest)) (eq-eqb table table refl)
@@ -83,7 +87,8 @@ module _ (x : TaggedPacket) where
       rest : Option Entry
       rest = taken (entries_from (suc xid) table (suc index) rs) table x
 
-      by : (b : Bool) → option_map rule_of rest ≡ found rs → option_map rule_of (if b then better (entry_at table index r) rest else rest) ≡ (if b then Some r else found rs)
+      by : (b : Bool) → option_map rule_of rest ≡ found rs → option_map rule_of (if b then better (entry_at table index r) rest else rest)
+          ≡ (if b then Some r else found rs)
       by true more = ap (option_map rule_of) (stays (entry_at table index r) rest (taken-below (65535 - index) (suc xid) table (suc index) rs (omega arith)))
       by false more = more
 
@@ -114,6 +119,7 @@ module _ (x : TaggedPacket) where
   found-map rule own (e ∷ es) =
       ap (λ m. if covers m x then Some (rule e) else found (map rule es)) (own e) ∙ by (covers e.0 x) (found-map rule own es)
     where
-      by : (b : Bool) → found (map rule es) ≡ option_map rule (first_covering x es) → (if b then Some (rule e) else found (map rule es)) ≡ option_map rule (if b then Some e else first_covering x es)
+      by : (b : Bool) → found (map rule es) ≡ option_map rule (first_covering x es)
+          → (if b then Some (rule e) else found (map rule es)) ≡ option_map rule (if b then Some e else first_covering x es)
       by true more = refl
       by false more = more

@@ -5,7 +5,8 @@ use Rattle.std.proofs.lemmas.List.{get_or-set_other}
 use Rattle.std.specs.Prelude.{◌==◌, ◌&&◌}
 use Rattle.std.specs.declared.option.Option.{Option}
 use Rattle.pq_fields.specs.declared.field.Field.{Field}
-use Rattle.pq_fields.specs.declared.field.Field.TheVariants.{Switch, Port, EthType, IpProto, EthSrc, EthDst, Ipv4Src, Ipv4Dst, TcpSrc, TcpDst, UdpSrc, UdpDst, Ipv6Src, Ipv6Dst}
+use Rattle.pq_fields.specs.declared.field.Field.TheVariants.{Switch, Port, EthType, IpProto, EthSrc, EthDst, Ipv4Src, Ipv4Dst, TcpSrc}
+use Rattle.pq_fields.specs.declared.field.Field.TheVariants.{TcpDst, UdpSrc, UdpDst, Ipv6Src, Ipv6Dst}
 use Rattle.pq_fields.specs.Packet.{number_in, bit_in, rank, width_of}
 use Rattle.pq_model.specs.MatchFields.{MatchFields, agrees, agrees_masked, covers, vlan_word}
 use Rattle.pq_model.specs.Tagged.{TaggedPacket}
@@ -118,7 +119,8 @@ module _ (m : MatchFields) (x : TaggedPacket) where
   from_vlan = agrees m.vlan (vlan_word x.vlan) ∷ from_eth_type
 
   -- a number more: the packet has it
-  pub covers-number : (f : Field) (v : ℕ) → is_address f ≡ false → f ≢ Switch → stated_number f m ≡ None → covers (with_number f v m) x ≡ covers m x && (number_in f x.packet == v)
+  pub covers-number : (f : Field) (v : ℕ) → is_address f ≡ false → f ≢ Switch → stated_number f m ≡ None
+      → covers (with_number f v m) x ≡ covers m x && (number_in f x.packet == v)
   unfolding covers
   covers-number Switch v number other none = absurd (other refl)
   covers-number Port v number other none = behind from_vlan _ _ _ (stated_once m.in_port v x.packet.port none)
@@ -145,20 +147,27 @@ module _ (m : MatchFields) (x : TaggedPacket) where
   covers-bit IpProto i b address below whole = absurd (true≢false (sym address))
   covers-bit EthSrc i b address below whole = absurd (true≢false (sym address))
   covers-bit EthDst i b address below whole = absurd (true≢false (sym address))
-  covers-bit Ipv4Src i b address below whole = behind from_ipv4_dst _ _ _ (within _ _ _ _ (stated_agrees (31 - i) x.packet.ipv4_src b m.ipv4_src (narrowed 32 i m.ipv4_src below whole)))
-  covers-bit Ipv4Dst i b address below whole = behind from_tcp_src _ _ _ (within _ _ _ _ (stated_agrees (31 - i) x.packet.ipv4_dst b m.ipv4_dst (narrowed 32 i m.ipv4_dst below whole)))
+  covers-bit Ipv4Src i b address below whole =
+      behind from_ipv4_dst _ _ _
+      (within _ _ _ _ (stated_agrees (31 - i) x.packet.ipv4_src b m.ipv4_src (narrowed 32 i m.ipv4_src below whole)))
+  covers-bit Ipv4Dst i b address below whole =
+      behind from_tcp_src _ _ _
+      (within _ _ _ _ (stated_agrees (31 - i) x.packet.ipv4_dst b m.ipv4_dst (narrowed 32 i m.ipv4_dst below whole)))
   covers-bit TcpSrc i b address below whole = absurd (true≢false (sym address))
   covers-bit TcpDst i b address below whole = absurd (true≢false (sym address))
   covers-bit UdpSrc i b address below whole = absurd (true≢false (sym address))
   covers-bit UdpDst i b address below whole = absurd (true≢false (sym address))
-  covers-bit Ipv6Src i b address below whole = behind from_ipv6_dst _ _ _ (within _ _ _ _ (stated_agrees (127 - i) x.packet.ipv6_src b m.ipv6_src (narrowed 128 i m.ipv6_src below whole)))
+  covers-bit Ipv6Src i b address below whole =
+      behind from_ipv6_dst _ _ _
+      (within _ _ _ _ (stated_agrees (127 - i) x.packet.ipv6_src b m.ipv6_src (narrowed 128 i m.ipv6_src below whole)))
   covers-bit Ipv6Dst i b address below whole = within _ _ _ _ (stated_agrees (127 - i) x.packet.ipv6_dst b m.ipv6_dst (narrowed 128 i m.ipv6_dst below whole))
 
 -- Statements of one field leave the others.
 
 -- the stated numbers in field order
 numbers_stated : MatchFields → List (Option ℕ)
-numbers_stated m = None ∷ m.in_port ∷ m.eth_type ∷ m.ip_proto ∷ m.eth_src ∷ m.eth_dst ∷ None ∷ None ∷ m.tcp_src ∷ m.tcp_dst ∷ m.udp_src ∷ m.udp_dst ∷ None ∷ None ∷ []
+numbers_stated m = None ∷ m.in_port ∷ m.eth_type ∷ m.ip_proto ∷ m.eth_src ∷ m.eth_dst ∷ None ∷ None ∷ m.tcp_src ∷ m.tcp_dst ∷ m.udp_src ∷
+    m.udp_dst ∷ None ∷ None ∷ []
 
 -- the stated values and masks in field order
 bits_stated : MatchFields → List (Option (ℕ × ℕ))
@@ -198,7 +207,8 @@ bits_at UdpDst m = refl
 bits_at Ipv6Src m = refl
 bits_at Ipv6Dst m = refl
 
-number_set : (f : Field) (v : ℕ) (m : MatchFields) → is_address f ≡ false → f ≢ Switch → numbers_stated (with_number f v m) ≡ set (numbers_stated m) (rank f) (Some v)
+number_set : (f : Field) (v : ℕ) (m : MatchFields) → is_address f ≡ false → f ≢ Switch
+    → numbers_stated (with_number f v m) ≡ set (numbers_stated m) (rank f) (Some v)
 unfolding numbers_stated
 number_set Switch v m number other = absurd (other refl)
 number_set Port v m number other = refl
@@ -300,7 +310,8 @@ bit_vlan UdpDst i b m = refl
 bit_vlan Ipv6Src i b m = refl
 bit_vlan Ipv6Dst i b m = refl
 
-pub other_number : (f g : Field) (v : ℕ) (m : MatchFields) → is_address f ≡ false → f ≢ Switch → rank f ≢ rank g → stated_number g (with_number f v m) ≡ stated_number g m
+pub other_number : (f g : Field) (v : ℕ) (m : MatchFields) → is_address f ≡ false → f ≢ Switch → rank f ≢ rank g
+    → stated_number g (with_number f v m) ≡ stated_number g m
 other_number f g v m number other apart =
     number_at g (with_number f v m) ∙ ap (λ l. get_or l (rank g) None) (number_set f v m number other)
     ∙ get_or-set_other (numbers_stated m) (rank f) (rank g) (Some v) None (λ e. apart (sym e)) ∙ sym (number_at g m)
@@ -314,9 +325,11 @@ same_number f g i b m = number_at g (with_bit f i b m) ∙ ap (λ l. get_or l (r
 pub other_bits : (f g : Field) (i : ℕ) (b : Bool) (m : MatchFields) → is_address f ≡ true → rank f ≢ rank g → stated_bits g (with_bit f i b m) ≡ stated_bits g m
 other_bits f g i b m address apart =
     bits_at g (with_bit f i b m) ∙ ap (λ l. get_or l (rank g) None) (bit_set f i b m address)
-    ∙ get_or-set_other (bits_stated m) (rank f) (rank g) (stated_with (2 ^ (width_of f - 1 - i)) b (stated_bits f m)) None (λ e. apart (sym e)) ∙ sym (bits_at g m)
+    ∙ get_or-set_other (bits_stated m) (rank f) (rank g) (stated_with (2 ^ (width_of f - 1 - i)) b (stated_bits f m)) None
+    (λ e. apart (sym e)) ∙ sym (bits_at g m)
 
-pub own_bits : (f : Field) (i : ℕ) (b : Bool) (m : MatchFields) → is_address f ≡ true → stated_bits f (with_bit f i b m) ≡ stated_with (2 ^ (width_of f - 1 - i)) b (stated_bits f m)
+pub own_bits : (f : Field) (i : ℕ) (b : Bool) (m : MatchFields) → is_address f ≡ true
+    → stated_bits f (with_bit f i b m) ≡ stated_with (2 ^ (width_of f - 1 - i)) b (stated_bits f m)
 own_bits Switch i b m address = absurd (true≢false (sym address))
 own_bits Port i b m address = absurd (true≢false (sym address))
 own_bits EthType i b m address = absurd (true≢false (sym address))

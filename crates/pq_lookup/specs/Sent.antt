@@ -24,7 +24,8 @@ TablesSend first second = (x : TaggedPacket) → IsTagged x → copies (renewed 
 
 -- so they send these in order
 abbrev pub TablesSendInOrder : ArrivingTrees → LeavingTrees → Type 0
-TablesSendInOrder first second = (x : TaggedPacket) → IsTagged x → sends (renewed (renewal_of first second)) x ≡ in_order (sent_by (said_by first None) (said_by second []) x)
+TablesSendInOrder first second = (x : TaggedPacket) → IsTagged x
+    → sends (renewed (renewal_of first second)) x ≡ in_order (sent_by (said_by first None) (said_by second []) x)
 
 -- the messages of trees delete all that was there, and add what doesn't depend on the order
 abbrev pub TreesRenew : ArrivingTrees → LeavingTrees → Type 0

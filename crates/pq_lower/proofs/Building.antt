@@ -7,7 +7,8 @@ use Rattle.pq_fields.specs.Pred.{Equals, Preds, none, put, PredTree, preds, IsLa
 use Rattle.pq_query.specs.Groups.{Group}
 use Rattle.pq_query.specs.Labels.{top_groups, groups_of}
 use Rattle.pq_query.specs.Language.{share}
-use Rattle.pq_query.specs.Query.{QueryTop, Enters, Leaves, Passes, Ends, InTurn, Either, Both, Other, Repeated, Queries, none as no_queries, put as add, QueryTree, queries}
+use Rattle.pq_query.specs.Query.{QueryTop, Enters, Leaves, Passes, Ends, InTurn, Either, Both, Other, Repeated, Queries, none as no_queries}
+use Rattle.pq_query.specs.Query.{put as add, QueryTree, queries}
 use Rattle.pq_query.specs.Lawful.{IsLawfulTop as IsLawfulQueryTop, AreLawfulQueries, IsLawfulQuery}
 use Rattle.pq_lower.specs.Added.{sent, tests, fulfilling, top_preds, preds_of, query_preds, added_preds}
 use Rattle.pq_lower.specs.Built.{Say, AreBuilt, IsBuilt, IsKept, AreTested, top_own, own_preds, Brings, DoFit, IsFittingLabel}
@@ -50,18 +51,26 @@ tests_built P [] label kept tested = tt
 tests_built P (g ∷ gs) [] kept tested = (kept.never, tt, tests_built P gs [] kept (none_tested P gs))
 tests_built P (g ∷ gs) (n ∷ label) kept tested = (tested.0, tt, tests_built P gs label kept tested.1)
 
-fulfilling_built : (P : Say) (p : PredTree) (gs : List Group) (label : List ℕ) (more : List PredTree) → IsKept P → IsBuilt P p → AreTested P gs label → AreBuilt P (preds more) → IsBuilt P (fulfilling p gs label more)
-fulfilling_built P p gs label more kept own tested last =
-    (kept.every (preds ((p ∷ tests gs label) ++ more)) (λ no. cc), built_both P (p ∷ tests gs label) more (built_more P p (tests gs label) own (tests_built P gs label kept tested)) last, tt)
+fulfilling_built : (P : Say) (p : PredTree) (gs : List Group) (label : List ℕ) (more : List PredTree) → IsKept P → IsBuilt P p
+    → AreTested P gs label → AreBuilt P (preds more) → IsBuilt P (fulfilling p gs label more)
+fulfilling_built P p gs label more kept own tested last = (
+  kept.every (preds ((p ∷ tests gs label) ++ more)) (λ no. cc),
+  built_both P (p ∷ tests gs label) more (built_more P p (tests gs label) own (tests_built P gs label kept tested)) last,
+  tt,
+)
 
 sent_built : (P : Say) → IsKept P → AreBuilt P (preds (sent ∷ []))
 sent_built P kept = (kept.negated (put (Equals Port 0) none none) (λ no. cc), (kept.dropped, tt, tt), tt)
 
 -- Queries.
 
-top_built : (P : Say) (top : QueryTop) (below : Queries) (label : List ℕ) → IsKept P → AreBuilt P (preds (top_own top)) → AreTested P (top_groups top ++ groups_of below) label → (AreTested P (groups_of below) label → AreBuilt P (preds (preds_of below label))) → AreBuilt P (preds (top_preds top label (preds_of below label)))
+top_built : (P : Say) (top : QueryTop) (below : Queries) (label : List ℕ) → IsKept P → AreBuilt P (preds (top_own top))
+    → AreTested P (top_groups top ++ groups_of below) label
+    → (AreTested P (groups_of below) label → AreBuilt P (preds (preds_of below label)))
+    → AreBuilt P (preds (top_preds top label (preds_of below label)))
 top_built P (Enters p gs) below label kept own tested each = fulfilling_built P p gs label [] kept own (tested_first P gs (groups_of below) label tested) tt
-top_built P (Leaves p gs) below label kept own tested each = fulfilling_built P p gs label (sent ∷ []) kept own (tested_first P gs (groups_of below) label tested) (sent_built P kept)
+top_built P (Leaves p gs) below label kept own tested each =
+    fulfilling_built P p gs label (sent ∷ []) kept own (tested_first P gs (groups_of below) label tested) (sent_built P kept)
 top_built P (Passes p gs q hs) below label kept own tested each =
     let groups = tested_first P (gs ++ hs) (groups_of below) label tested in
     built_more P (fulfilling p gs label []) (fulfilling q hs (drop (length gs) label) (sent ∷ []) ∷ [])
@@ -74,15 +83,19 @@ top_built P Both below label kept own tested each = each tested
 top_built P Other below label kept own tested each = each tested
 top_built P Repeated below label kept own tested each = each tested
 
-each_built : (P : Say) (qs : Queries) (label : List ℕ) → IsKept P → AreBuilt P (preds (own_preds qs)) → AreTested P (groups_of qs) label → AreBuilt P (preds (preds_of qs label))
+each_built : (P : Say) (qs : Queries) (label : List ℕ) → IsKept P → AreBuilt P (preds (own_preds qs)) → AreTested P (groups_of qs) label
+    → AreBuilt P (preds (preds_of qs label))
 each_built P no_queries label kept own tested = tt
 each_built P (add top below rest) label kept own tested =
     let groups = subst (λ gs. AreTested P gs label) (sym (append_assoc (top_groups top) (groups_of below) (groups_of rest))) tested in
     let operands = built_second P (top_own top) (own_preds below ++ own_preds rest) own in
     let later = drop (share top below) label in
     built_both P (top_preds top label (preds_of below label)) (preds_of rest later)
-    (top_built P top below label kept (built_first P (top_own top) (own_preds below ++ own_preds rest) own) (tested_first P (top_groups top ++ groups_of below) (groups_of rest) label groups) (λ inner. each_built P below label kept (built_first P (own_preds below) (own_preds rest) operands) inner))
-    (each_built P rest later kept (built_second P (own_preds below) (own_preds rest) operands) (tested_second P (top_groups top ++ groups_of below) (groups_of rest) label groups))
+    (top_built P top below label kept (built_first P (top_own top) (own_preds below ++ own_preds rest) own)
+    (tested_first P (top_groups top ++ groups_of below) (groups_of rest) label groups)
+    (λ inner. each_built P below label kept (built_first P (own_preds below) (own_preds rest) operands) inner))
+    (each_built P rest later kept (built_second P (own_preds below) (own_preds rest) operands)
+    (tested_second P (top_groups top ++ groups_of below) (groups_of rest) label groups))
 
 -- each of the list
 each_of : (P : Say) (ps : List PredTree) → AreBuilt P (preds ps) → All (IsBuilt P) ps
@@ -133,11 +146,18 @@ top_lawful Repeated below lawful = tt
 
 own_lawful : (qs : Queries) → AreLawfulQueries qs → AreBuilt IsLawfulTop (preds (own_preds qs))
 own_lawful no_queries lawful = tt
-own_lawful (add top below rest) lawful = built_both IsLawfulTop (top_own top) (own_preds below ++ own_preds rest) (top_lawful top below lawful.0) (built_both IsLawfulTop (own_preds below) (own_preds rest) (own_lawful below lawful.1) (own_lawful rest lawful.2))
+own_lawful (add top below rest) lawful = built_both IsLawfulTop (top_own top) (own_preds below ++ own_preds rest)
+    (top_lawful top below lawful.0) (built_both IsLawfulTop (own_preds below) (own_preds rest) (own_lawful below lawful.1)
+    (own_lawful rest lawful.2))
 
 pub added_lawful : (q : QueryTree) (label : List ℕ) → IsLawfulQuery q → IsFittingLabel q label → All IsLawfulPred (added_preds q label)
-added_lawful q label lawful fit = all_lawful (added_preds q label) (added_tops IsLawfulTop q label kept_lawful (record { own = own_lawful (queries (q ∷ [])) lawful; tests = tested_lawful (groups_of (queries (q ∷ []))) label fit }))
+added_lawful q label lawful fit = all_lawful (added_preds q label) (added_tops IsLawfulTop q label kept_lawful (record {
+  own = own_lawful (queries (q ∷ [])) lawful;
+  tests = tested_lawful (groups_of (queries (q ∷ []))) label fit;
+}))
 
 -- lawful predicates stay so
-pub lawful_more : (q : QueryTree) (label : List ℕ) (old new : List PredTree) → new ≡ old ++ added_preds q label → IsLawfulQuery q → IsFittingLabel q label → All IsLawfulPred old → All IsLawfulPred new
-lawful_more q label old new whole lawful fit all = subst (λ ps. All IsLawfulPred ps) (sym whole) (All-append IsLawfulPred old (added_preds q label) all (added_lawful q label lawful fit))
+pub lawful_more : (q : QueryTree) (label : List ℕ) (old new : List PredTree) → new ≡ old ++ added_preds q label → IsLawfulQuery q
+    → IsFittingLabel q label → All IsLawfulPred old → All IsLawfulPred new
+lawful_more q label old new whole lawful fit all =
+    subst (λ ps. All IsLawfulPred ps) (sym whole) (All-append IsLawfulPred old (added_preds q label) all (added_lawful q label lawful fit))

@@ -36,7 +36,8 @@ top_depth t k n (Ends p) es few = omega arith
 top_depth t k n InTurn es few = let own = turn_depth (1 + 2 * n) es few in omega (arith, own)
 top_depth t k n Either es few = let own = any_depth (1 + 2 * n) es few in omega (arith, own)
 top_depth t k n Both es few = let own = all_depth (1 + 2 * n) t es (omega arith) few in omega (arith, own)
-top_depth t k n Other es few = let own = other_depth (1 + 2 * n) t (first_expr es) (omega arith) (first_depth (1 + 2 * n) es (omega arith) few) in omega (arith, own)
+top_depth t k n Other es few = let own =
+    other_depth (1 + 2 * n) t (first_expr es) (omega arith) (first_depth (1 + 2 * n) es (omega arith) few) in omega (arith, own)
 top_depth t k n Repeated es few = let own = first_depth (1 + 2 * n) es (omega arith) few in omega (arith, own)
 
 each_depth : (t k : ℕ) (qs : Queries) → depths (exprs (lowered_each t k qs)) ≤ 1 + 2 * query_depths qs

@@ -19,7 +19,8 @@ shifted true b c = refl
 shifted false b c = refl
 
 -- the tests hold of the packets that have the values of the label
-tests_hold : (gs : List Group) (label : List ℕ) (more : List PredTree) (x : Numbers) → all_hold (tests gs label ++ more) x ≡ (meets gs label x && all_hold more x)
+tests_hold : (gs : List Group) (label : List ℕ) (more : List PredTree) (x : Numbers)
+    → all_hold (tests gs label ++ more) x ≡ (meets gs label x && all_hold more x)
 tests_hold [] label more x = refl
 tests_hold (g ∷ gs) [] more x = refl
 tests_hold (g ∷ gs) (n ∷ label) more x = rw (tests_hold gs label more x) (shifted _ (meets gs label x) (all_hold more x))
@@ -30,10 +31,12 @@ meets_window [] label x = refl
 meets_window (g ∷ gs) [] x = refl
 meets_window (g ∷ gs) (n ∷ label) x = rw (meets_window gs label x) refl
 
-pub fulfils_holds : (p : PredTree) (gs : List Group) (label : List ℕ) (more : List PredTree) (x : Numbers) → Fulfils p gs label x → all_hold more x ≡ true → holds (fulfilling p gs label more) x ≡ true
+pub fulfils_holds : (p : PredTree) (gs : List Group) (label : List ℕ) (more : List PredTree) (x : Numbers) → Fulfils p gs label x
+    → all_hold more x ≡ true → holds (fulfilling p gs label more) x ≡ true
 fulfils_holds p gs label more x (held, met) rest = rw (tests_hold gs label more x, held, met) rest
 
-pub holds_fulfils : (p : PredTree) (gs : List Group) (label : List ℕ) (more : List PredTree) (x : Numbers) → holds (fulfilling p gs label more) x ≡ true → Fulfils p gs label x × (all_hold more x ≡ true)
+pub holds_fulfils : (p : PredTree) (gs : List Group) (label : List ℕ) (more : List PredTree) (x : Numbers)
+    → holds (fulfilling p gs label more) x ≡ true → Fulfils p gs label x × (all_hold more x ≡ true)
 holds_fulfils p gs label more x h =
     let first = and_parts (holds p x) (all_hold (tests gs label ++ more) x) h in
     let later = and_parts (meets gs label x) (all_hold more x) (sym (tests_hold gs label more x) ∙ first.1) in

@@ -156,7 +156,8 @@ join_led L M u (In x ∷ v) word more held later = (u, In x ∷ v, join_at_once 
   in_next true h = refl
   in_next false h = absurd (search (h, rules))
 join_led L M u (Out x ∷ []) word more held later = absurd later
-join_led L M u (Out x ∷ o ∷ v) word more held later = (u, o ∷ v, join_over u (o ∷ v) x (λ none. cc) word (out_next (behind true u) x (o ∷ v) more).0, held, later)
+join_led L M u (Out x ∷ o ∷ v) word more held later =
+    (u, o ∷ v, join_over u (o ∷ v) x (λ none. cc) word (out_next (behind true u) x (o ∷ v) more).0, held, later)
 
 -- led words one after another are led
 pub cut_led : (L M : Word → Type 0) (b : Bool) (u v : Word) → alternates b (u ++ v) ≡ true → IsLed L u → IsLed M v → IsLed (Join L M) (u ++ v)

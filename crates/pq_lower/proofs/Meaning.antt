@@ -16,7 +16,10 @@ use Rattle.pq_lower.proofs.Windows.{share_window}
 use Rattle.pq_lower.proofs.Tells.{Tells, EachTells, entry_tells, hop_tells, any_tells, all_tells, other_tells, first_tells, turn_tells, repeated_tells}
 
 -- an expression holds the led words of a query where the expressions of the operands do
-top_tells : (all : List PredTree) (t n : ℕ) (top : QueryTop) (below : Queries) (label : List ℕ) → IsAlways all t → HasAt all n (top_preds top label (preds_of below label)) → (HasAt all n (preds_of below label) → EachTells all (lowered_each t n below) below label) → Tells all (holds (lowered_top t n top (lowered_each t n below))) (Holds top (HoldTogether below) label)
+top_tells : (all : List PredTree) (t n : ℕ) (top : QueryTop) (below : Queries) (label : List ℕ) → IsAlways all t
+    → HasAt all n (top_preds top label (preds_of below label))
+    → (HasAt all n (preds_of below label) → EachTells all (lowered_each t n below) below label)
+    → Tells all (holds (lowered_top t n top (lowered_each t n below))) (Holds top (HoldTogether below) label)
 top_tells all t n (Enters p gs) below label always has each =
     let told = number_tells all n (fulfilling p gs label []) [] has in
     entry_tells all t n (Holds (Enters p gs) (HoldTogether below) label) always (λ w. (
@@ -34,7 +37,17 @@ top_tells all t n (Passes p gs q hs) below label always has each =
     let first = number_tells all n (fulfilling p gs label []) (fulfilling q hs later (sent ∷ []) ∷ []) has in
     let second = next_tells all n (fulfilling p gs label []) (fulfilling q hs later (sent ∷ [])) has in
     hop_tells all t n (n + 1) (Holds (Passes p gs q hs) (HoldTogether below) label) always (λ w. (
-      (λ held. (held.0, held.1, held.2, first held.0 ∙ fulfils_holds p gs label [] held.0 (held.3.0, sym (meets_window gs label held.0) ∙ held.3.1) refl, second held.1 ∙ fulfils_holds q hs later (sent ∷ []) held.1 held.4 (port_sent held.1 held.5))),
+      (λ held. (
+        held.0,
+        held.1,
+        held.2,
+        first held.0 ∙ fulfils_holds p gs label [] held.0 (
+          held.3.0,
+          sym (meets_window gs label held.0)
+              ∙ held.3.1,
+        ) refl,
+        second held.1 ∙ fulfils_holds q hs later (sent ∷ []) held.1 held.4 (port_sent held.1 held.5),
+      )),
       (λ seen.
           let one = (holds_fulfils p gs label [] seen.0 (sym (first seen.0) ∙ seen.3)).0 in
           let two = holds_fulfils q hs later (sent ∷ []) seen.1 (sym (second seen.1) ∙ seen.4) in
@@ -50,24 +63,33 @@ top_tells all t n (Ends p) below label always has each =
 top_tells all t n InTurn below label always has each = turn_tells all (lowered_each t n below) below label (each has)
 top_tells all t n Either below label always has each = any_tells all (lowered_each t n below) below label (each has)
 top_tells all t n Both below label always has each = all_tells all t (lowered_each t n below) below label always (each has)
-top_tells all t n Other below label always has each = other_tells all t (first_expr (lowered_each t n below)) (HoldTogether below First label) always (first_tells all (lowered_each t n below) below label (each has))
-top_tells all t n Repeated below label always has each = repeated_tells all (first_expr (lowered_each t n below)) (HoldTogether below First label) (first_tells all (lowered_each t n below) below label (each has))
+top_tells all t n Other below label always has each =
+    other_tells all t (first_expr (lowered_each t n below)) (HoldTogether below First label) always
+    (first_tells all (lowered_each t n below) below label (each has))
+top_tells all t n Repeated below label always has each =
+    repeated_tells all (first_expr (lowered_each t n below)) (HoldTogether below First label)
+    (first_tells all (lowered_each t n below) below label (each has))
 
 -- expressions hold the led words of queries
-each_tells : (all : List PredTree) (t n : ℕ) (qs : Queries) (label : List ℕ) → IsAlways all t → HasAt all n (preds_of qs label) → EachTells all (lowered_each t n qs) qs label
+each_tells : (all : List PredTree) (t n : ℕ) (qs : Queries) (label : List ℕ) → IsAlways all t → HasAt all n (preds_of qs label)
+    → EachTells all (lowered_each t n qs) qs label
 each_tells all t n none label always has = tt
 each_tells all t n (put top below rest) label always has =
     let window = take (share top below) label in
     let later = drop (share top below) label in
     let own = top_preds top label (preds_of below label) in
-    let here : HasAt all n (top_preds top window (preds_of below window)) = subst (λ ps. HasAt all n ps) (sym (share_window top below label)) (has_first all n own (preds_of rest later) has) in
-    let next : HasAt all (n + top_count top (pred_count below)) (preds_of rest later) = subst (λ k. HasAt all (n + k) (preds_of rest later)) (counted (record { top = top; below = below }) label) (has_second all n own (preds_of rest later) has) in (
+    let here : HasAt all n (top_preds top window (preds_of below window)) =
+    subst (λ ps. HasAt all n ps) (sym (share_window top below label)) (has_first all n own (preds_of rest later) has) in
+    let next : HasAt all (n + top_count top (pred_count below)) (preds_of rest later) =
+    subst (λ k. HasAt all (n + k) (preds_of rest later)) (counted (record { top = top; below = below }) label)
+    (has_second all n own (preds_of rest later) has) in (
       top_tells all t n top below window always here (λ operands. each_tells all t n below window always operands),
       each_tells all t (n + top_count top (pred_count below)) rest later always next,
     )
 
 -- a lowered query holds the words of the query
-pub lowered_tells : (all : List PredTree) (t n : ℕ) (q : QueryTree) (label : List ℕ) → IsAlways all t → HasAt all n (query_preds q label) → (w : Word) → is_word w ≡ true → lang q label w ↔ (holds (lowered t n q) (half_steps all w) ≡ true)
+pub lowered_tells : (all : List PredTree) (t n : ℕ) (q : QueryTree) (label : List ℕ) → IsAlways all t → HasAt all n (query_preds q label)
+    → (w : Word) → is_word w ≡ true → lang q label w ↔ (holds (lowered t n q) (half_steps all w) ≡ true)
 lowered_tells all t n q label always has w word =
     let told = top_tells all t n q.top q.below label always has (λ operands. each_tells all t n q.below label always operands) in
     ((λ held. told.shows true w word (word_led (lang q label) w word held)), (λ h. led_word (lang q label) w word (told.keeps true w word h)))

@@ -18,7 +18,12 @@ pub record HasAt (all : List PredTree) (n : ℕ) (ps : List PredTree) : Type 0 w
 
 -- the first of two lists, and the second
 pub has_first : (all : List PredTree) (n : ℕ) (ps qs : List PredTree) → HasAt all n (ps ++ qs) → HasAt all n ps
-has_first all n ps qs has = record { before = has.before; more = qs ++ has.more; whole = has.whole ∙ ap (λ z. has.before ++ z) (append_assoc ps qs has.more); there = has.there }
+has_first all n ps qs has = record {
+  before = has.before;
+  more = qs ++ has.more;
+  whole = has.whole ∙ ap (λ z. has.before ++ z) (append_assoc ps qs has.more);
+  there = has.there;
+}
 
 pub has_second : (all : List PredTree) (n : ℕ) (ps qs : List PredTree) → HasAt all n (ps ++ qs) → HasAt all (n + length ps) qs
 has_second all n ps qs has = record {
@@ -35,7 +40,8 @@ truth_behind (q ∷ ps) more p x = truth_behind ps more p x
 
 -- the number of a predicate tells whether it holds
 pub number_tells : (all : List PredTree) (n : ℕ) (p : PredTree) (ps : List PredTree) → HasAt all n (p ∷ ps) → (x : Numbers) → truth all n x ≡ holds p x
-number_tells all n p ps has x = ap (λ z. truth z n x) has.whole ∙ ap (λ m. truth (has.before ++ p ∷ (ps ++ has.more)) m x) has.there ∙ truth_behind has.before (ps ++ has.more) p x
+number_tells all n p ps has x = ap (λ z. truth z n x) has.whole ∙ ap (λ m. truth (has.before ++ p ∷ (ps ++ has.more)) m x) has.there
+    ∙ truth_behind has.before (ps ++ has.more) p x
 
 pub next_tells : (all : List PredTree) (n : ℕ) (p q : PredTree) → HasAt all n (p ∷ q ∷ []) → (x : Numbers) → truth all (n + 1) x ≡ holds q x
 next_tells all n p q has x = number_tells all (n + 1) q [] (has_second all n (p ∷ []) (q ∷ []) has) x
@@ -56,7 +62,8 @@ top_counted Repeated label ps = refl
 each_counted : (qs : Queries) (label : List ℕ) → length (preds_of qs label) ≡ pred_count qs
 each_counted none label = refl
 each_counted (put top below rest) label =
-    length-append (top_preds top label (preds_of below label)) (preds_of rest (drop (share top below) label)) ∙ rw (top_counted top label (preds_of below label), each_counted below label, each_counted rest (drop (share top below) label)) refl
+    length-append (top_preds top label (preds_of below label)) (preds_of rest (drop (share top below) label))
+    ∙ rw (top_counted top label (preds_of below label), each_counted below label, each_counted rest (drop (share top below) label)) refl
 
 pub counted : (q : QueryTree) (label : List ℕ) → length (query_preds q label) ≡ query_count q
 counted q label = top_counted q.top label (preds_of q.below label) ∙ ap (λ k. top_count q.top k) (each_counted q.below label)

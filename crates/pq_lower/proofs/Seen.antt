@@ -33,7 +33,8 @@ is_none ps [] h = refl
 is_none ps (o ∷ w) h = absurd (search (h, rules))
 
 -- one half step In
-pub one_in : (ps : List PredTree) (n : ℕ) (w : Word) → holds (leaf (Enters n)) (half_steps ps w) ≡ true → (x : Numbers) × (w ≡ In x ∷ []) × (truth ps n x ≡ true)
+pub one_in : (ps : List PredTree) (n : ℕ) (w : Word) → holds (leaf (Enters n)) (half_steps ps w) ≡ true
+    → (x : Numbers) × (w ≡ In x ∷ []) × (truth ps n x ≡ true)
 one_in ps n [] h = absurd (search (h, rules))
 one_in ps n (In x ∷ w) h = let seen = and_parts (truth ps n x) (is_empty (half_steps ps w)) h in (x, ap (λ v. In x ∷ v) (is_none ps w seen.1), seen.0)
 one_in ps n (Out x ∷ w) h = absurd (search (h, rules))
@@ -42,7 +43,8 @@ pub in_one : (ps : List PredTree) (n : ℕ) (x : Numbers) → truth ps n x ≡ t
 in_one ps n x met = rw met refl
 
 -- one half step Out
-pub one_out : (ps : List PredTree) (n : ℕ) (w : Word) → holds (leaf (Leaves n)) (half_steps ps w) ≡ true → (x : Numbers) × (w ≡ Out x ∷ []) × (truth ps n x ≡ true)
+pub one_out : (ps : List PredTree) (n : ℕ) (w : Word) → holds (leaf (Leaves n)) (half_steps ps w) ≡ true
+    → (x : Numbers) × (w ≡ Out x ∷ []) × (truth ps n x ≡ true)
 one_out ps n [] h = absurd (search (h, rules))
 one_out ps n (In x ∷ w) h = absurd (search (h, rules))
 one_out ps n (Out x ∷ w) h = let seen = and_parts (truth ps n x) (is_empty (half_steps ps w)) h in (x, ap (λ v. Out x ∷ v) (is_none ps w seen.1), seen.0)

@@ -25,10 +25,13 @@ pub record IsLowered (base : ℕ) (q : QueryTree) (label : List ℕ) (old added 
   pub gained : map pred_tree added ≡ added_preds q label
   pub joined : new ≡ old ++ added
 
-pub whole_added : (base : ℕ) (q : QueryTree) (label : List ℕ) (old added new : List Pred) (e : ExprTree) → IsLowered base q label old added new e → map pred_tree new ≡ map pred_tree old ++ added_preds q label
+pub whole_added : (base : ℕ) (q : QueryTree) (label : List ℕ) (old added new : List Pred) (e : ExprTree)
+    → IsLowered base q label old added new e → map pred_tree new ≡ map pred_tree old ++ added_preds q label
 whole_added base q label old added new e l = ap (λ z. map pred_tree z) l.joined ∙ map-append pred_tree old added ∙ ap (λ z. map pred_tree old ++ z) l.gained
 
-pub whole_language : (base : ℕ) (q : QueryTree) (label : List ℕ) (old added new : List Pred) (e : ExprTree) → IsLowered base q label old added new e → (w : Word) → is_word w ≡ true → lang q label w ↔ (holds e (half_steps (map pred_tree new) w) ≡ true)
+pub whole_language : (base : ℕ) (q : QueryTree) (label : List ℕ) (old added new : List Pred) (e : ExprTree)
+    → IsLowered base q label old added new e → (w : Word) → is_word w ≡ true
+    → lang q label w ↔ (holds e (half_steps (map pred_tree new) w) ≡ true)
 whole_language base q label old added new e l w word =
     let all = map pred_tree new in
     let has : HasAt all base ((leaf Always ∷ []) ++ query_preds q label) = record {
@@ -38,26 +41,33 @@ whole_language base q label old added new e l w word =
       there = l.based ∙ sym (length-map old pred_tree);
     } in
     subst (λ z. lang q label w ↔ (holds z (half_steps all w) ≡ true)) (sym l.expr)
-    (lowered_tells all base (base + 1) q label (number_tells all base (leaf Always) [] (has_first all base (leaf Always ∷ []) (query_preds q label) has)) (has_second all base (leaf Always ∷ []) (query_preds q label) has) w word)
+    (lowered_tells all base (base + 1) q label
+    (number_tells all base (leaf Always) [] (has_first all base (leaf Always ∷ []) (query_preds q label) has))
+    (has_second all base (leaf Always ∷ []) (query_preds q label) has) w word)
 
 -- the number of predicates that are added
-added_count : (base : ℕ) (q : QueryTree) (label : List ℕ) (old added new : List Pred) (e : ExprTree) → IsLowered base q label old added new e → length added ≡ 1 + query_count q
+added_count : (base : ℕ) (q : QueryTree) (label : List ℕ) (old added new : List Pred) (e : ExprTree)
+    → IsLowered base q label old added new e → length added ≡ 1 + query_count q
 added_count base q label old added new e l =
     let size : length (added_preds q label) ≡ 1 + query_count q = omega (arith, counted q label) in
     sym (length-map added pred_tree) ∙ ap (λ z. length z) l.gained ∙ size
 
-pub whole_grown : (base : ℕ) (q : QueryTree) (label : List ℕ) (old added new : List Pred) (e : ExprTree) → IsLowered base q label old added new e → (more : List Pred) × (new ≡ old ++ more) × (length more ≤ 1 + 2 * query_atoms q)
+pub whole_grown : (base : ℕ) (q : QueryTree) (label : List ℕ) (old added new : List Pred) (e : ExprTree)
+    → IsLowered base q label old added new e → (more : List Pred) × (new ≡ old ++ more) × (length more ≤ 1 + 2 * query_atoms q)
 whole_grown base q label old added new e l =
     let count = added_count base q label old added new e l in
     let few = few_preds q in
     (added, l.joined, omega (arith, count, few))
 
-pub whole_good : (base : ℕ) (q : QueryTree) (label : List ℕ) (old added new : List Pred) (e : ExprTree) → IsLowered base q label old added new e → IsGood (length new) e
+pub whole_good : (base : ℕ) (q : QueryTree) (label : List ℕ) (old added new : List Pred) (e : ExprTree)
+    → IsLowered base q label old added new e → IsGood (length new) e
 whole_good base q label old added new e l =
     let count = added_count base q label old added new e l in
     let sum : length new ≡ length old + length added = ap (λ z. length z) l.joined ∙ length-append old added in
     let based = l.based in
-    subst (λ z. IsGood (length new) z) (sym l.expr) (lowered_good (length new) base (base + 1) q (omega (arith, count, sum, based)) (omega (arith, count, sum, based)))
+    subst (λ z. IsGood (length new) z) (sym l.expr) (lowered_good (length new) base (base + 1) q (omega (arith, count, sum, based))
+    (omega (arith, count, sum, based)))
 
-pub whole_depth : (base : ℕ) (q : QueryTree) (label : List ℕ) (old added new : List Pred) (e : ExprTree) → IsLowered base q label old added new e → depth e ≤ 1 + 2 * query_depth q
+pub whole_depth : (base : ℕ) (q : QueryTree) (label : List ℕ) (old added new : List Pred) (e : ExprTree)
+    → IsLowered base q label old added new e → depth e ≤ 1 + 2 * query_depth q
 whole_depth base q label old added new e l = subst (λ z. depth z ≤ 1 + 2 * query_depth q) (sym l.expr) (lowered_depth base (base + 1) q)

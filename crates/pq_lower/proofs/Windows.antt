@@ -22,12 +22,14 @@ drop_window k n label enough =
     ap (λ m. drop k (take m label)) parts ∙ drop-take k (n - k) label
 
 -- an atom
-top_window : (top : QueryTop) (n : ℕ) (label : List ℕ) (ps : List PredTree) → length (top_groups top) ≤ n → top_preds top (take n label) ps ≡ top_preds top label ps
+top_window : (top : QueryTop) (n : ℕ) (label : List ℕ) (ps : List PredTree) → length (top_groups top) ≤ n
+    → top_preds top (take n label) ps ≡ top_preds top label ps
 top_window (Enters p gs) n label ps enough = rw (tests_window gs n label enough) refl
 top_window (Leaves p gs) n label ps enough = rw (tests_window gs n label enough) refl
 top_window (Passes p gs q hs) n label ps enough =
     let parts = length-append gs hs in
-    let second = ap (λ z. tests hs z) (drop_window (length gs) n label (omega (arith, enough, parts))) ∙ tests_window hs (n - length gs) (drop (length gs) label) (omega (arith, enough, parts)) in
+    let second = ap (λ z. tests hs z) (drop_window (length gs) n label (omega (arith, enough, parts)))
+    ∙ tests_window hs (n - length gs) (drop (length gs) label) (omega (arith, enough, parts)) in
     rw (tests_window gs n label (omega (arith, enough, parts)), second) refl
 top_window (Ends p) n label ps enough = refl
 top_window InTurn n label ps enough = refl
@@ -52,7 +54,9 @@ each_window (put top below rest) n label enough =
     refl
 
 -- a query reads its share
-pub share_window : (top : QueryTop) (below : Queries) (label : List ℕ) → top_preds top (take (share top below) label) (preds_of below (take (share top below) label)) ≡ top_preds top label (preds_of below label)
+pub share_window : (top : QueryTop) (below : Queries) (label : List ℕ)
+    → top_preds top (take (share top below) label) (preds_of below (take (share top below) label))
+    ≡ top_preds top label (preds_of below label)
 share_window top below label =
     let own = length-append (top_groups top) (groups_of below) in
     rw (each_window below (share top below) label (omega (arith, own))) (top_window top (share top below) label (preds_of below label) (omega (arith, own)))

@@ -5,7 +5,8 @@ use Rattle.pq_fields.specs.Packet.{width_of}
 use Rattle.pq_fields.specs.Pred.{PredTop, Always, Never, Equals, Every, Negated, Preds, none, put, PredTree, preds}
 use Rattle.pq_query.specs.Groups.{Group}
 use Rattle.pq_query.specs.Labels.{groups_of}
-use Rattle.pq_query.specs.Query.{QueryTop, Enters, Leaves, Passes, Ends, InTurn, Either, Both, Other, Repeated, Queries, none as no_queries, put as add, QueryTree, queries}
+use Rattle.pq_query.specs.Query.{QueryTop, Enters, Leaves, Passes, Ends, InTurn, Either, Both, Other, Repeated, Queries, none as no_queries}
+use Rattle.pq_query.specs.Query.{put as add, QueryTree, queries}
 
 -- what can be said of the top of a predicate and its operands
 abbrev pub Say : Type 1

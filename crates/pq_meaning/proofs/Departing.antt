@@ -28,7 +28,10 @@ module _ {A : Type 0} (p : A → Bool) (P : A → Type 0) where
   any_passes (x ∷ xs) some = by (p x) refl some (any_passes xs)
     where
       by : (b : Bool) → p x ≡ b → Any P (cond b (x ∷ filter p xs) (filter p xs)) → (Any P (filter p xs) → Any Passes xs) → Any Passes (x ∷ xs)
-      by true e some more = elim (any_cases P x (filter p xs) some) [ inl here ↦ any_first Passes x xs (here, e) | inr later ↦ any_later Passes x xs (more later) ]
+      by true e some more = elim (any_cases P x (filter p xs) some) [
+        | inl here ↦ any_first Passes x xs (here, e)
+        | inr later ↦ any_later Passes x xs (more later)
+      ]
       by false e some more = any_later Passes x xs (more some)
 
   passes_any : (xs : List A) → Any Passes xs → Any P (filter p xs)
@@ -42,7 +45,8 @@ module _ {A : Type 0} (p : A → Bool) (P : A → Type 0) where
       by false e (inr later) more = more later
 
 -- writes that give some packets give, filtered, those of them that leave at a port
-leaving_given : (T : Topology) (x : Numbers) (P : Numbers → Type 0) (ws : List Written) → IsGiven x P ws → IsGiven x (λ y. P y × IsTrue (is_port T x.switch y.port)) (filter (departs_by T x) ws)
+leaving_given : (T : Topology) (x : Numbers) (P : Numbers → Type 0) (ws : List Written) → IsGiven x P ws
+    → IsGiven x (λ y. P y × IsTrue (is_port T x.switch y.port)) (filter (departs_by T x) ws)
 leaving_given T x P ws given = record {
   ascend = AllPairs-filter (λ v w. writes_cmp v w ≡ Less) passes ws given.ascend;
   fit = All-filter passes AllFit ws given.fit;
@@ -65,5 +69,6 @@ leaving_given T x P ws given = record {
         passes_any passes (λ w. y ≡ on w x) ws (some.0, some.1, some.2, some.3, (some.4, ap (λ z. is_port T x.switch z.port) (sym some.4) ∙ port))
 
 -- so of the diagram of all parts the writes that leave at a port are those of the departures
-pub parts_depart : (T : Topology) (ps : List PolicyTree) (t : Tree (List Written)) → IsUnionOfParts T ps t → AreDepartures (departs T ps) (departing T (value t))
+pub parts_depart : (T : Topology) (ps : List PolicyTree) (t : Tree (List Written)) → IsUnionOfParts T ps t
+    → AreDepartures (departs T ps) (departing T (value t))
 parts_depart T ps t united x fit = leaving_given T x (any_yields T ps x) (value t x) (united.giving x fit)

@@ -51,7 +51,8 @@ put_ascends : (x : Numbers) (ys : List Numbers) → AscendsBy numbers ys → Asc
 put_ascends x [] up = tt
 put_ascends x (y ∷ ys) up = by (is_before (numbers x) (numbers y)) (is_before (numbers y) (numbers x)) refl refl
   where
-    by : (b c : Bool) → is_before (numbers x) (numbers y) ≡ b → is_before (numbers y) (numbers x) ≡ c → AscendsBy numbers (if b then x ∷ y ∷ ys else if c then y ∷ put x ys else y ∷ ys)
+    by : (b c : Bool) → is_before (numbers x) (numbers y) ≡ b → is_before (numbers y) (numbers x) ≡ c
+        → AscendsBy numbers (if b then x ∷ y ∷ ys else if c then y ∷ put x ys else y ∷ ys)
     by true c first back = (first, up)
     by false true first back = put_behind y x ys back up
     by false false first back = up
@@ -61,7 +62,8 @@ in_put x z [] (inl is) = inl is
 in_put x z [] (inr never) = absurd never
 in_put x z (y ∷ ys) there = by (is_before (numbers x) (numbers y)) (is_before (numbers y) (numbers x)) there (in_put x z ys)
   where
-    by : (b c : Bool) → StandsIn z (if b then x ∷ y ∷ ys else if c then y ∷ put x ys else y ∷ ys) → (StandsIn z (put x ys) → (z ≡ x) ⊎ StandsIn z ys) → (z ≡ x) ⊎ StandsIn z (y ∷ ys)
+    by : (b c : Bool) → StandsIn z (if b then x ∷ y ∷ ys else if c then y ∷ put x ys else y ∷ ys)
+        → (StandsIn z (put x ys) → (z ≡ x) ⊎ StandsIn z ys) → (z ≡ x) ⊎ StandsIn z (y ∷ ys)
     by true c there rest = there
     by false true (inl is) rest = inr (inl is)
     by false true (inr later) rest = elim (rest later) [ inl is ↦ inl is | inr old ↦ inr (inr old) ]
@@ -71,7 +73,8 @@ put_in : (x z : Numbers) (ys : List Numbers) → (z ≡ x) ⊎ StandsIn z ys →
 put_in x z [] here = here
 put_in x z (y ∷ ys) here = by (is_before (numbers x) (numbers y)) (is_before (numbers y) (numbers x)) refl refl here (put_in x z ys)
   where
-    by : (b c : Bool) → is_before (numbers x) (numbers y) ≡ b → is_before (numbers y) (numbers x) ≡ c → (z ≡ x) ⊎ StandsIn z (y ∷ ys) → ((z ≡ x) ⊎ StandsIn z ys → StandsIn z (put x ys))
+    by : (b c : Bool) → is_before (numbers x) (numbers y) ≡ b → is_before (numbers y) (numbers x) ≡ c → (z ≡ x) ⊎ StandsIn z (y ∷ ys)
+        → ((z ≡ x) ⊎ StandsIn z ys → StandsIn z (put x ys))
         → StandsIn z (if b then x ∷ y ∷ ys else if c then y ∷ put x ys else y ∷ ys)
     by true c first back here rest = here
     by false true first back (inl is) rest = inr (rest (inl is))
@@ -98,11 +101,16 @@ in_given x z (w ∷ ws) there = elim (in_put (on w x) z (given_in_order x ws) th
 
 given_in : (x z : Numbers) (ws : List Written) → IsWrittenBy x ws z → StandsIn z (given_in_order x ws)
 given_in x z [] some = any_none (λ v. z ≡ on v x) some
-given_in x z (w ∷ ws) some = put_in (on w x) z (given_in_order x ws) (elim (any_cases (λ v. z ≡ on v x) w ws some) [ inl is ↦ inl is | inr later ↦ inr (given_in x z ws later) ])
+given_in x z (w ∷ ws) some =
+    put_in (on w x) z (given_in_order x ws)
+    (elim (any_cases (λ v. z ≡ on v x) w ws some) [ inl is ↦ inl is | inr later ↦ inr (given_in x z ws later) ])
 
 in_packet_order : (xs : List Numbers) → AscendsBy numbers xs → IsInPacketOrder xs
 in_packet_order [] up = tt
-in_packet_order (x ∷ xs) up = (All-from_recursion (λ y. is_before (numbers x) (numbers y) ≡ true) xs (first_ahead numbers x xs up), in_packet_order xs (rest_ascends numbers x xs up))
+in_packet_order (x ∷ xs) up = (
+  All-from_recursion (λ y. is_before (numbers x) (numbers y) ≡ true) xs (first_ahead numbers x xs up),
+  in_packet_order xs (rest_ascends numbers x xs up),
+)
 
 given_list : (x : Numbers) (P : Numbers → Type 0) (ws : List Written) → IsGiven x P ws → IsListOf P (given_in_order x ws)
 given_list x P ws given = record {
@@ -162,7 +170,13 @@ module _ (T : Topology) (ps : List PolicyTree) (qs : List QueryTree) (g : Taggin
       out : lang q inst.label w → accepts_word inst w ≡ true
       out holds =
           let held = ((laid.tagging.tagged w path).held i).1 (record { instance = inst; at = at; query = q; asked = asked; holds = holds }) in
-          list_any-from_Any (λ i. is_instance inst (slice_get all i)) (g.accepted (tag_of g w)) (held.0, i, held.1, held.2, (ap (is_instance inst) at ∙ itself inst))
+          list_any-from_Any (λ i. is_instance inst (slice_get all i)) (g.accepted (tag_of g w)) (
+            held.0,
+            i,
+            held.1,
+            held.2,
+            (ap (is_instance inst) at ∙ itself inst),
+          )
 
   -- a meaning of the document
   pub meaning_of : Meaning

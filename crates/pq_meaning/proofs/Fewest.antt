@@ -1,5 +1,6 @@
 -- A marking tells apart what languages tell apart, and tags are one.
-use Rattle.std.proofs.Common.{◌≡◌, ◌∙◌, ◌<◌, ℕ, Bool, true, false, List, [], ◌∷◌, ◌++◌, length, map, get_or, append-nil, append_assoc, refl, sym, ap, subst, arith}
+use Rattle.std.proofs.Common.{◌≡◌, ◌∙◌, ◌<◌, ℕ, Bool, true, false, List, [], ◌∷◌, ◌++◌, length, map, get_or, append-nil, append_assoc, refl}
+use Rattle.std.proofs.Common.{sym, ap, subst, arith}
 use Rattle.std.specs.Prelude.{All, Some, eqb, slice_get}
 use Rattle.std.specs.List.{Contains, list_any}
 use Rattle.std.proofs.Math.Seq.{take-append_seam}
@@ -80,9 +81,11 @@ module _ (Ls : Languages) (mark : Word → ℕ) (parity : KeepsParity mark) (hel
           by true is =
               let second : j < length words = omega (arith, within, length-map words mark) in
               let first : i < length words = omega (arith, less, second) in
-              let same : mark (get_or words i []) ≡ mark (get_or words j []) = sym (mark_at i d first) ∙ (eqb-true (get_or marks i d) (get_or marks j d) is ∙ mark_at j d second) in
+              let same : mark (get_or words i []) ≡ mark (get_or words j []) = sym (mark_at i d first)
+              ∙ (eqb-true (get_or marks i d) (get_or marks j d) is ∙ mark_at j d second) in
               let told = tells_apart (get_or words i []) (get_or words j []) (classes.paths i [] first) (classes.paths j [] second) same in
-              let one = classes.differ i j (get_or words i []) (get_or words j []) (slice_get-get_or words i [] first) (slice_get-get_or words j [] second) told in
+              let one = classes.differ i j (get_or words i []) (get_or words j []) (slice_get-get_or words i [] first)
+              (slice_get-get_or words j [] second) told in
               absurd (omega (arith, less, one))
 
       small : (q : ℕ) → list_any (eqb q) marks ≡ true → q < m

@@ -11,7 +11,8 @@ use Rattle.pq_fields.specs.Pred.{FitsField, holds}
 use Rattle.pq_fields.specs.Writes.{Written, is_writable, no_writes, on, with_write}
 use Rattle.pq_model.specs.Topology.{Topology, ports_of}
 use Rattle.pq_policy.specs.Policy.{PolicyTop, Pass, Discard, Spread, Only, Write, Forward, Choose, Either, InTurn, Joint, AnyOne, Chained, First, Second}
-use Rattle.pq_policy.specs.Policy.{ArePoliciesOver, Gives, IsLawfulPolicy, IsTopOver, Policies, PolicyTree, Yields, none, put, written, yields, is_writable as may_write}
+use Rattle.pq_policy.specs.Policy.{ArePoliciesOver, Gives, IsLawfulPolicy, IsTopOver, Policies, PolicyTree, Yields, none, put, written}
+use Rattle.pq_policy.specs.Policy.{yields, is_writable as may_write}
 use Rattle.pq_store.specs.Laws.{Ignores}
 use Rattle.pq_store.specs.Tree.{Tree, value}
 use Rattle.pq_store.proofs.PrefixNumbers.{number_with_other}
@@ -45,7 +46,12 @@ module _ (f : Field) (n : ℕ) where
       record {
         lacks = λ x y lack is. ap (has_field f) (is ∙ sym (one_write g m writable x)) ∙ (has_on f w x ∙ lack);
         there = λ x y lack is. ap changed (is ∙ sym (one_write g m writable x)) ∙ (sym (on_kept f n x lack w) ∙ one_write g m writable (changed x));
-        back = λ x y lack is. (written g m x, refl, is ∙ (sym (one_write g m writable (changed x)) ∙ (on_kept f n x lack w ∙ ap changed (one_write g m writable x))));
+        back = λ x y lack is. (
+          written g m x,
+          refl,
+          is
+              ∙ (sym (one_write g m writable (changed x)) ∙ (on_kept f n x lack w ∙ ap changed (one_write g m writable x))),
+        );
       }
 
   carries_either : (R S : Numbers → Numbers → Type 0) → Carries R → Carries S → Carries (λ x y. R x y ⊎ S x y)
@@ -77,8 +83,12 @@ module _ (f : Field) (n : ℕ) where
     carries_spread : Carries Spreads
     carries_spread = record {
       lacks = λ x y lack (p, there, other, is). (carries_write Port p refl).lacks x y lack is;
-      there = λ x y lack (p, there, other, is).
-          (p, subst (λ d. Contains (ports_of T d) p) (sym (switch_kept x lack)) there, subst (λ q. p ≢ q) (sym (port_kept x lack)) other, (carries_write Port p refl).there x y lack is);
+      there = λ x y lack (p, there, other, is). (
+        p,
+        subst (λ d. Contains (ports_of T d) p) (sym (switch_kept x lack)) there,
+        subst (λ q. p ≢ q) (sym (port_kept x lack)) other,
+        (carries_write Port p refl).there x y lack is,
+      );
       back = λ x y lack (p, there, other, is).
           let some = (carries_write Port p refl).back x y lack is in
           (some.0, (p, subst (λ d. Contains (ports_of T d) p) (switch_kept x lack) there, subst (λ q. p ≢ q) (port_kept x lack) other, some.1), some.2);
@@ -105,9 +115,11 @@ module _ (f : Field) (n : ℕ) where
     gives_carries (Choose p) below Operands lawful carries = record {
       lacks = λ x y lack given. (carries (if holds p x then First else Second)).lacks x y lack given;
       there = λ x y lack given.
-          subst (λ b. Operands (if b then First else Second) (changed x) (changed y)) (sym (holds_kept f n x lack p)) ((carries (if holds p x then First else Second)).there x y lack given);
+          subst (λ b. Operands (if b then First else Second) (changed x) (changed y)) (sym (holds_kept f n x lack p))
+          ((carries (if holds p x then First else Second)).there x y lack given);
       back = λ x y lack given.
-          (carries (if holds p x then First else Second)).back x y lack (subst (λ b. Operands (if b then First else Second) (changed x) y) (holds_kept f n x lack p) given);
+          (carries (if holds p x then First else Second)).back x y lack
+          (subst (λ b. Operands (if b then First else Second) (changed x) y) (holds_kept f n x lack p) given);
     }
     gives_carries Either below Operands lawful carries = carries AnyOne
     gives_carries InTurn below Operands lawful carries = carries Chained
@@ -119,9 +131,11 @@ module _ (f : Field) (n : ℕ) where
     yields_carry none lawful First = carries_none
     yields_carry none lawful Second = carries_none
     yields_carry (put top below rest) lawful AnyOne =
-        carries_either (Gives T top (Yields T below)) (Yields T rest AnyOne) (gives_carries top below (Yields T below) lawful.0 (yields_carry below lawful.1)) (yields_carry rest lawful.2 AnyOne)
+        carries_either (Gives T top (Yields T below)) (Yields T rest AnyOne)
+        (gives_carries top below (Yields T below) lawful.0 (yields_carry below lawful.1)) (yields_carry rest lawful.2 AnyOne)
     yields_carry (put top below rest) lawful Chained =
-        carries_chain (Gives T top (Yields T below)) (Yields T rest Chained) (gives_carries top below (Yields T below) lawful.0 (yields_carry below lawful.1)) (yields_carry rest lawful.2 Chained)
+        carries_chain (Gives T top (Yields T below)) (Yields T rest Chained)
+        (gives_carries top below (Yields T below) lawful.0 (yields_carry below lawful.1)) (yields_carry rest lawful.2 Chained)
     yields_carry (put top below rest) lawful First = gives_carries top below (Yields T below) lawful.0 (yields_carry below lawful.1)
     yields_carry (put top below rest) lawful Second = yields_carry rest lawful.2 First
 
@@ -132,7 +146,8 @@ module _ (f : Field) (n : ℕ) where
     parts_carry ps lawful = record {
       lacks = λ x y lack (k, p, within, at, given). (part_carries p (lawful_at k p within at)).lacks x y lack given;
       there = λ x y lack (k, p, within, at, given). (k, p, within, at, (part_carries p (lawful_at k p within at)).there x y lack given);
-      back = λ x y lack (k, p, within, at, given). let some = (part_carries p (lawful_at k p within at)).back x y lack given in (some.0, (k, p, within, at, some.1), some.2);
+      back = λ x y lack (k, p, within, at, given). let some = (part_carries p (lawful_at k p within at)).back x y lack given in
+          (some.0, (k, p, within, at, some.1), some.2);
     }
       where
         lawful_at : (k : ℕ) (p : PolicyTree) → k < length ps → get_or ps k p ≡ p → IsLawfulPolicy p
@@ -144,7 +159,8 @@ module _ (f : Field) (n : ℕ) where
       let own = changes g m is in
       (has_kept f n x lack g ∙ own.0, λ same. own.1 (sym (number_with_other f g n x (other_field f n x lack g own.0)) ∙ same))
 
-  given_kept : (P : Numbers → Numbers → Type 0) → Carries P → (x : Numbers) → has_field f x ≡ false → (ws : List Written) → IsGiven x (P x) ws → IsGiven (changed x) (P (changed x)) ws
+  given_kept : (P : Numbers → Numbers → Type 0) → Carries P → (x : Numbers) → has_field f x ≡ false → (ws : List Written)
+      → IsGiven x (P x) ws → IsGiven (changed x) (P (changed x)) ws
   given_kept P carries x lack ws given = record {
     ascend = given.ascend;
     fit = given.fit;
@@ -163,7 +179,8 @@ module _ (f : Field) (n : ℕ) where
           (writes.0, writes.1, writes.2, writes.3, some.2 ∙ (ap changed writes.4 ∙ sym (on_kept f n x lack writes.1)))
 
 -- the value of the diagram of all parts doesn't depend on the number in a field that the packet lacks
-pub parts_ignore : (T : Topology) (ps : List PolicyTree) (t : Tree (List Written)) → AreLawful ps → IsUnionOfParts T ps t → (f : Field) → Ignores f (λ x. has_field f x ≡ false) t
+pub parts_ignore : (T : Topology) (ps : List PolicyTree) (t : Tree (List Written)) → AreLawful ps → IsUnionOfParts T ps t → (f : Field)
+    → Ignores f (λ x. has_field f x ≡ false) t
 parts_ignore T ps t lawful united f x n fit small lack =
     let P = any_yields T ps in
     let y = with_number f n x in

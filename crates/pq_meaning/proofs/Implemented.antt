@@ -30,7 +30,8 @@ module _ (sends : (first : ArrivingTrees) (second : LeavingTrees) → AreFilled 
 
   all_send : (T : Topology) (g : Tagging) (writes : Departures) (i : Install) → IsFilled T g writes i → AllSend T g writes i.messages
   all_send T g writes i filled =
-      zip_weaker (λ s ms. (a : AreMessages T g writes s.datapath ms) × AreFilled a.first a.second) (λ s ms. AreSending T g writes s.datapath ms) (filled_send T g writes) T.switches i.messages filled
+      zip_weaker (λ s ms. (a : AreMessages T g writes s.datapath ms) × AreFilled a.first a.second)
+      (λ s ms. AreSending T g writes s.datapath ms) (filled_send T g writes) T.switches i.messages filled
 
   pub compiled : (T : Topology) (names : List (List ℕ)) (ps : List PolicyTree) (qs : List QueryTree) (i : Install) (m : Meaning)
       → IsLawfulTopology T → (c : IsCompiled T names ps qs i) → IsFilled T c.tags c.writes i → IsMeaning T ps qs m → Implements i m

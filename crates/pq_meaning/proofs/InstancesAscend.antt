@@ -1,5 +1,6 @@
 -- Instances of queries are listed in ascending order.
-use Rattle.std.proofs.Common.{◌≡◌, ◌+◌, ◌<◌, ◌≤◌, ◌==◌, ◌||◌, ◌&&◌, ℕ, true, false, Ordering, Less, Equal, Greater, nat_cmp, nat_lt, List, [], ◌∷◌, ◌++◌, map, arith}
+use Rattle.std.proofs.Common.{◌≡◌, ◌+◌, ◌<◌, ◌≤◌, ◌==◌, ◌||◌, ◌&&◌, ℕ, true, false, Ordering, Less, Equal, Greater, nat_cmp, nat_lt, List}
+use Rattle.std.proofs.Common.{[], ◌∷◌, ◌++◌, map, arith}
 use Rattle.std.specs.Cmp.{nat_cmp_total, ranks}
 use Rattle.std.specs.List.{AllByRecursion, flat_map}
 use Rattle.std.specs.List.Sorted.{IsStrictlySortedBy}
@@ -78,13 +79,16 @@ module _ (R : List (List ℕ)) where
   ahead n k (m ∷ ms) above =
       let less : n < m = above.0 in
       all_append (LabelBefore (n ∷ k)) (map (λ label. m ∷ label) R) (led ms)
-      (all_map (λ label. m ∷ label) (LabelBefore (n ∷ k)) R (all_of (λ l. LabelBefore (n ∷ k) (m ∷ l)) (λ l. by_first (n + 1) (m + 1) (label_key k) (label_key l) (omega (arith, less))) R))
+      (all_map (λ label. m ∷ label) (LabelBefore (n ∷ k)) R
+      (all_of (λ l. LabelBefore (n ∷ k) (m ∷ l)) (λ l. by_first (n + 1) (m + 1) (label_key k) (label_key l) (omega (arith, less))) R))
       (ahead n k ms above.1)
 
 led_alone : (n : ℕ) (R : List (List ℕ)) → Rise LabelBefore R → Rise LabelBefore (map (λ label. n ∷ label) R)
 led_alone n [] up = tt
 led_alone n (k ∷ R) up = (
-  all_map (λ label. n ∷ label) (LabelBefore (n ∷ k)) R (all_weaker (LabelBefore k) (λ l. LabelBefore (n ∷ k) (n ∷ l)) (λ l before. same_first (n + 1) (label_key k) (label_key l) before) R up.0),
+  all_map (λ label. n ∷ label) (LabelBefore (n ∷ k)) R
+      (all_weaker (LabelBefore k) (λ l. LabelBefore (n ∷ k) (n ∷ l)) (λ l before. same_first (n + 1) (label_key k) (label_key l) before) R
+      up.0),
   led_alone n R up.1,
 )
 
@@ -92,13 +96,15 @@ led_rise : (R : List (List ℕ)) → Rise LabelBefore R → (ns : List ℕ) → 
 led_rise R up [] above = tt
 led_rise R up (n ∷ ns) above =
     rise_append LabelBefore (map (λ label. n ∷ label) R) (led R ns) (led_alone n R up) (led_rise R up ns above.1)
-    (all_map (λ label. n ∷ label) (λ k. AllByRecursion (LabelBefore k) (led R ns)) R (all_of (λ k. AllByRecursion (LabelBefore (n ∷ k)) (led R ns)) (λ k. ahead R n k ns above.0) R))
+    (all_map (λ label. n ∷ label) (λ k. AllByRecursion (LabelBefore k) (led R ns)) R
+    (all_of (λ k. AllByRecursion (LabelBefore (n ∷ k)) (led R ns)) (λ k. ahead R n k ns above.0) R))
 
 -- lists with one value from each of ascending lists ascend
 each_rise : (T : Topology) (gs : List Group) → Rise LabelBefore (one_from_each (map (λ g. ascending (group_values T g)) gs))
 each_rise T [] = (tt, tt)
 each_rise T (g ∷ gs) =
-    led_rise (one_from_each (map (λ g. ascending (group_values T g)) gs)) (each_rise T gs) (ascending (group_values T g)) (numbers_rise (ascending (group_values T g)) (sorted (group_values T g)))
+    led_rise (one_from_each (map (λ g. ascending (group_values T g)) gs)) (each_rise T gs) (ascending (group_values T g))
+    (numbers_rise (ascending (group_values T g)) (sorted (group_values T g)))
 
 -- Instances.
 
@@ -119,18 +125,21 @@ behind : (T : Topology) (place first : ℕ) (qs : List QueryTree) → first ≤ 
 behind T place first [] below = tt
 behind T place first (q ∷ qs) below =
     all_append (λ i. first ≤ i.query) (under_labels place (labels T q)) (instances_from T (place + 1) qs)
-    (all_map (λ label. record { query = place; label = label }) (λ (i : Instance). first ≤ i.query) (labels T q) (all_of (λ label. first ≤ place) (λ label. below) (labels T q)))
+    (all_map (λ label. record { query = place; label = label }) (λ (i : Instance). first ≤ i.query) (labels T q)
+    (all_of (λ label. first ≤ place) (λ label. below) (labels T q)))
     (behind T (place + 1) first qs (omega (arith, below)))
 
 instances_rise : (T : Topology) (place : ℕ) (qs : List QueryTree) → Rise InstanceBefore (instances_from T place qs)
 instances_rise T place [] = tt
 instances_rise T place (q ∷ qs) =
     let later = instances_from T (place + 1) qs in
-    rise_append InstanceBefore (under_labels place (labels T q)) later (under_rise place (labels T q) (each_rise T (groups_of (queries (q ∷ []))))) (instances_rise T (place + 1) qs)
+    rise_append InstanceBefore (under_labels place (labels T q)) later
+    (under_rise place (labels T q) (each_rise T (groups_of (queries (q ∷ []))))) (instances_rise T (place + 1) qs)
     (all_map (λ label. record { query = place; label = label }) (λ i. AllByRecursion (InstanceBefore i) later) (labels T q)
     (all_of (λ label. AllByRecursion (InstanceBefore (record { query = place; label = label })) later)
     (λ label. all_weaker (λ (j : Instance). place + 1 ≤ j.query) (InstanceBefore (record { query = place; label = label }))
-    (λ j above. by_first place j.query (label_key label) (label_key j.label) (omega (arith, above))) later (behind T (place + 1) (place + 1) qs (omega arith))) (labels T q)))
+    (λ j above. by_first place j.query (label_key label) (label_key j.label) (omega (arith, above))) later
+    (behind T (place + 1) (place + 1) qs (omega arith))) (labels T q)))
 
 ascends_by : (is : List Instance) → Rise InstanceBefore is → AscendsBy instance_numbers is
 ascends_by [] up = tt

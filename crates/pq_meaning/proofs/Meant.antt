@@ -29,10 +29,14 @@ use Rattle.pq_meaning.proofs.InstancesAscend.{instances_ascend}
 ascends_in_order : (xs : List Numbers) → IsInPacketOrder xs → AscendsBy numbers xs
 ascends_in_order [] ordered = tt
 ascends_in_order (x ∷ []) ordered = tt
-ascends_in_order (x ∷ y ∷ ys) ordered = ((recursion_from_All (λ z. is_before (numbers x) (numbers z) ≡ true) (y ∷ ys) ordered.0).0, ascends_in_order (y ∷ ys) ordered.1)
+ascends_in_order (x ∷ y ∷ ys) ordered = (
+  (recursion_from_All (λ z. is_before (numbers x) (numbers z) ≡ true) (y ∷ ys) ordered.0).0,
+  ascends_in_order (y ∷ ys) ordered.1,
+)
 
 -- the query of an instance is one of the document's
-query_of : (T : Topology) (qs : List QueryTree) (i : ℕ) (inst : Instance) → slice_get (instances_of T qs) i ≡ Some inst → (q : QueryTree) × (slice_get qs inst.query ≡ Some q)
+query_of : (T : Topology) (qs : List QueryTree) (i : ℕ) (inst : Instance) → slice_get (instances_of T qs) i ≡ Some inst
+    → (q : QueryTree) × (slice_get qs inst.query ≡ Some q)
 query_of T qs i inst at = at_place qs inst.query (below (slice_get_within (instances_of T qs) i inst at))
   where
     below : i < length (instances_of T qs) → inst.query < length qs

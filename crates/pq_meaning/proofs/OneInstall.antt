@@ -109,7 +109,8 @@ module _ (T : Topology) (g h : Tagging) (alike : AreAlike g h) where
   -- Keys and tags.
 
   evens_same : even_tags g ≡ even_tags h
-  evens_same = filter_same g.is_even h.is_even (up_to g.count) (all_weaker (IsOneOf g.count) (λ t. g.is_even t ≡ h.is_even t) (λ t known. alike.even t known.0 known.1) (up_to g.count) all_tags)
+  evens_same = filter_same g.is_even h.is_even (up_to g.count)
+      (all_weaker (IsOneOf g.count) (λ t. g.is_even t ≡ h.is_even t) (λ t known. alike.even t known.0 known.1) (up_to g.count) all_tags)
       ∙ ap (λ n. filter h.is_even (up_to n)) alike.count
 
   odds_same : odd_tags g ≡ odd_tags h
@@ -150,11 +151,14 @@ module _ (T : Topology) (g h : Tagging) (alike : AreAlike g h) where
   capture_same w t x known fit =
       let next = alike.within t x known.0 known.1 fit in
       let b = g.after t x in
-      ap (λ c. if c then record { writes = w; tag = Some b; kind = CaptureOut } ∷ [] else []) (captures_same b next) ∙ ap (capture_of h w) (alike.after t x known.0 known.1 fit)
+      ap (λ c. if c then record { writes = w; tag = Some b; kind = CaptureOut } ∷ [] else []) (captures_same b next)
+      ∙ ap (capture_of h w) (alike.after t x known.0 known.1 fit)
 
   copies_same : (t : ℕ) (x : Numbers) → IsOneOf g.count t → Fit x → (ws : List Written) → AllByRecursion AllFit ws → copies_of T g t x ws ≡ copies_of T h t x ws
   copies_same t x known fit [] fits = capture_same no_writes t (record x { port = 0 }) known (dropped_fits x fit)
-  copies_same t x known fit (w ∷ ws) fits = flat_map_same (copies_by T g t x) (copies_by T h t x) (w ∷ ws) (all_weaker AllFit (λ v. copies_by T g t x v ≡ copies_by T h t x v) each (w ∷ ws) fits)
+  copies_same t x known fit (w ∷ ws) fits =
+      flat_map_same (copies_by T g t x) (copies_by T h t x) (w ∷ ws)
+      (all_weaker AllFit (λ v. copies_by T g t x v ≡ copies_by T h t x v) each (w ∷ ws) fits)
     where
       each : (v : Written) → AllFit v → copies_by T g t x v ≡ copies_by T h t x v
       each v v_fits =
@@ -180,9 +184,11 @@ module _ (T : Topology) (g h : Tagging) (alike : AreAlike g h) where
       pub trees_same : (a : ArrivingTrees) (b : LeavingTrees) → AreTrees T g writes d a b → AreTrees T h more d a b
       trees_same a b trees = record {
         arriving = subst (λ ks. AllZip (λ k p. (p.0 ≡ key_word k) × IsArriving T h d k p.1) ks a) keys_same
-            (other_trees key_word (λ k x. arrival T g k (at_switch d x)) (λ k x. arrival T h k (at_switch d x)) IsKey arrival_at (keys_of g) keys_known a trees.arriving);
+            (other_trees key_word (λ k x. arrival T g k (at_switch d x)) (λ k x. arrival T h k (at_switch d x)) IsKey arrival_at
+            (keys_of g) keys_known a trees.arriving);
         leaving = subst (λ ts. AllZip (λ t p. (p.0 ≡ tag_word t) × IsLeaving T h more d t p.1) ts b) odds_same
-            (other_trees tag_word (λ t x. leaving T g writes t (at_switch d x)) (λ t x. leaving T h more t (at_switch d x)) (IsOneOf g.count) leaving_at (odd_tags g) odds_known b trees.leaving);
+            (other_trees tag_word (λ t x. leaving T g writes t (at_switch d x)) (λ t x. leaving T h more t (at_switch d x))
+            (IsOneOf g.count) leaving_at (odd_tags g) odds_known b trees.leaving);
       }
 
       -- the messages of a switch
@@ -190,10 +196,15 @@ module _ (T : Topology) (g h : Tagging) (alike : AreAlike g h) where
       messages_same ms ns a b =
           let left_trees = a.trees in
           let right_trees = b.trees in
-          let first : a.first ≡ b.first = one_trees key_word (λ k x. arrival T g k (at_switch d x)) (λ k x. arrival T h k (at_switch d x)) IsKey arrival_at (keys_of g) keys_known a.first b.first
+          let first : a.first ≡ b.first =
+          one_trees key_word (λ k x. arrival T g k (at_switch d x)) (λ k x. arrival T h k (at_switch d x)) IsKey arrival_at
+          (keys_of g) keys_known a.first b.first
           left_trees.arriving (subst (λ ks. AllZip (λ k p. (p.0 ≡ key_word k) × IsArriving T h d k p.1) ks b.first) (sym keys_same) right_trees.arriving) in
-          let second : a.second ≡ b.second = one_trees tag_word (λ t x. leaving T g writes t (at_switch d x)) (λ t x. leaving T h more t (at_switch d x)) (IsOneOf g.count) leaving_at (odd_tags g)
-          odds_known a.second b.second left_trees.leaving (subst (λ ts. AllZip (λ t p. (p.0 ≡ tag_word t) × IsLeaving T h more d t p.1) ts b.second) (sym odds_same) right_trees.leaving) in
+          let second : a.second ≡ b.second = one_trees tag_word (λ t x. leaving T g writes t (at_switch d x))
+          (λ t x. leaving T h more t (at_switch d x)) (IsOneOf g.count) leaving_at (odd_tags g)
+          odds_known a.second b.second left_trees.leaving
+          (subst (λ ts. AllZip (λ t p. (p.0 ≡ tag_word t) × IsLeaving T h more d t p.1) ts b.second)
+          (sym odds_same) right_trees.leaving) in
           a.messages ∙ (ap₂ messages_of first second ∙ sym b.messages)
 
     all_messages_same : (ss : List Switch) → AllByRecursion IsLawfulSwitch ss → (mss nss : List (List Message))
@@ -210,26 +221,33 @@ module _ (T : Topology) (g h : Tagging) (alike : AreAlike g h) where
 
   report_same : (instances : List Instance) → report_of g instances ≡ report_of h instances
   report_same instances =
-      map_same (λ t. record { tag = t; pairs = instances_at instances (g.accepted t) }) (λ t. record { tag = t; pairs = instances_at instances (h.accepted t) }) (filter (captures g) (up_to g.count))
-      (all_weaker (IsOneOf g.count) (λ t. record { tag = t; pairs = instances_at instances (g.accepted t) } ≡ record { tag = t; pairs = instances_at instances (h.accepted t) })
+      map_same (λ t. record { tag = t; pairs = instances_at instances (g.accepted t) })
+      (λ t. record { tag = t; pairs = instances_at instances (h.accepted t) }) (filter (captures g) (up_to g.count))
+      (all_weaker (IsOneOf g.count) (λ t. record { tag = t; pairs = instances_at instances (g.accepted t) }
+      ≡ record { tag = t; pairs = instances_at instances (h.accepted t) })
       (λ t known. ap (λ is. record { tag = t; pairs = instances_at instances is }) (alike.accepted t known.0 known.1)) (filter (captures g) (up_to g.count))
       (all_filter (IsOneOf g.count) (captures g) (up_to g.count) all_tags))
       ∙ ap (map (λ t. record { tag = t; pairs = instances_at instances (h.accepted t) }))
-      (filter_same (captures g) (captures h) (up_to g.count) (all_weaker (IsOneOf g.count) (λ t. captures g t ≡ captures h t) captures_same (up_to g.count) all_tags)
+      (filter_same (captures g) (captures h) (up_to g.count) (all_weaker (IsOneOf g.count) (λ t. captures g t ≡ captures h t) captures_same
+      (up_to g.count) all_tags)
       ∙ ap (λ n. filter (captures h) (up_to n)) alike.count)
 
 -- installs of the same departures, tags and instances are the same
-pub one_emission : (T : Topology) (names : List (List ℕ)) (P : Numbers → Numbers → Type 0) (instances : List Instance) (g h : Tagging) (writes more : Departures) (i j : Install)
-    → IsLawfulTopology T → AreAlike g h → AreDepartures P writes → AreDepartures P more → IsEmission T names writes g instances i → IsEmission T names more h instances j → i ≡ j
+pub one_emission : (T : Topology) (names : List (List ℕ)) (P : Numbers → Numbers → Type 0) (instances : List Instance) (g h : Tagging)
+    (writes more : Departures) (i j : Install)
+    → IsLawfulTopology T → AreAlike g h → AreDepartures P writes → AreDepartures P more → IsEmission T names writes g instances i
+    → IsEmission T names more h instances j → i ≡ j
 one_emission T names P instances g h writes more i j lawful alike left right a b =
     let topology = a.topology ∙ sym b.topology in
     let queries = a.queries ∙ sym b.queries in
     let report = a.report ∙ (report_same T g h alike instances ∙ sym b.report) in
-    let messages = all_messages_same T g h alike P writes more left right T.switches (recursion_from_All IsLawfulSwitch T.switches lawful.switches) i.messages j.messages a.messages b.messages in
+    let messages = all_messages_same T g h alike P writes more left right T.switches
+    (recursion_from_All IsLawfulSwitch T.switches lawful.switches) i.messages j.messages a.messages b.messages in
     λ k. record { topology = topology k; queries = queries k; report = report k; messages = messages k }
 
 -- so a document has one set of trees
-pub one_set_of_trees : (T : Topology) (ps : List PolicyTree) (qs : List QueryTree) (g h : Tagging) (writes more : Departures) → IsLaid T ps qs g writes → IsLaid T ps qs h more
+pub one_set_of_trees : (T : Topology) (ps : List PolicyTree) (qs : List QueryTree) (g h : Tagging) (writes more : Departures)
+    → IsLaid T ps qs g writes → IsLaid T ps qs h more
     → (d : ℕ) → d < 2 ^ 64 → (a : ArrivingTrees) (b : LeavingTrees) → AreTrees T g writes d a b → AreTrees T h more d a b
 one_set_of_trees T ps qs g h writes more left right =
     trees_same T g h (taggings_alike (IsHeld qs (instances_of T qs)) g h left.tagging right.tagging) (departs T ps) writes more left.departures right.departures

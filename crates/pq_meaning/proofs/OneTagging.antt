@@ -49,7 +49,8 @@ module _ {A : Type 0} where
           let one = once 0 (suc some.0) x refl place in
           omega (arith, one)
 
-  same_long : (xs ys : List A) → StandOnce xs → StandOnce ys → ((x : A) → Contains xs x → Contains ys x) → ((x : A) → Contains ys x → Contains xs x) → length xs ≡ length ys
+  same_long : (xs ys : List A) → StandOnce xs → StandOnce ys → ((x : A) → Contains xs x → Contains ys x)
+      → ((x : A) → Contains ys x → Contains xs x) → length xs ≡ length ys
   same_long xs ys left right into back =
       reordered_long xs ys (same_members xs ys (once_apart xs left) (once_apart ys right)
       (λ z there. among_from_contains ys z (into z (contains_from_among xs z there)))
@@ -60,7 +61,9 @@ module _ {A : Type 0} where
 -- a word has one tag
 one_tag : (Ls : Languages) (w : Word) (s t : ℕ) → IsPath w → IsTag Ls w s → IsTag Ls w t → s ≡ t
 one_tag Ls w s t path a b =
-    let least : a.least ≡ b.least = one_least Ls a.least b.least a.is_least b.is_least (same_through Ls a.least w b.least path (same_back Ls w a.least a.same) b.same) in
+    let least : a.least ≡ b.least =
+    one_least Ls a.least b.least a.is_least b.is_least (same_through Ls a.least w b.least path (same_back Ls w a.least a.same) b.same)
+    in
     let long : length a.smaller ≡ length b.smaller = same_long a.smaller b.smaller a.once b.once
     (λ u there. let is = (a.exact u).0 there in (b.exact u).1 (is.0, ap (λ v. word_is_before u v) (sym least) ∙ is.1))
     (λ u there. let is = (b.exact u).0 there in (a.exact u).1 (is.0, ap (λ v. word_is_before u v) least ∙ is.1)) in

@@ -22,12 +22,14 @@ use Rattle.pq_forward.specs.Forward.{FitAsForward, IsForward, IsPolicyWithin, wo
 use Rattle.pq_meaning.specs.Parts.{AreLawful, FitAsParts, IsUnionOfParts, any_yields, part_trees, work_of_parts}
 
 -- the parts of a list are those of its halves
-pub parts_of : (parts front back : List (List ℕ × Policy)) (m : ℕ) → front ≡ take m parts → back ≡ drop m parts → part_trees parts ≡ part_trees front ++ part_trees back
+pub parts_of : (parts front back : List (List ℕ × Policy)) (m : ℕ) → front ≡ take m parts → back ≡ drop m parts
+    → part_trees parts ≡ part_trees front ++ part_trees back
 parts_of parts front back m front_is back_is =
     ap part_trees (halves_there parts front back m front_is back_is) ∙ map-append (λ (part : List ℕ × Policy). policy_tree part.1) front back
 
 -- a list of one part
-pub one_part : (parts : List (List ℕ × Policy)) (part : List ℕ × Policy) → length parts < 2 → 1 ≤ length parts → part ≡ get_or parts 0 part → part_trees parts ≡ policy_tree part.1 ∷ []
+pub one_part : (parts : List (List ℕ × Policy)) (part : List ℕ × Policy) → length parts < 2 → 1 ≤ length parts → part ≡ get_or parts 0 part
+    → part_trees parts ≡ policy_tree part.1 ∷ []
 one_part parts part short long is = ap part_trees (one_there parts part short long is)
 
 -- The trees.
@@ -120,8 +122,12 @@ module _ {T : Topology} {all : List PolicyTree} {ts : List (Tree (List Written))
   united_at new id unites =
       let front = halves.front in
       let back = halves.back in
-      let made = unites front.0 back.0 front.1 back.1 in
-      (made.0, made.1, subst (λ ps. IsUnionOfParts T ps made.0) (sym halves.is) (halves_united T halves.first halves.behind front.0 back.0 made.0 front.2 back.2 made.2))
+      let made = unites front.0 back.0 front.1 back.1 in (
+        made.0,
+        made.1,
+        subst (λ ps. IsUnionOfParts T ps made.0) (sym halves.is)
+            (halves_united T halves.first halves.behind front.0 back.0 made.0 front.2 back.2 made.2),
+      )
 
 -- The first and those behind them fit and are lawful where all are.
 
@@ -137,7 +143,8 @@ module _ (parts front back : List (List ℕ × Policy)) (m : ℕ) (front_is : fr
       )
 
   -- all take one step more than both, where there are some of both
-  pub halves_steps : 1 ≤ length front → 1 ≤ length back → work_of_parts (part_trees parts) ≡ work_of_parts (part_trees front) + work_of_parts (part_trees back) + 1
+  pub halves_steps : 1 ≤ length front → 1 ≤ length back
+      → work_of_parts (part_trees parts) ≡ work_of_parts (part_trees front) + work_of_parts (part_trees back) + 1
   halves_steps some_front some_back =
       let ps = part_trees front in
       let qs = part_trees back in
@@ -149,13 +156,15 @@ module _ (parts front back : List (List ℕ × Policy)) (m : ℕ) (front_is : fr
 
 -- One part.
 
-module _ (T : Topology) (parts : List (List ℕ × Policy)) (part : List ℕ × Policy) (short : length parts < 2) (long : 1 ≤ length parts) (is : part ≡ get_or parts 0 part) where
+module _ (T : Topology) (parts : List (List ℕ × Policy)) (part : List ℕ × Policy) (short : length parts < 2) (long : 1 ≤ length parts)
+    (is : part ≡ get_or parts 0 part) where
   pub one_lawful : AreLawful (part_trees parts) → IsLawfulPolicy (policy_tree part.1)
   one_lawful lawful = All-head IsLawfulPolicy (policy_tree part.1) [] (subst AreLawful (one_part parts part short long is) lawful)
 
   pub one_fits : FitAsParts T (part_trees parts) → FitAsForward T (policy_tree part.1)
   one_fits fits =
-      room_for (λ ns (topology, within). (topology, All-head (IsPolicyWithin ns) (policy_tree part.1) [] within)) (subst (FitAsParts T) (one_part parts part short long is) fits)
+      room_for (λ ns (topology, within). (topology, All-head (IsPolicyWithin ns) (policy_tree part.1) [] within))
+      (subst (FitAsParts T) (one_part parts part short long is) fits)
 
   -- it takes the steps of its diagram
   pub one_steps : work_of_parts (part_trees parts) ≡ work (policy_tree part.1)
@@ -165,4 +174,9 @@ module _ (T : Topology) (parts : List (List ℕ × Policy)) (part : List ℕ × 
 
   -- and its diagram is that of all
   pub one_at : (ts : List (Tree (List Written))) (k : ℕ) → HasAt (IsForward T (policy_tree part.1)) ts k → HasAt (IsUnionOfParts T (part_trees parts)) ts k
-  one_at ts k has = (has.0, has.1, subst (λ ps. IsUnionOfParts T ps has.0) (sym (one_part parts part short long is)) (one_united T (policy_tree part.1) has.0 has.2))
+  one_at ts k has = (
+    has.0,
+    has.1,
+    subst (λ ps. IsUnionOfParts T ps has.0) (sym (one_part parts part short long is))
+        (one_united T (policy_tree part.1) has.0 has.2),
+  )

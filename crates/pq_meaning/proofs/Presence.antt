@@ -7,7 +7,8 @@ use Rattle.std.proofs.lemmas.Bool.Decides.{eqb_tells, nat_tests}
 use Rattle.std.proofs.Math.Bool.{and-true}
 use Rattle.pq_apply.proofs.Choices.{one_of_same}
 use Rattle.pq_fields.specs.declared.field.Field.{Field}
-use Rattle.pq_fields.specs.declared.field.Field.TheVariants.{Switch, Port, EthType, IpProto, EthSrc, EthDst, Ipv4Src, Ipv4Dst, TcpSrc, TcpDst, UdpSrc, UdpDst, Ipv6Src, Ipv6Dst}
+use Rattle.pq_fields.specs.declared.field.Field.TheVariants.{Switch, Port, EthType, IpProto, EthSrc, EthDst, Ipv4Src, Ipv4Dst, TcpSrc}
+use Rattle.pq_fields.specs.declared.field.Field.TheVariants.{TcpDst, UdpSrc, UdpDst, Ipv6Src, Ipv6Dst}
 use Rattle.pq_fields.specs.Packet.{Numbers, has_field, number_in, rank, with_number}
 use Rattle.pq_fields.specs.Pred.{Equals, leaf}
 use Rattle.pq_fields.specs.Writes.{Written, is_writable, no_writes, number_after, on, with_write, written_in}

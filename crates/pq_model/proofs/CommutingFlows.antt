@@ -1,5 +1,6 @@
 -- Messages on entries that leave the same tables in either order.
-use Rattle.std.proofs.Common.{◌≡◌, ◌≢◌, ℕ, Bool, true, false, not, List, [], ◌∷◌, ◌++◌, ◌&&◌, ◌==◌, if◌then◌else◌, filter, refl, sym, ap, subst₂, ◌∙◌, append_assoc, arith}
+use Rattle.std.proofs.Common.{◌≡◌, ◌≢◌, ℕ, Bool, true, false, not, List, [], ◌∷◌, ◌++◌, ◌&&◌, ◌==◌, if◌then◌else◌, filter, refl, sym, ap}
+use Rattle.std.proofs.Common.{subst₂, ◌∙◌, append_assoc, arith}
 use Rattle.std.proofs.lemmas.Bool.Decides.{nat_tests}
 use Rattle.std.specs.List.{list_all, list_any}
 use Rattle.std.specs.FinMap.{contains_key, insert}
@@ -13,7 +14,8 @@ use Rattle.pq_model.specs.declared.message.Message.{Message}
 use Rattle.pq_model.specs.declared.message.Message.TheVariants.{Flow, Group}
 use Rattle.pq_model.specs.MatchFields.{MatchFields, same_number, same_masked, same_match}
 use Rattle.pq_model.specs.Mods.{FlowValue, GroupValue}
-use Rattle.pq_model.specs.SwitchMachine.{Entry, Groups, Tables, entry_of, is_placed, groups_named, is_removed, removed_from, changes_entries, changes_groups, applies}
+use Rattle.pq_model.specs.SwitchMachine.{Entry, Groups, Tables, entry_of, is_placed, groups_named, is_removed, removed_from}
+use Rattle.pq_model.specs.SwitchMachine.{changes_entries, changes_groups, applies}
 use Rattle.pq_model.specs.Orders.{IsReordering, AreSame, Commute}
 use Rattle.pq_model.proofs.Filters.{filter-exchange, filter-end, filter-none}
 use Rattle.pq_model.proofs.Reorderings.{reordering-exchange}
@@ -84,7 +86,8 @@ added-exchange false false f g h t = same-refl t
 abbrev has_named : FlowValue → Groups → Bool
 has_named f groups = list_all (contains_key groups) (groups_named f.actions)
 
-adds-exchange : (f g : FlowValue) → is_placed f (entry_of g) ≡ false → (t : Tables) → AreSame (changes_entries Add g (changes_entries Add f t)) (changes_entries Add f (changes_entries Add g t))
+adds-exchange : (f g : FlowValue) → is_placed f (entry_of g) ≡ false → (t : Tables)
+    → AreSame (changes_entries Add g (changes_entries Add f t)) (changes_entries Add f (changes_entries Add g t))
 adds-exchange f g h t =
     let a = has_named f t.groups in
     let b = has_named g t.groups in
@@ -93,7 +96,9 @@ adds-exchange f g h t =
     (added-exchange a b f g h t)
 
 pub add-add : (f g : FlowValue) → f.command ≡ Add → g.command ≡ Add → is_placed f (entry_of g) ≡ false → Commute (Flow f) (Flow g)
-add-add f g isf isg h t = subst₂ (λ c d. AreSame (changes_entries d g (changes_entries c f t)) (changes_entries c f (changes_entries d g t))) (sym isf) (sym isg) (adds-exchange f g h t)
+add-add f g isf isg h t =
+    subst₂ (λ c d. AreSame (changes_entries d g (changes_entries c f t)) (changes_entries c f (changes_entries d g t))) (sym isf) (sym isg)
+    (adds-exchange f g h t)
 
 -- the entries that a delete leaves
 abbrev is_left : FlowCommand → FlowValue → Entry → Bool
@@ -112,31 +117,43 @@ deletes DeleteStrict f t h = refl
 pub delete-delete : (f g : FlowValue) → f.command ≢ Add → g.command ≢ Add → Commute (Flow f) (Flow g)
 delete-delete f g isf isg t = same-equal _ _ (both f g isf isg ∙ exchanged ∙ sym (both g f isg isf))
   where
-    both : (d e : FlowValue) → d.command ≢ Add → e.command ≢ Add → changes_entries e.command e (changes_entries d.command d t) ≡ with_left (is_left e.command e) (with_left (is_left d.command d) t)
+    both : (d e : FlowValue) → d.command ≢ Add → e.command ≢ Add
+        → changes_entries e.command e (changes_entries d.command d t) ≡ with_left (is_left e.command e) (with_left (is_left d.command d) t)
     both d e isd ise = ap (changes_entries e.command e) (deletes d.command d t isd) ∙ deletes e.command e (with_left (is_left d.command d) t) ise
 
     exchanged : with_left (is_left g.command g) (with_left (is_left f.command f) t) ≡ with_left (is_left f.command f) (with_left (is_left g.command g) t)
     exchanged = λ i. record t { entries = filter-exchange (is_left g.command g) (is_left f.command f) t.entries i }
 
-left-group : (test : Entry → Bool) (c : GroupCommand) (g : GroupValue) (t : Tables) → changes_groups c g (with_left test t) ≡ with_left test (changes_groups c g t)
+left-group : (test : Entry → Bool) (c : GroupCommand) (g : GroupValue) (t : Tables)
+    → changes_groups c g (with_left test t) ≡ with_left test (changes_groups c g t)
 left-group test AddGroup g t = by (contains_key t.groups g.group)
   where
-    by : (b : Bool) → (if b then with_left test t else record (with_left test t) { groups = insert t.groups g.group g.buckets }) ≡ with_left test (if b then t else record t { groups = insert t.groups g.group g.buckets })
+    by : (b : Bool) → (if b then with_left test t else record (with_left test t) { groups = insert t.groups g.group g.buckets })
+        ≡ with_left test (if b then t else record t { groups = insert t.groups g.group g.buckets })
     by true = refl
     by false = refl
 left-group test Modify g t = by (contains_key t.groups g.group)
   where
-    by : (b : Bool) → (if b then record (with_left test t) { groups = insert t.groups g.group g.buckets } else with_left test t) ≡ with_left test (if b then record t { groups = insert t.groups g.group g.buckets } else t)
+    by : (b : Bool) → (if b then record (with_left test t) { groups = insert t.groups g.group g.buckets } else with_left test t)
+        ≡ with_left test (if b then record t { groups = insert t.groups g.group g.buckets } else t)
     by true = refl
     by false = refl
-left-group test Delete g t = λ i. record { entries = filter-exchange (λ e. not (list_any (is_removed t.groups g.group) (groups_named e.actions))) test t.entries i; groups = removed_from t.groups g.group }
+left-group test Delete g t = λ i. record {
+  entries = filter-exchange (λ e. not (list_any (is_removed t.groups g.group) (groups_named e.actions))) test t.entries i;
+  groups = removed_from t.groups g.group;
+}
 
 pub delete-group : (f : FlowValue) (g : GroupValue) → f.command ≢ Add → Commute (Flow f) (Group g)
 delete-group f g isf t = same-equal _ _
-    (ap (changes_groups g.command g) (deletes f.command f t isf) ∙ left-group (is_left f.command f) g.command g t ∙ sym (deletes f.command f (changes_groups g.command g t) isf))
+    (ap (changes_groups g.command g) (deletes f.command f t isf) ∙ left-group (is_left f.command f) g.command g t
+    ∙ sym (deletes f.command f (changes_groups g.command g t) isf))
 
-strict-added : (b : Bool) (f g : FlowValue) (t : Tables) → is_placed g (entry_of f) ≡ false → with_left (stays g) (added b f t) ≡ added b f (with_left (stays g) t)
-strict-added true f g t h = λ i. record t { entries = (filter-end (stays g) (filter (stays f) t.entries) (entry_of f) (ap not h) ∙ ap (λ l. l ++ entry_of f ∷ []) (filter-exchange (stays g) (stays f) t.entries)) i }
+strict-added : (b : Bool) (f g : FlowValue) (t : Tables) → is_placed g (entry_of f) ≡ false
+    → with_left (stays g) (added b f t) ≡ added b f (with_left (stays g) t)
+strict-added true f g t h = λ i. record t {
+  entries = (filter-end (stays g) (filter (stays f) t.entries) (entry_of f) (ap not h)
+      ∙ ap (λ l. l ++ entry_of f ∷ []) (filter-exchange (stays g) (stays f) t.entries)) i;
+}
 strict-added false f g t h = refl
 
 pub add-strict : (f g : FlowValue) → f.command ≡ Add → g.command ≡ DeleteStrict → is_placed g (entry_of f) ≡ false → Commute (Flow f) (Flow g)

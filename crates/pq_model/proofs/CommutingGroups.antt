@@ -1,5 +1,6 @@
 -- Messages on groups that leave the same tables in either order.
-use Rattle.std.proofs.Common.{◌≡◌, ◌≢◌, ℕ, Bool, true, false, cond, not, List, [], ◌∷◌, ◌&&◌, ◌||◌, ◌==◌, if◌then◌else◌, filter, refl, sym, ap, ◌∙◌, arith, nat_cmp, is_some}
+use Rattle.std.proofs.Common.{◌≡◌, ◌≢◌, ℕ, Bool, true, false, cond, not, List, [], ◌∷◌, ◌&&◌, ◌||◌, ◌==◌, if◌then◌else◌, filter, refl, sym}
+use Rattle.std.proofs.Common.{ap, ◌∙◌, arith, nat_cmp, is_some}
 use Rattle.std.proofs.Math.Bool.{or_comm}
 use Rattle.std.proofs.lemmas.Bool.Decides.{nat_tests}
 use Rattle.std.specs.declared.option.Option.{Option}
@@ -130,20 +131,24 @@ abbrev left_by_two : Groups → ℕ → ℕ → List Entry → List Entry
 left_by_two groups j k entries = filter (λ e. not (list_any (is_removed_by_one groups j k) (groups_named e.actions))) entries
 
 left-left : (groups : Groups) (j k : ℕ) (xs : List Entry) →
-    filter (λ e. not (list_any (is_removed (removed_from groups j) k) (groups_named e.actions))) (filter (λ e. not (list_any (is_removed groups j) (groups_named e.actions))) xs) ≡ left_by_two groups j k xs
+    filter (λ e. not (list_any (is_removed (removed_from groups j) k) (groups_named e.actions)))
+    (filter (λ e. not (list_any (is_removed groups j) (groups_named e.actions))) xs) ≡ left_by_two groups j k xs
 left-left groups j k xs = filter-filter _ _ xs ∙ ap (λ test. filter test xs) (λ i e. named (groups_named e.actions) i)
   where
-    named : (ns : List ℕ) → not (list_any (is_removed groups j) ns) && not (list_any (is_removed (removed_from groups j) k) ns) ≡ not (list_any (is_removed_by_one groups j k) ns)
+    named : (ns : List ℕ) → not (list_any (is_removed groups j) ns) && not (list_any (is_removed (removed_from groups j) k) ns)
+        ≡ not (list_any (is_removed_by_one groups j k) ns)
     named ns = neither (list_any (is_removed groups j) ns) (list_any (is_removed (removed_from groups j) k) ns)
         ∙ ap not (list_any-or (is_removed groups j) (is_removed (removed_from groups j) k) ns
         ∙ ap (λ test. list_any test ns) (λ i n. removed_by_one groups j k n i))
 
 left_by_two-comm : (groups : Groups) (j k : ℕ) (xs : List Entry) → left_by_two groups j k xs ≡ left_by_two groups k j xs
-left_by_two-comm groups j k xs = λ i. filter (λ e. not (list_any (λ n. contains_key groups n && or_comm (is_hit j n) (is_hit k n) i) (groups_named e.actions))) xs
+left_by_two-comm groups j k xs =
+    λ i. filter (λ e. not (list_any (λ n. contains_key groups n && or_comm (is_hit j n) (is_hit k n) i) (groups_named e.actions))) xs
 
 deletes-exchange : (f g : GroupValue) (t : Tables) → changes_groups Delete g (changes_groups Delete f t) ≡ changes_groups Delete f (changes_groups Delete g t)
 deletes-exchange f g t =
-    let entries = left-left t.groups f.group g.group t.entries ∙ left_by_two-comm t.groups f.group g.group t.entries ∙ sym (left-left t.groups g.group f.group t.entries) in
+    let entries = left-left t.groups f.group g.group t.entries ∙ left_by_two-comm t.groups f.group g.group t.entries
+    ∙ sym (left-left t.groups g.group f.group t.entries) in
     λ i. record { entries = entries i; groups = removed-exchange t.groups f.group g.group i }
 
 pub delete-delete : (f g : GroupValue) → f.command ≡ Delete → g.command ≡ Delete → Commute (Group f) (Group g)

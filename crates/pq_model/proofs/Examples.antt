@@ -20,7 +20,16 @@ abbrev pub delete_groups : Message
 delete_groups = Grouping (record { xid = 2; command = Delete; group = all_groups; buckets = [] })
 
 abbrev pub add : ℕ → ℕ → ℕ → MatchFields → List Action → Option ℕ → Message
-add xid table priority matching actions goto = Flow (record { xid = xid; cookie = 0; table = table; command = AddFlow; priority = priority; matching = matching; actions = actions; goto = goto })
+add xid table priority matching actions goto = Flow (record {
+  xid = xid;
+  cookie = 0;
+  table = table;
+  command = AddFlow;
+  priority = priority;
+  matching = matching;
+  actions = actions;
+  goto = goto;
+})
 
 abbrev pub at_tag : Option ℕ → ℕ → MatchFields
 at_tag port word = record empty_match { in_port = port; vlan = Some word }

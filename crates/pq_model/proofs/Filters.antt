@@ -8,7 +8,9 @@ module _ {A : Type 0} where
   filter-filter p q [] = refl
   filter-filter p q (x ∷ xs) = both (p x) (q x) refl (filter-filter p q xs)
     where
-      both : (a b : Bool) → p x ≡ a → filter p (filter q xs) ≡ filter (λ y. q y && p y) xs → filter p (cond b (x ∷ filter q xs) (filter q xs)) ≡ cond (b && a) (x ∷ filter (λ y. q y && p y) xs) (filter (λ y. q y && p y) xs)
+      both : (a b : Bool) → p x ≡ a → filter p (filter q xs) ≡ filter (λ y. q y && p y) xs
+          → filter p (cond b (x ∷ filter q xs) (filter q xs)) ≡ cond (b && a) (x ∷ filter (λ y. q y && p y) xs)
+          (filter (λ y. q y && p y) xs)
       both true true h more = rw h (ap (λ l. x ∷ l) more)
       both false true h more = rw h more
       both a false h more = more

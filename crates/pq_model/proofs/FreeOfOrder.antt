@@ -1,5 +1,6 @@
 -- Blocks of messages that are free of order, and what a block of Adds leaves.
-use Rattle.std.proofs.Common.{◌≡◌, ◌≢◌, ℕ, Bool, true, false, cond, not, List, [], ◌∷◌, ◌++◌, ◌&&◌, ◌==◌, map, filter, nat_eq, refl, sym, ap, subst, ◌∙◌, append_assoc, append-nil, arith, eqb-true, if◌then◌else◌}
+use Rattle.std.proofs.Common.{◌≡◌, ◌≢◌, ℕ, Bool, true, false, cond, not, List, [], ◌∷◌, ◌++◌, ◌&&◌, ◌==◌, map, filter, nat_eq, refl, sym}
+use Rattle.std.proofs.Common.{ap, subst, ◌∙◌, append_assoc, append-nil, arith, eqb-true, if◌then◌else◌}
 use Rattle.std.proofs.lemmas.Bool.Decides.{nat_tests}
 use Rattle.std.specs.List.{AllByRecursion, IsDistinct, list_all}
 use Rattle.std.specs.FinMap.{contains_key}
@@ -37,7 +38,8 @@ apart-placed f e apart = by (e.table == f.table) (e.priority == f.priority) refl
     by true false h k = refl
     by false b h k = refl
 
-adds-commute : (f : FlowValue) → f.command ≡ Add → (fs : List FlowValue) → AllByRecursion (λ g. g.command ≡ Add) fs → AllByRecursion (AreApart (entry_of f)) (map entry_of fs) → CommutesUpToBarrier (Flow f) (map Flow fs)
+adds-commute : (f : FlowValue) → f.command ≡ Add → (fs : List FlowValue) → AllByRecursion (λ g. g.command ≡ Add) fs
+    → AllByRecursion (AreApart (entry_of f)) (map entry_of fs) → CommutesUpToBarrier (Flow f) (map Flow fs)
 adds-commute f is [] all apart = tt
 adds-commute f is (g ∷ fs) (add, adds) (here, rest) = (add-add f g is add (apart-placed f (entry_of g) here), adds-commute f is fs adds rest)
 
@@ -45,7 +47,8 @@ pub adds-free : (fs : List FlowValue) → AllByRecursion (λ f. f.command ≡ Ad
 adds-free [] all own = tt
 adds-free (f ∷ fs) (is, all) (apart, own) = (adds-commute f is fs all apart, adds-free fs all own)
 
-puts-commute : (f : GroupValue) → f.command ≢ Delete → (gs : List GroupValue) → AllByRecursion (λ g. g.command ≢ Delete) gs → AllByRecursion (λ n. (f.group == n) ≡ false) (map (λ g. g.group) gs) → CommutesUpToBarrier (Group f) (map Group gs)
+puts-commute : (f : GroupValue) → f.command ≢ Delete → (gs : List GroupValue) → AllByRecursion (λ g. g.command ≢ Delete) gs
+    → AllByRecursion (λ n. (f.group == n) ≡ false) (map (λ g. g.group) gs) → CommutesUpToBarrier (Group f) (map Group gs)
 puts-commute f is [] all apart = tt
 puts-commute f is (g ∷ gs) (put, puts) (here, rest) = (put-put f g is put (λ e. grind (arith, nat_tests)), puts-commute f is gs puts rest)
 
@@ -55,7 +58,8 @@ puts-free [] all own = tt
 puts-free (g ∷ gs) (is, all) (apart, own) = (puts-commute g is gs all apart, puts-free gs all own)
 
 module _ (gs : List GroupValue) where
-  delete-commutes : (f : FlowValue) → f.command ≢ Add → (fs : List FlowValue) → AllByRecursion (λ g. g.command ≢ Add) fs → CommutesUpToBarrier (Flow f) (map Flow fs ++ map Group gs)
+  delete-commutes : (f : FlowValue) → f.command ≢ Add → (fs : List FlowValue) → AllByRecursion (λ g. g.command ≢ Add) fs
+      → CommutesUpToBarrier (Flow f) (map Flow fs ++ map Group gs)
   delete-commutes f is [] none = with_groups gs
     where
       with_groups : (hs : List GroupValue) → CommutesUpToBarrier (Flow f) (map Group hs)
@@ -63,7 +67,8 @@ module _ (gs : List GroupValue) where
       with_groups (h ∷ hs) = (delete-group f h is, with_groups hs)
   delete-commutes f is (g ∷ fs) (here, rest) = (delete-delete f g is here, delete-commutes f is fs rest)
 
-group-commutes : (g : GroupValue) → g.command ≡ Delete → (gs : List GroupValue) → AllByRecursion (λ h. h.command ≡ Delete) gs → CommutesUpToBarrier (Group g) (map Group gs)
+group-commutes : (g : GroupValue) → g.command ≡ Delete → (gs : List GroupValue) → AllByRecursion (λ h. h.command ≡ Delete) gs
+    → CommutesUpToBarrier (Group g) (map Group gs)
 group-commutes g is [] all = tt
 group-commutes g is (h ∷ gs) (here, rest) = (group_delete-delete g h is here, group-commutes g is gs rest)
 
@@ -71,7 +76,8 @@ group_deletes-free : (gs : List GroupValue) → AllByRecursion (λ g. g.command 
 group_deletes-free [] all = tt
 group_deletes-free (g ∷ gs) (here, rest) = (group-commutes g here gs rest, group_deletes-free gs rest)
 
-pub deletes-free : (fs : List FlowValue) (gs : List GroupValue) → AllByRecursion (λ f. f.command ≢ Add) fs → AllByRecursion (λ g. g.command ≡ Delete) gs → IsFreeOfOrder (map Flow fs ++ map Group gs)
+pub deletes-free : (fs : List FlowValue) (gs : List GroupValue) → AllByRecursion (λ f. f.command ≢ Add) fs
+    → AllByRecursion (λ g. g.command ≡ Delete) gs → IsFreeOfOrder (map Flow fs ++ map Group gs)
 deletes-free [] gs none all = group_deletes-free gs all
 deletes-free (f ∷ fs) gs (is, none) all = (delete-commutes gs f is fs none, deletes-free fs gs none all)
 
@@ -84,12 +90,14 @@ filter-apart f (x ∷ xs) ys (apart, own) =
     ap (λ b. cond (not b) (x ∷ filter (λ e. not (is_placed f e)) xs) (filter (λ e. not (is_placed f e)) xs)) (apart-placed f x (λ e p. there (sym e) (sym p)))
     ∙ ap (λ l. x ∷ l) (filter-apart f xs ys own)
 
-pub adds-leave : (fs : List FlowValue) (t : Tables) → AllByRecursion (λ f. f.command ≡ Add) fs → AllByRecursion (λ f. list_all (contains_key t.groups) (groups_named f.actions) ≡ true) fs →
+pub adds-leave : (fs : List FlowValue) (t : Tables) → AllByRecursion (λ f. f.command ≡ Add) fs
+    → AllByRecursion (λ f. list_all (contains_key t.groups) (groups_named f.actions) ≡ true) fs →
     HaveOwnPriorities (t.entries ++ map entry_of fs) → applies_all t (map Flow fs) ≡ record t { entries = t.entries ++ map entry_of fs }
 adds-leave [] t all there own = λ i. record t { entries = sym (append-nil t.entries) i }
 adds-leave (f ∷ fs) t (is, all) (here, there) own =
     ap (λ s. applies_all s (map Flow fs)) one
-    ∙ adds-leave fs (record t { entries = t.entries ++ entry_of f ∷ [] }) all there (subst HaveOwnPriorities (sym (append_assoc t.entries (entry_of f ∷ []) (map entry_of fs))) own)
+    ∙ adds-leave fs (record t { entries = t.entries ++ entry_of f ∷ [] }) all there
+    (subst HaveOwnPriorities (sym (append_assoc t.entries (entry_of f ∷ []) (map entry_of fs))) own)
     ∙ (λ i. record t { entries = append_assoc t.entries (entry_of f ∷ []) (map entry_of fs) i })
   where
     one : changes_entries f.command f t ≡ record t { entries = t.entries ++ entry_of f ∷ [] }

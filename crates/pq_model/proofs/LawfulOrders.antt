@@ -9,10 +9,12 @@ use Rattle.pq_model.proofs.Reorderings.{Within, Behind, divided, all-put, all-re
 use Rattle.pq_model.proofs.SameTables.{same-refl, same-trans, same-applies, same-applies_all}
 
 -- a message that commutes with all of a front may be processed before it
-pub past_front : (m : Message) (front back : List Message) → AllByRecursion (Commute m) front → (t : Tables) → AreSame (applies_all (applies t m) (front ++ back)) (applies_all t (front ++ m ∷ back))
+pub past_front : (m : Message) (front back : List Message) → AllByRecursion (Commute m) front → (t : Tables)
+    → AreSame (applies_all (applies t m) (front ++ back)) (applies_all t (front ++ m ∷ back))
 past_front m [] back all t = same-refl (applies_all (applies t m) back)
 past_front m (n ∷ front) back (here, rest) t =
-    same-trans (applies_all (applies (applies t m) n) (front ++ back)) (applies_all (applies (applies t n) m) (front ++ back)) (applies_all (applies t n) (front ++ m ∷ back))
+    same-trans (applies_all (applies (applies t m) n) (front ++ back)) (applies_all (applies (applies t n) m) (front ++ back))
+    (applies_all (applies t n) (front ++ m ∷ back))
     (same-applies_all (applies (applies t m) n) (applies (applies t n) m) (front ++ back) (here t))
     (past_front m front back rest (applies t n))
 
@@ -32,14 +34,16 @@ with_one_more m n ms front back first last shorter here none order (inr b) =
     (subst (IsLawfulOrder ms) (ap (λ l. l ++ last) b.before ∙ append_assoc front b.between last) order)
 
 -- nothing stands in front of a barrier
-none_in_front : (m : Message) (xid : ℕ) (front back last : List Message) → HasNoBarrier front → front ++ back ≡ Barrier xid ∷ last → AllByRecursion (Commute m) front
+none_in_front : (m : Message) (xid : ℕ) (front back last : List Message) → HasNoBarrier front → front ++ back ≡ Barrier xid ∷ last
+    → AllByRecursion (Commute m) front
 none_in_front m xid [] back last none e = tt
 none_in_front m xid (f ∷ front) back last (here, rest) e =
     let is : f ≡ Barrier xid = cc in
     absurd (subst IsNoBarrier is here)
 
 -- what stands in a front without barrier are messages before the first barrier
-commutes_with_front : (m : Message) (ms front back : List Message) → HasNoBarrier front → IsLawfulOrder ms (front ++ back) → CommutesUpToBarrier m ms → AllByRecursion (Commute m) front
+commutes_with_front : (m : Message) (ms front back : List Message) → HasNoBarrier front → IsLawfulOrder ms (front ++ back)
+    → CommutesUpToBarrier m ms → AllByRecursion (Commute m) front
 commutes_with_front m [] [] back none order commutes = tt
 commutes_with_front m [] (f ∷ front) back none order commutes = cc
 commutes_with_front m (Flow f ∷ ms) front back none (first, last, e, may, order) (here, rest) =
@@ -54,12 +58,14 @@ commutes_with_front m (Barrier xid ∷ ms) front back none (first, last, e, may,
     none_in_front m xid front back last none (e ∙ ap (λ l. l ++ Barrier xid ∷ last) may)
 
 -- the next message may be processed at once
-may_come_first : (m : Message) (ms front back : List Message) → MayFollow m front → IsLawfulOrder ms (front ++ back) → IsFreeOfOrder (m ∷ ms) → AllByRecursion (Commute m) front × IsFreeOfOrder ms
+may_come_first : (m : Message) (ms front back : List Message) → MayFollow m front → IsLawfulOrder ms (front ++ back)
+    → IsFreeOfOrder (m ∷ ms) → AllByRecursion (Commute m) front × IsFreeOfOrder ms
 may_come_first (Flow f) ms front back may order (here, rest) = (commutes_with_front (Flow f) ms front back may order here, rest)
 may_come_first (Group g) ms front back may order (here, rest) = (commutes_with_front (Group g) ms front back may order here, rest)
 may_come_first (Barrier xid) ms front back may order rest = (subst (AllByRecursion (Commute (Barrier xid))) (sym may) tt, rest)
 
-pub lawful-same : (s t : Tables) → AreSame s t → (ms order : List Message) → IsLawfulOrder ms order → IsFreeOfOrder ms → AreSame (applies_all s ms) (applies_all t order)
+pub lawful-same : (s t : Tables) → AreSame s t → (ms order : List Message) → IsLawfulOrder ms order → IsFreeOfOrder ms
+    → AreSame (applies_all s ms) (applies_all t order)
 lawful-same s t same [] order lawful free = subst (λ l. AreSame s (applies_all t l)) (sym lawful) same
 lawful-same s t same (m ∷ ms) order (front, back, e, may, lawful) free =
     let first = may_come_first m ms front back may lawful free in

@@ -1,5 +1,6 @@
 -- Lists of numbers in order: the first that differs decides.
-use Rattle.std.proofs.Common.{◌≡◌, ◌<◌, ◌⊎◌, ◌==◌, ◌&&◌, ◌||◌, ℕ, true, false, List, [], ◌∷◌, ◌++◌, length, refl, sym, ap, ap₂, subst, ◌∙◌, inl, inr, arith, true≢false, lt-ltb, ltb-true, eqb-true}
+use Rattle.std.proofs.Common.{◌≡◌, ◌<◌, ◌⊎◌, ◌==◌, ◌&&◌, ◌||◌, ℕ, true, false, List, [], ◌∷◌, ◌++◌, length, refl, sym, ap, ap₂, subst, ◌∙◌}
+use Rattle.std.proofs.Common.{inl, inr, arith, true≢false, lt-ltb, ltb-true, eqb-true}
 use Rattle.std.specs.declared.cmp.Ordering.TheVariants.{Less, Equal, Greater}
 use Rattle.std.specs.Cmp.Lexicographic.{slice_cmp, nat_list_cmp_total}
 use Rattle.std.specs.Ordering.{nat_cmp, is_lt}
@@ -35,7 +36,8 @@ by_piece xs [] us vs long is = absurd (true≢false (sym is))
 by_piece [] (y ∷ ys) us vs long is = absurd (omega arith)
 by_piece (x ∷ xs) (y ∷ ys) us vs long is = elim (first_or_rest x y xs ys is) [
   | inl less ↦ by_first x y (xs ++ us) (ys ++ vs) less
-  | inr same ↦ subst (λ n. is_before (x ∷ xs ++ us) (n ∷ ys ++ vs) ≡ true) same.0 (same_first x (xs ++ us) (ys ++ vs) ∙ by_piece xs ys us vs (omega arith) same.1)
+  | inr same ↦ subst (λ n. is_before (x ∷ xs ++ us) (n ∷ ys ++ vs) ≡ true) same.0 (same_first x (xs ++ us) (ys ++ vs)
+      ∙ by_piece xs ys us vs (omega arith) same.1)
 ]
 
 -- no list stands before one that stands before it
@@ -95,5 +97,8 @@ same_list (x ∷ xs) (y ∷ ys) h k = elim (cases_order x y) [
   | inl same ↦ ap₂ (λ z zs. z ∷ zs) same (same_list xs ys
       (sym (same_first y xs ys) ∙ subst (λ z. is_before (z ∷ xs) (y ∷ ys) ≡ false) same h)
       (sym (same_first y ys xs) ∙ subst (λ z. is_before (y ∷ ys) (z ∷ xs) ≡ false) same k))
-  | inr other ↦ elim other [ inl less ↦ absurd (true≢false (sym (by_first x y xs ys less) ∙ h)) | inr more ↦ absurd (true≢false (sym (by_first y x ys xs more) ∙ k)) ]
+  | inr other ↦ elim other [
+    | inl less ↦ absurd (true≢false (sym (by_first x y xs ys less) ∙ h))
+    | inr more ↦ absurd (true≢false (sym (by_first y x ys xs more) ∙ k))
+  ]
 ]

@@ -25,4 +25,5 @@ module _ {A B : Type 0} (R : A → B → Type 0) where
   Pairwise-drop (suc k) (x ∷ xs) (y ∷ ys) p = Pairwise-drop k xs ys p.1
 
   pub Pairwise-remove : (xs : List A) (ys : List B) (k : ℕ) → Pairwise R xs ys → Pairwise R (remove xs k) (remove ys k)
-  Pairwise-remove xs ys k p = Pairwise-append (take k xs) (take k ys) (drop (suc k) xs) (drop (suc k) ys) (Pairwise-take k xs ys p) (Pairwise-drop (suc k) xs ys p)
+  Pairwise-remove xs ys k p = Pairwise-append (take k xs) (take k ys) (drop (suc k) xs) (drop (suc k) ys) (Pairwise-take k xs ys p)
+      (Pairwise-drop (suc k) xs ys p)

@@ -1,5 +1,6 @@
 -- A renewal leaves what it adds.
-use Rattle.std.proofs.Common.{◌≡◌, ◌≢◌, ℕ, false, cond, List, [], ◌∷◌, ◌++◌, ◌==◌, map, nat_eq, nat_cmp, is_some, if◌then◌else◌, refl, sym, ap, subst, ◌∙◌, append_assoc, append-nil, arith}
+use Rattle.std.proofs.Common.{◌≡◌, ◌≢◌, ℕ, false, cond, List, [], ◌∷◌, ◌++◌, ◌==◌, map, nat_eq, nat_cmp, is_some, if◌then◌else◌, refl, sym}
+use Rattle.std.proofs.Common.{ap, subst, ◌∙◌, append_assoc, append-nil, arith}
 use Rattle.std.specs.declared.option.Option.TheVariants.{None, Some}
 use Rattle.std.proofs.lemmas.Bool.Decides.{nat_tests}
 use Rattle.std.proofs.lemmas.List.{map-append}
@@ -41,8 +42,10 @@ not_found (e ∷ es) k ns (apart, own) =
     let turned : (k == e.0) ≡ false = grind (arith, nat_tests) in
     ap (λ b. cond b (Some e.1) (find nat_cmp k es)) (unsigned_tied k e.0 ∙ turned) ∙ not_found es k ns own
 
-groups-leave : (gs : List GroupValue) (entries : List Entry) (es : Pairs) → AllByRecursion (λ g. g.command ≡ Add) gs → IsDistinct nat_eq (map (λ e. e.0) es ++ map (λ g. g.group) gs) →
-    applies_all (record { entries = entries; groups = from_entries es }) (map Group gs) ≡ record { entries = entries; groups = from_entries (es ++ map numbered gs) }
+groups-leave : (gs : List GroupValue) (entries : List Entry) (es : Pairs) → AllByRecursion (λ g. g.command ≡ Add) gs
+    → IsDistinct nat_eq (map (λ e. e.0) es ++ map (λ g. g.group) gs) →
+    applies_all (record { entries = entries; groups = from_entries es }) (map Group gs)
+    ≡ record { entries = entries; groups = from_entries (es ++ map numbered gs) }
 groups-leave [] entries es all own = λ i. record { entries = entries; groups = from_entries (sym (append-nil es) i) }
 groups-leave (g ∷ gs) entries es (is, all) own =
     ap (λ t. applies_all t (map Group gs)) one
@@ -52,13 +55,19 @@ groups-leave (g ∷ gs) entries es (is, all) own =
     none : find nat_cmp g.group es ≡ None
     none = not_found es g.group (map (λ x. x.group) gs) own
 
-    one : changes_groups g.command g (record { entries = entries; groups = from_entries es }) ≡ record { entries = entries; groups = from_entries (es ++ numbered g ∷ []) }
+    one : changes_groups g.command g (record { entries = entries; groups = from_entries es })
+        ≡ record { entries = entries; groups = from_entries (es ++ numbered g ∷ []) }
     one = ap (λ c. changes_groups c g (record { entries = entries; groups = from_entries es })) is
-        ∙ ap (λ has. if has then record { entries = entries; groups = from_entries es } else record { entries = entries; groups = insert (from_entries es) g.group g.buckets }) (ap is_some (get-from_entries nat_cmp_total es g.group ∙ none))
+        ∙ ap (λ has. if has then record { entries = entries; groups = from_entries es } else record {
+          entries = entries;
+          groups =
+              insert (from_entries es) g.group g.buckets;
+        }) (ap is_some (get-from_entries nat_cmp_total es g.group ∙ none))
         ∙ (λ i. record { entries = entries; groups = sym (from_entries_push nat_cmp_total nat_cmp-IsAntisymmetric es g.group g.buckets none) i })
 
     keys : map (λ e. e.0) (es ++ numbered g ∷ []) ++ map (λ x. x.group) gs ≡ map (λ e. e.0) es ++ g.group ∷ map (λ x. x.group) gs
-    keys = ap (λ l. l ++ map (λ x. x.group) gs) (map-append (λ (e : ℕ × List (List Action)). e.0) es (numbered g ∷ [])) ∙ append_assoc (map (λ e. e.0) es) (g.group ∷ []) (map (λ x. x.group) gs)
+    keys = ap (λ l. l ++ map (λ x. x.group) gs) (map-append (λ (e : ℕ × List (List Action)). e.0) es (numbered g ∷ []))
+        ∙ append_assoc (map (λ e. e.0) es) (g.group ∷ []) (map (λ x. x.group) gs)
 
 no_deletes : (gs : List GroupValue) → AllByRecursion (λ g. g.command ≡ Add) gs → AllByRecursion (λ g. g.command ≢ Delete) gs
 no_deletes [] all = tt
@@ -67,7 +76,8 @@ no_deletes (g ∷ gs) (is, all) = (λ e. cc, no_deletes gs all)
 renewal-free : (r : Renewal) → IsRenewing r → IsFreeOfOrder (renewal_messages r)
 renewal-free r h =
     let entries = free-parted r.filled [] (map Flow r.entries) (adds-free r.entries h.entries h.priorities) tt in
-    let groups = free-parted r.grouped (map Flow r.entries ++ Barrier r.filled ∷ []) (map Group r.groups) (puts-free r.groups (no_deletes r.groups h.groups) h.numbers) entries in
+    let groups = free-parted r.grouped (map Flow r.entries ++ Barrier r.filled ∷ []) (map Group r.groups)
+    (puts-free r.groups (no_deletes r.groups h.groups) h.numbers) entries in
     ((delete-group r.entries_away r.groups_away (λ e. cc (h.entries_away)), tt), (tt, groups))
 
 emptied : (r : Renewal) → IsRenewing r → (t : Tables) → applies (applies t (Flow r.entries_away)) (Group r.groups_away) ≡ no_tables
@@ -81,9 +91,11 @@ renewal-leaves r h t =
     ∙ applies_all-append (record { entries = []; groups = (renewed r).groups }) (map Flow r.entries) (Barrier r.filled ∷ [])
     ∙ adds-leave r.entries (record { entries = []; groups = (renewed r).groups }) h.entries h.named h.priorities
 
-pub renewal-same : (r : Renewal) → IsRenewing r → (t : Tables) (order : List Message) → IsLawfulOrder (renewal_messages r) order → AreSame (renewed r) (applies_all t order)
+pub renewal-same : (r : Renewal) → IsRenewing r → (t : Tables) (order : List Message) → IsLawfulOrder (renewal_messages r) order
+    → AreSame (renewed r) (applies_all t order)
 renewal-same r h t order lawful =
     subst (λ s. AreSame s (applies_all t order)) (renewal-leaves r h t) (lawful-same t t (same-refl t) (renewal_messages r) order lawful (renewal-free r h))
 
-pub renewal-sends : (r : Renewal) → IsRenewing r → (t : Tables) (order : List Message) → IsLawfulOrder (renewal_messages r) order → (x : TaggedPacket) → sends (applies_all t order) x ≡ sends (renewed r) x
+pub renewal-sends : (r : Renewal) → IsRenewing r → (t : Tables) (order : List Message) → IsLawfulOrder (renewal_messages r) order
+    → (x : TaggedPacket) → sends (applies_all t order) x ≡ sends (renewed r) x
 renewal-sends r h t order lawful x = sym (sends-same (renewed r) (applies_all t order) (renewal-same r h t order lawful) h.priorities x)

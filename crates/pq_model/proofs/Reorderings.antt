@@ -16,7 +16,8 @@ module _ {A : Type 0} where
     pub before : first ≡ front ++ between
     pub holds : back ≡ between ++ x ∷ last
 
-  longer : (f : A) (front back first last : List A) (x : A) → Within front back first last x ⊎ Behind front back first last x → Within (f ∷ front) back (f ∷ first) last x ⊎ Behind (f ∷ front) back (f ∷ first) last x
+  longer : (f : A) (front back first last : List A) (x : A) → Within front back first last x ⊎ Behind front back first last x
+      → Within (f ∷ front) back (f ∷ first) last x ⊎ Behind (f ∷ front) back (f ∷ first) last x
   longer f front back first last x (inl w) = inl (record { between = w.between; holds = ap (λ l. f ∷ l) w.holds; after = w.after })
   longer f front back first last x (inr b) = inr (record { between = b.between; before = ap (λ l. f ∷ l) b.before; holds = b.holds })
 
@@ -54,7 +55,8 @@ module _ {A : Type 0} where
     pub is : ys ≡ front ++ x ∷ back
     pub rest : IsReordering xs (front ++ back)
 
-  put_back : (x f : A) (first last : List A) (xs : List A) (t : TakenOut x xs (first ++ last)) → Within first last t.front t.back x ⊎ Behind first last t.front t.back x → TakenOut x (f ∷ xs) (first ++ f ∷ last)
+  put_back : (x f : A) (first last : List A) (xs : List A) (t : TakenOut x xs (first ++ last))
+      → Within first last t.front t.back x ⊎ Behind first last t.front t.back x → TakenOut x (f ∷ xs) (first ++ f ∷ last)
   put_back x f first last xs t (inl w) = record {
     front = t.front;
     back = w.between ++ f ∷ last;
@@ -103,7 +105,8 @@ module _ {A : Type 0} where
   reordering-exchange [] y z = (z ∷ [], [], refl, ([], [], refl, refl))
   reordering-exchange (x ∷ xs) y z = ([], xs ++ z ∷ y ∷ [], refl, reordering-exchange xs y z)
 
-  kept_of : (p : A → Bool) (b : Bool) (x : A) (xs front back : List A) → IsReordering xs (front ++ back) → IsReordering (cond b (x ∷ xs) xs) (front ++ cond b (x ∷ back) back)
+  kept_of : (p : A → Bool) (b : Bool) (x : A) (xs front back : List A) → IsReordering xs (front ++ back)
+      → IsReordering (cond b (x ∷ xs) xs) (front ++ cond b (x ∷ back) back)
   kept_of p true x xs front back h = (front, back, refl, h)
   kept_of p false x xs front back h = h
 

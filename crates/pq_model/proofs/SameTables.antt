@@ -9,7 +9,8 @@ use Rattle.pq_model.specs.declared.group_mod.GroupCommand.TheVariants.{Add as Ad
 use Rattle.pq_model.specs.declared.message.Message.{Message}
 use Rattle.pq_model.specs.declared.message.Message.TheVariants.{Flow, Group as Grouping, Barrier}
 use Rattle.pq_model.specs.Mods.{FlowValue, GroupValue}
-use Rattle.pq_model.specs.SwitchMachine.{Entry, Groups, Tables, entry_of, is_placed, groups_named, is_removed, changes_entries, changes_groups, applies, applies_all}
+use Rattle.pq_model.specs.SwitchMachine.{Entry, Groups, Tables, entry_of, is_placed, groups_named, is_removed, changes_entries}
+use Rattle.pq_model.specs.SwitchMachine.{changes_groups, applies, applies_all}
 use Rattle.pq_model.specs.Orders.{IsReordering, AreSame}
 use Rattle.pq_model.proofs.Reorderings.{reordering-refl, reordering-sym, reordering-trans, reordering-more, reordering-filter}
 
@@ -30,17 +31,24 @@ same_either true s t u v h k = h
 same_either false s t u v h k = k
 
 module _ (xs ys : List Entry) (groups : Groups) (h : IsReordering xs ys) where
-  flow_keeps : (c : FlowCommand) (f : FlowValue) → AreSame (changes_entries c f (record { entries = xs; groups = groups })) (changes_entries c f (record { entries = ys; groups = groups }))
+  flow_keeps : (c : FlowCommand) (f : FlowValue)
+      → AreSame (changes_entries c f (record { entries = xs; groups = groups }))
+      (changes_entries c f (record { entries = ys; groups = groups }))
   flow_keeps AddFlow f = same_either (list_all (contains_key groups) (groups_named f.actions)) _ _ _ _
       (record { entries = reordering-more _ _ (entry_of f ∷ []) (reordering-filter (λ e. not (is_placed f e)) xs ys h); groups = refl })
       (record { entries = h; groups = refl })
   flow_keeps DeleteAll f = record { entries = refl; groups = refl }
   flow_keeps DeleteStrict f = record { entries = reordering-filter (λ e. not (is_placed f e)) xs ys h; groups = refl }
 
-  group_keeps : (c : GroupCommand) (g : GroupValue) → AreSame (changes_groups c g (record { entries = xs; groups = groups })) (changes_groups c g (record { entries = ys; groups = groups }))
+  group_keeps : (c : GroupCommand) (g : GroupValue)
+      → AreSame (changes_groups c g (record { entries = xs; groups = groups }))
+      (changes_groups c g (record { entries = ys; groups = groups }))
   group_keeps AddGroup g = same_either (contains_key groups g.group) _ _ _ _ (record { entries = h; groups = refl }) (record { entries = h; groups = refl })
   group_keeps Modify g = same_either (contains_key groups g.group) _ _ _ _ (record { entries = h; groups = refl }) (record { entries = h; groups = refl })
-  group_keeps Delete g = record { entries = reordering-filter (λ e. not (list_any (is_removed groups g.group) (groups_named e.actions))) xs ys h; groups = refl }
+  group_keeps Delete g = record {
+    entries = reordering-filter (λ e. not (list_any (is_removed groups g.group) (groups_named e.actions))) xs ys h;
+    groups = refl;
+  }
 
   message_keeps : (m : Message) → AreSame (applies (record { entries = xs; groups = groups }) m) (applies (record { entries = ys; groups = groups }) m)
   message_keeps (Flow f) = flow_keeps f.command f

@@ -49,7 +49,8 @@ injected : (m : Meaning) (report : Report) (send : Sender) (Matches : Item → T
 injected m report send Matches simulates s t c x fits = by (is_edge m.topology x.packet.switch x.packet.port) refl
   where
     by : (b : Bool) → is_edge m.topology x.packet.switch x.packet.port ≡ b
-        → Corresponds Matches (if b then record s { flight = s.flight ++ entered_as x x.vlan ∷ [] } else s) (if b then record t { flight = t.flight ++ x ∷ [] } else t)
+        → Corresponds Matches (if b then record s { flight = s.flight ++ entered_as x x.vlan ∷ [] } else s)
+        (if b then record t { flight = t.flight ++ x ∷ [] } else t)
     by true edge = record {
       flight = Pairwise-append Matches s.flight t.flight (entered_as x x.vlan ∷ []) (x ∷ []) c.flight (simulates.enters x fits edge, tt);
       delivered = c.delivered;
@@ -63,14 +64,19 @@ pub step : (m : Meaning) (report : Report) (send : Sender) (Matches : Item → T
     → Corresponds Matches (happens m s e) (happens_sending m.topology report send t e)
 step m report send Matches simulates s t c (Inject x) fits = injected m report send Matches simulates s t c x fits
 step m report send Matches simulates s t c (Hop k) fits = hop_looked_up m report send Matches simulates s t c k k s.flight t.flight c.flight
-step m report send Matches simulates s t c (Lose k) fits = record { flight = Pairwise-remove Matches s.flight t.flight k c.flight; delivered = c.delivered; buckets = c.buckets }
+step m report send Matches simulates s t c (Lose k) fits = record {
+  flight = Pairwise-remove Matches s.flight t.flight k c.flight;
+  delivered = c.delivered;
+  buckets = c.buckets;
+}
 
 pub steps : (m : Meaning) (report : Report) (send : Sender) (Matches : Item → TaggedPacket → Type 0) → Simulates m report send Matches
     → (s : MeaningState) (t : TablesState) → Corresponds Matches s t → (events : List Event) → IsSchedule events
     → Corresponds Matches (run m s events) (run_sending m.topology report send t events)
 steps m report send Matches simulates s t c [] fits = c
 steps m report send Matches simulates s t c (e ∷ es) fits =
-    steps m report send Matches simulates (happens m s e) (happens_sending m.topology report send t e) (step m report send Matches simulates s t c e fits.0) es fits.1
+    steps m report send Matches simulates (happens m s e) (happens_sending m.topology report send t e)
+    (step m report send Matches simulates s t c e fits.0) es fits.1
 
 -- the packets of corresponding flights are equal
 same_packets : (Matches : Item → TaggedPacket → Type 0) → ((i : Item) (x : TaggedPacket) → Matches i x → x.packet ≡ item_packet i)

@@ -17,7 +17,8 @@ better-exchange d e h None = grind (arith, nat_tests)
 better-exchange d e h (Some f) = grind (arith, nat_tests)
 
 exchanged : (c b : Bool) (d e : Entry) → (c ≡ true → b ≡ true → d.priority ≢ e.priority) → (o : Option Entry) →
-    (if c then better d (if b then better e o else o) else (if b then better e o else o)) ≡ (if b then better e (if c then better d o else o) else (if c then better d o else o))
+    (if c then better d (if b then better e o else o) else (if b then better e o else o))
+    ≡ (if b then better e (if c then better d o else o) else (if c then better d o else o))
 exchanged true true d e h o = better-exchange d e (h refl refl) o
 exchanged true false d e h o = refl
 exchanged false true d e h o = refl
@@ -27,7 +28,8 @@ in_table : (a n : ℕ) (b : Bool) → (a == n) && b ≡ true → a ≡ n
 in_table a n b h = grind (arith, nat_tests)
 
 -- an entry that is apart from all of a front may stand before it
-taken-put : (e : Entry) (front back : List Entry) → AllByRecursion (AreApart e) front → (n : ℕ) (x : TaggedPacket) → taken (front ++ e ∷ back) n x ≡ taken (e ∷ (front ++ back)) n x
+taken-put : (e : Entry) (front back : List Entry) → AllByRecursion (AreApart e) front → (n : ℕ) (x : TaggedPacket)
+    → taken (front ++ e ∷ back) n x ≡ taken (e ∷ (front ++ back)) n x
 taken-put e [] back apart n x = refl
 taken-put e (f ∷ front) back (here, rest) n x =
     ap (λ o. if (f.table == n) && covers f.matching x then better f o else o) (taken-put e front back rest n x)

@@ -1,5 +1,6 @@
 -- A list in the order of its keys, with ties as they stood, is the list sorted by these keys.
-use Rattle.std.proofs.Common.{◌≡◌, ℕ, suc, ◌<◌, ◌≤◌, Bool, true, false, not, cond, ◌&&◌, ◌||◌, ◌==◌, nat_lt, if◌then◌else◌, List, [], ◌∷◌, length, get_or, refl, sym, ap, subst, ◌∙◌, arith}
+use Rattle.std.proofs.Common.{◌≡◌, ℕ, suc, ◌<◌, ◌≤◌, Bool, true, false, not, cond, ◌&&◌, ◌||◌, ◌==◌, nat_lt, if◌then◌else◌, List, [], ◌∷◌}
+use Rattle.std.proofs.Common.{length, get_or, refl, sym, ap, subst, ◌∙◌, arith}
 use Rattle.std.specs.declared.cmp.Ordering.TheVariants.{Less, Equal, Greater}
 use Rattle.std.specs.Cmp.{IsStrictWeakOrder}
 use Rattle.std.specs.Cmp.Lexicographic.{slice_cmp, nat_list_cmp_total}
@@ -29,7 +30,8 @@ before-cmp (x ∷ xs) [] = refl
 before-cmp [] (y ∷ ys) = refl
 before-cmp (x ∷ xs) (y ∷ ys) = by (nat_lt x y) (x == y) refl refl (before-cmp xs ys)
   where
-    by : (b c : Bool) → nat_lt x y ≡ b → (x == y) ≡ c → is_lt (slice_cmp nat_cmp xs ys) ≡ is_before xs ys → is_lt (ordering_then (cond b Less (cond c Equal Greater)) (slice_cmp nat_cmp xs ys)) ≡ b || (c && is_before xs ys)
+    by : (b c : Bool) → nat_lt x y ≡ b → (x == y) ≡ c → is_lt (slice_cmp nat_cmp xs ys) ≡ is_before xs ys
+        → is_lt (ordering_then (cond b Less (cond c Equal Greater)) (slice_cmp nat_cmp xs ys)) ≡ b || (c && is_before xs ys)
     by true c p q h = refl
     by false true p q h = h
     by false false p q h = refl
@@ -110,7 +112,8 @@ module _ {A : Type 0} (lt : A → A → Bool) (o : IsStrictWeakOrder lt) where
       let head : x ≡ y = ap (head_of x) (sym (starts x xs) ∙ h x ∙ ap (λ b. cond b (y ∷ filter (ties lt x) ys) (filter (ties lt x) ys)) tied) in
       λ i. head i ∷ same_risen xs ys r.1 s.1 (λ z. by z (ties lt z x) (ties lt z y) (ap (ties lt z) head) (h z)) i
     where
-      by : (z : A) (b c : Bool) → b ≡ c → cond b (x ∷ filter (ties lt z) xs) (filter (ties lt z) xs) ≡ cond c (y ∷ filter (ties lt z) ys) (filter (ties lt z) ys) → filter (ties lt z) xs ≡ filter (ties lt z) ys
+      by : (z : A) (b c : Bool) → b ≡ c → cond b (x ∷ filter (ties lt z) xs) (filter (ties lt z) xs) ≡ cond c (y ∷ filter (ties lt z) ys)
+          (filter (ties lt z) ys) → filter (ties lt z) xs ≡ filter (ties lt z) ys
       by z true true e h = ap tail_of h
       by z true false e h = absurd (true≢false e)
       by z false true e h = absurd (true≢false (sym e))
@@ -128,7 +131,8 @@ module _ {A : Type 0} (key : A → List ℕ) where
   filter-choice p false xs ys = refl
 
   passed : (x y : A) (b c d : Bool) (put rest : List A) → put ≡ cond c (x ∷ rest) rest → (b ≡ true → c ≡ true → d ≡ false) →
-      cond b (cond d (y ∷ put) put) (cond c (x ∷ cond d (y ∷ rest) rest) (cond d (y ∷ rest) rest)) ≡ cond c (x ∷ cond d (y ∷ rest) rest) (cond d (y ∷ rest) rest)
+      cond b (cond d (y ∷ put) put) (cond c (x ∷ cond d (y ∷ rest) rest) (cond d (y ∷ rest) rest)) ≡ cond c (x ∷ cond d (y ∷ rest) rest)
+      (cond d (y ∷ rest) rest)
   passed x y true true true put rest more far = absurd (true≢false (far refl refl))
   passed x y true true false put rest more far = more
   passed x y true false true put rest more far = ap (λ l. y ∷ l) more

@@ -55,33 +55,41 @@ unfolding copies covers same_match
 header_dropped = refl
 
 -- IN_PORT sends back, and the number of the arriving port sends nothing
-sent_back : sends (applies_all no_tables (add 1 0 9 empty_match (Output in_port_number ∷ Output 1 ∷ []) None ∷ [])) (plain (at 1 1)) ≡ Port (plain (at 1 1)) ∷ []
+sent_back : sends (applies_all no_tables (add 1 0 9 empty_match (Output in_port_number ∷ Output 1 ∷ []) None ∷ [])) (plain (at 1 1))
+    ≡ Port (plain (at 1 1)) ∷ []
 unfolding copies covers same_match
 sent_back = refl
 
 -- copies to ports come first and in packet order; a controller copy has the arriving port and the header of its moment
-copied : sends (applies_all no_tables (add 1 0 9 empty_match (PushVlan ∷ SetVlan 0x1003 ∷ Output controller_number ∷ Output 3 ∷ PopVlan ∷ Output 2 ∷ []) None ∷ [])) (plain (at 1 1))
+copied : sends (applies_all no_tables
+    (add 1 0 9 empty_match (PushVlan ∷ SetVlan 0x1003 ∷ Output controller_number ∷ Output 3 ∷ PopVlan ∷ Output 2 ∷ []) None ∷ []))
+    (plain (at 1 1))
     ≡ Port (plain (at 1 2)) ∷ Port (tagged 3 (at 1 3)) ∷ Controller (tagged 3 (at 1 1)) ∷ []
 unfolding copies covers same_match
 copied = refl
 
 -- the entry of highest priority is taken, and of equal ones the one added first; an Add replaces an entry at its place
-taken_first : sends (applies_all no_tables (add 1 0 5 empty_match (Output 4 ∷ []) None ∷ add 2 0 9 (at_tag None 0) (Output 2 ∷ []) None ∷ add 3 0 9 (at_tag (Some 1) 0) (Output 3 ∷ []) None ∷ [])) (plain (at 1 1)) ≡ Port (plain (at 1 2)) ∷ []
+taken_first : sends (applies_all no_tables
+    (add 1 0 5 empty_match (Output 4 ∷ []) None ∷ add 2 0 9 (at_tag None 0) (Output 2 ∷ []) None ∷ add 3 0 9 (at_tag (Some 1) 0)
+    (Output 3 ∷ []) None ∷ [])) (plain (at 1 1)) ≡ Port (plain (at 1 2)) ∷ []
 unfolding copies covers same_match
 taken_first = refl
 
-replaced : sends (applies_all no_tables (add 1 0 9 empty_match (Output 2 ∷ []) None ∷ add 2 0 9 empty_match (Output 3 ∷ []) None ∷ [])) (plain (at 1 1)) ≡ Port (plain (at 1 3)) ∷ []
+replaced : sends (applies_all no_tables (add 1 0 9 empty_match (Output 2 ∷ []) None ∷ add 2 0 9 empty_match (Output 3 ∷ []) None ∷ []))
+    (plain (at 1 1)) ≡ Port (plain (at 1 3)) ∷ []
 unfolding copies covers same_match
 replaced = refl
 
 -- a field that the packet doesn't have isn't written, and one that it has is
-unwritten : sends (applies_all no_tables (add 1 0 9 empty_match (SetField TcpDst 80 ∷ SetField EthDst 7 ∷ Output 2 ∷ []) None ∷ [])) (plain (at 1 1)) ≡ Port (plain (record zero_packet { switch = 1; port = 2; eth_type = 2054; eth_dst = 7 })) ∷ []
+unwritten : sends (applies_all no_tables (add 1 0 9 empty_match (SetField TcpDst 80 ∷ SetField EthDst 7 ∷ Output 2 ∷ []) None ∷ []))
+    (plain (at 1 1)) ≡ Port (plain (record zero_packet { switch = 1; port = 2; eth_type = 2054; eth_dst = 7 })) ∷ []
 unfolding copies covers same_match
 unwritten = refl
 
 -- The tables machine.
 
-delivered_by_tables : run_sending pair_topology [] (sends_by (tables_of tiny)) nothing_sent (Inject (plain (at 1 1)) ∷ Hop 0 ∷ []) ≡ record { flight = []; delivered = plain (at 1 2) ∷ []; buckets = [] }
+delivered_by_tables : run_sending pair_topology [] (sends_by (tables_of tiny)) nothing_sent (Inject (plain (at 1 1)) ∷ Hop 0 ∷ [])
+    ≡ record { flight = []; delivered = plain (at 1 2) ∷ []; buckets = [] }
 unfolding copies covers same_match
 delivered_by_tables = refl
 
@@ -124,10 +132,12 @@ ends (In x ∷ []) = false
 ends (Out x ∷ w) = false
 ends [] = false
 
-drop_captured : run (asking pair_topology ends) at_rest (Inject (plain (at 1 2)) ∷ Hop 0 ∷ []) ≡ record { flight = []; delivered = []; buckets = record { pair = query; packet = at 1 2 } ∷ [] }
+drop_captured : run (asking pair_topology ends) at_rest (Inject (plain (at 1 2)) ∷ Hop 0 ∷ [])
+    ≡ record { flight = []; delivered = []; buckets = record { pair = query; packet = at 1 2 } ∷ [] }
 drop_captured = refl
 
-no_drop_captured : run (asking pair_topology ends) at_rest (Inject (plain (at 1 1)) ∷ Hop 0 ∷ []) ≡ record { flight = []; delivered = at 1 2 ∷ []; buckets = [] }
+no_drop_captured : run (asking pair_topology ends) at_rest (Inject (plain (at 1 1)) ∷ Hop 0 ∷ [])
+    ≡ record { flight = []; delivered = at 1 2 ∷ []; buckets = [] }
 no_drop_captured = refl
 
 -- an Out is captured at the port at which the packet arrived: any word that ends in Out at port 2
@@ -137,15 +147,22 @@ leaves (In x ∷ w) = leaves w
 leaves (Out y ∷ []) = y.port == 2
 leaves (Out y ∷ o ∷ w) = leaves (o ∷ w)
 
-out_captured : run (asking pair_topology leaves) at_rest (Inject (plain (at 1 1)) ∷ Hop 0 ∷ []) ≡ record { flight = []; delivered = at 1 2 ∷ []; buckets = record { pair = query; packet = at 1 1 } ∷ [] }
+out_captured : run (asking pair_topology leaves) at_rest (Inject (plain (at 1 1)) ∷ Hop 0 ∷ []) ≡ record {
+  flight = [];
+  delivered = at 1 2 ∷ [];
+  buckets = record { pair = query; packet = at 1 1 } ∷ [];
+}
 out_captured = refl
 
 -- one packet is lost, another goes on, and a place that isn't there changes nothing
-two_packets : run (asking pair_link (λ w. false)) at_rest (Inject (plain (at 1 1)) ∷ Inject (plain (record (at 1 1) { eth_type = 35020 })) ∷ Hop 0 ∷ Lose 0 ∷ Hop 0 ∷ Hop 9 ∷ []) ≡ record { flight = []; delivered = at 2 2 ∷ []; buckets = [] }
+two_packets : run (asking pair_link (λ w. false)) at_rest
+    (Inject (plain (at 1 1)) ∷ Inject (plain (record (at 1 1) { eth_type = 35020 })) ∷ Hop 0 ∷ Lose 0 ∷ Hop 0 ∷ Hop 9 ∷ [])
+    ≡ record { flight = []; delivered = at 2 2 ∷ []; buckets = [] }
 two_packets = refl
 
 -- a packet that enters with a header is a stranger, and leaves nothing; at a linked port nothing enters
-stranger_enters : run (asking pair_link (λ w. true)) at_rest (Inject (tagged 3 (at 1 1)) ∷ Inject (plain (at 1 2)) ∷ []) ≡ record { flight = Stranger (at 1 1) ∷ []; delivered = []; buckets = [] }
+stranger_enters : run (asking pair_link (λ w. true)) at_rest (Inject (tagged 3 (at 1 1)) ∷ Inject (plain (at 1 2)) ∷ [])
+    ≡ record { flight = Stranger (at 1 1) ∷ []; delivered = []; buckets = [] }
 stranger_enters = refl
 
 stranger_hops : run (asking pair_link (λ w. true)) at_rest (Inject (tagged 3 (at 1 1)) ∷ Hop 0 ∷ []) ≡ at_rest
@@ -157,8 +174,13 @@ abbrev other : Instance
 other = record { query = 1; label = 7 ∷ 9 ∷ [] }
 
 -- a capture fills the buckets of its tag's row, and one without a row or without a header fills none
-collected_by_row : collected (record { tag = 3; pairs = query ∷ other ∷ [] } ∷ []) (tagged 3 (at 1 2) ∷ tagged 4 (at 1 1) ∷ plain (at 1 1) ∷ tagged 3 (at 1 1) ∷ [])
-    ≡ record { pair = query; packet = at 1 1 } ∷ record { pair = query; packet = at 1 2 } ∷ record { pair = other; packet = at 1 1 } ∷ record { pair = other; packet = at 1 2 } ∷ []
+collected_by_row : collected (record { tag = 3; pairs = query ∷ other ∷ [] } ∷ [])
+    (tagged 3 (at 1 2) ∷ tagged 4 (at 1 1) ∷ plain (at 1 1) ∷ tagged 3 (at 1 1) ∷ [])
+    ≡ record { pair = query; packet = at 1 1 } ∷ record { pair = query; packet = at 1 2 } ∷ record {
+      pair = other;
+      packet =
+          at 1 1;
+    } ∷ record { pair = other; packet = at 1 2 } ∷ []
 collected_by_row = refl
 
 -- Orders of messages.
@@ -186,6 +208,7 @@ abbrev spread : Message
 spread = Grouping (record { xid = 1; command = AddGroup; group = 1; buckets = (SetField EthDst 7 ∷ Output 2 ∷ []) ∷ (Output 3 ∷ []) ∷ [] })
 
 -- each bucket runs on a copy of its own
-grouped : sends (applies_all no_tables (spread ∷ add 2 0 9 empty_match (Group 1 ∷ []) None ∷ [])) (plain (at 1 1)) ≡ Port (plain (record (at 1 2) { eth_dst = 7 })) ∷ Port (plain (at 1 3)) ∷ []
+grouped : sends (applies_all no_tables (spread ∷ add 2 0 9 empty_match (Group 1 ∷ []) None ∷ [])) (plain (at 1 1))
+    ≡ Port (plain (record (at 1 2) { eth_dst = 7 })) ∷ Port (plain (at 1 3)) ∷ []
 unfolding copies covers same_match
 grouped = simp gets

@@ -52,7 +52,8 @@ link_numbers l = end_numbers l.first ++ end_numbers l.second
 
 -- both ends are ports, and the first is the smaller
 abbrev pub IsLawfulLink : Topology → Link → Type 0
-IsLawfulLink t l = IsTrue (is_port t l.first.0 l.first.1) × IsTrue (is_port t l.second.0 l.second.1) × IsTrue (is_before (end_numbers l.first) (end_numbers l.second))
+IsLawfulLink t l = IsTrue (is_port t l.first.0 l.first.1) × IsTrue (is_port t l.second.0 l.second.1)
+    × IsTrue (is_before (end_numbers l.first) (end_numbers l.second))
 
 -- all ends of links
 abbrev pub ends_of : List Link → List (ℕ × ℕ)
@@ -72,7 +73,8 @@ abbrev pub IsLawfulPair : ℕ → Instance → Type 0
 IsLawfulPair queries i = (i.query < queries) × (length i.label < 2 ^ 32) × All (λ v. v < 2 ^ 64) i.label
 
 abbrev pub IsLawfulRow : ℕ → Row → Type 0
-IsLawfulRow queries row = (1 ≤ row.tag) × (row.tag ≤ 4094) × (row.pairs ≢ []) × (length row.pairs < 2 ^ 16) × All (IsLawfulPair queries) row.pairs × AscendsBy instance_numbers row.pairs
+IsLawfulRow queries row = (1 ≤ row.tag) × (row.tag ≤ 4094) × (row.pairs ≢ []) × (length row.pairs < 2 ^ 16)
+    × All (IsLawfulPair queries) row.pairs × AscendsBy instance_numbers row.pairs
 
 abbrev pub IsLawfulList : List Message → Type 0
 IsLawfulList ms = (length ms < 2 ^ 32) × All IsLawfulMessage ms

@@ -22,7 +22,22 @@ pub record MatchFields : Type 0 where
 
 -- the match that states no field
 abbrev pub empty_match : MatchFields
-empty_match = record { in_port = None; vlan = None; eth_type = None; ip_proto = None; eth_src = None; eth_dst = None; ipv4_src = None; ipv4_dst = None; tcp_src = None; tcp_dst = None; udp_src = None; udp_dst = None; ipv6_src = None; ipv6_dst = None }
+empty_match = record {
+  in_port = None;
+  vlan = None;
+  eth_type = None;
+  ip_proto = None;
+  eth_src = None;
+  eth_dst = None;
+  ipv4_src = None;
+  ipv4_dst = None;
+  tcp_src = None;
+  tcp_dst = None;
+  udp_src = None;
+  udp_dst = None;
+  ipv6_src = None;
+  ipv6_dst = None;
+}
 
 -- the number of a port that a switch may have
 abbrev pub IsPortNumber : ℕ → Type 0

@@ -32,7 +32,8 @@ MayFollow (Barrier xid) front = front ≡ []
 -- the messages in an order in which none passes a barrier: each in turn stands behind later messages that may be processed before it
 abbrev pub IsLawfulOrder : List Message → List Message → Type 0
 IsLawfulOrder [] order = order ≡ []
-IsLawfulOrder (m ∷ ms) order = (front : List Message) × (back : List Message) × (order ≡ front ++ m ∷ back) × MayFollow m front × IsLawfulOrder ms (front ++ back)
+IsLawfulOrder (m ∷ ms) order = (front : List Message) × (back : List Message) × (order ≡ front ++ m ∷ back) × MayFollow m front
+    × IsLawfulOrder ms (front ++ back)
 
 -- in either order the two messages leave the same tables
 abbrev pub Commute : Message → Message → Type 0

@@ -21,7 +21,8 @@ pub record Renewal : Type 0 where
   pub filled : ℕ
 
 abbrev pub renewal_messages : Renewal → List Message
-renewal_messages r = Flow r.entries_away ∷ Group r.groups_away ∷ Barrier r.emptied ∷ (map Group r.groups ++ Barrier r.grouped ∷ (map Flow r.entries ++ Barrier r.filled ∷ []))
+renewal_messages r = Flow r.entries_away ∷ Group r.groups_away ∷ Barrier r.emptied ∷
+    (map Group r.groups ++ Barrier r.grouped ∷ (map Flow r.entries ++ Barrier r.filled ∷ []))
 
 -- the groups with their buckets
 abbrev pub added_groups : List GroupValue → Groups

@@ -27,7 +27,8 @@ raised : (a b : ℕ) → nat_cmp (a + 1) (b + 1) ≡ nat_cmp a b
 raised a b = grind (arith, nat_tests)
 
 -- labels decide before what follows them
-labels-decide : (xs ys us vs : List ℕ) → slice_cmp nat_cmp (map (λ v. v + 1) xs ++ 0 ∷ us) (map (λ v. v + 1) ys ++ 0 ∷ vs) ≡ ordering_then (slice_cmp nat_cmp xs ys) (slice_cmp nat_cmp us vs)
+labels-decide : (xs ys us vs : List ℕ) → slice_cmp nat_cmp (map (λ v. v + 1) xs ++ 0 ∷ us) (map (λ v. v + 1) ys ++ 0 ∷ vs)
+    ≡ ordering_then (slice_cmp nat_cmp xs ys) (slice_cmp nat_cmp us vs)
 labels-decide [] [] us vs = refl
 labels-decide [] (y ∷ ys) us vs = ap (λ r. ordering_then r (slice_cmp nat_cmp us (map (λ v. v + 1) ys ++ 0 ∷ vs))) (nil_first y)
 labels-decide (x ∷ xs) [] us vs = ap (λ r. ordering_then r (slice_cmp nat_cmp (map (λ v. v + 1) xs ++ 0 ∷ us) vs)) (nil_last x)
@@ -39,8 +40,12 @@ label_first : (label rest : List ℕ) → (map (λ v. v + 1) label ++ 0 ∷ []) 
 label_first label rest = append_assoc (map (λ v. v + 1) label) (0 ∷ []) rest
 
 -- the comparison of all numbers, part by part
-pub entries-compare : (e f : BucketEntry) → slice_cmp nat_cmp (entry_numbers e) (entry_numbers f) ≡ ordering_then (ordering_then (nat_cmp e.pair.query f.pair.query) (slice_cmp nat_cmp e.pair.label f.pair.label)) (slice_cmp nat_cmp (numbers e.packet) (numbers f.packet))
+pub entries-compare : (e f : BucketEntry)
+    → slice_cmp nat_cmp (entry_numbers e) (entry_numbers f)
+    ≡ ordering_then (ordering_then (nat_cmp e.pair.query f.pair.query) (slice_cmp nat_cmp e.pair.label f.pair.label))
+    (slice_cmp nat_cmp (numbers e.packet) (numbers f.packet))
 entries-compare e f =
-    (λ i. ordering_then (nat_cmp e.pair.query f.pair.query) (slice_cmp nat_cmp (label_first e.pair.label (numbers e.packet) i) (label_first f.pair.label (numbers f.packet) i)))
+    (λ i. ordering_then (nat_cmp e.pair.query f.pair.query)
+    (slice_cmp nat_cmp (label_first e.pair.label (numbers e.packet) i) (label_first f.pair.label (numbers f.packet) i)))
     ∙ ap (ordering_then (nat_cmp e.pair.query f.pair.query)) (labels-decide e.pair.label f.pair.label (numbers e.packet) (numbers f.packet))
     ∙ joined (nat_cmp e.pair.query f.pair.query) (slice_cmp nat_cmp e.pair.label f.pair.label) (slice_cmp nat_cmp (numbers e.packet) (numbers f.packet))

@@ -14,7 +14,8 @@ use Rattle.pq_net.specs.Searches.{IsAt, IsNowhere}
 use Rattle.pq_net.proofs.Searched.{rises_above}
 
 -- the row that was found has the instances of its tag
-pub row_found : (rows : Report) (tag i : ℕ) (r : Row) → Ascends (map (λ row. row.tag) rows) → IsAt (λ row. row.tag) rows tag i → pairs_of rows tag ≡ (get_or rows i r).pairs
+pub row_found : (rows : Report) (tag i : ℕ) (r : Row) → Ascends (map (λ row. row.tag) rows) → IsAt (λ row. row.tag) rows tag i
+    → pairs_of rows tag ≡ (get_or rows i r).pairs
 row_found [] tag i r up at = grind (arith, at.0)
 row_found (row ∷ rows) tag zero r up at = grind (arith, nat_tests, at.1 row)
 row_found (row ∷ rows) tag (suc i) r up at =
@@ -33,7 +34,8 @@ row_absent (row ∷ rows) tag none =
     grind (arith, nat_tests, rest, differs)
 
 -- at the place of the switch that was found stand its tables
-pub switch_found : (ss : List Switch) (tables : List Tables) (d i : ℕ) (t : Tables) → Ascends (map (λ s. s.datapath) ss) → length tables ≡ length ss → IsAt (λ s. s.datapath) ss d i → tables_in ss tables d ≡ get_or tables i t
+pub switch_found : (ss : List Switch) (tables : List Tables) (d i : ℕ) (t : Tables) → Ascends (map (λ s. s.datapath) ss)
+    → length tables ≡ length ss → IsAt (λ s. s.datapath) ss d i → tables_in ss tables d ≡ get_or tables i t
 switch_found [] tables d i t up listed at = grind (arith, at.0)
 switch_found (s ∷ ss) [] d i t up listed at = grind (arith, listed)
 switch_found (s ∷ ss) (u ∷ tables) d zero t up listed at = grind (arith, nat_tests, at.1 s)

@@ -13,7 +13,8 @@ use Rattle.pq_topo.proofs.Ascending.{first_below, rises}
 use Rattle.pq_net.specs.Searches.{IsAt, IsNowhere}
 
 -- the first number is below each that follows
-pub rises_above : {A : Type 0} (number : A → ℕ) (x : A) (xs : List A) (i : ℕ) (d : A) → Ascends (map number (x ∷ xs)) → i < length xs → number x < number (get_or xs i d)
+pub rises_above : {A : Type 0} (number : A → ℕ) (x : A) (xs : List A) (i : ℕ) (d : A) → Ascends (map number (x ∷ xs)) → i < length xs
+    → number x < number (get_or xs i d)
 rises_above number x xs i d up below =
     let at_i : get_or (map number xs) i (number d) ≡ number (get_or xs i d) = get_or-map number xs i d in
     let above : number x < get_or (map number xs) i (number d) = first_below (number x) (map number xs) i (number d) up (rw (length-map xs number) below) in
@@ -30,7 +31,8 @@ module _ {A : Type 0} (number : A → ℕ) (xs : List A) (up : Ascends (map numb
       grind (arith, nat_tests, rise)
 
   -- a binary search by number finds the value, or there is none
-  pub searched : (r : Result ℕ ℕ) → IsSearchInRange r (length xs) → IsBinarySearchResult (λ x. nat_cmp (number x) n) xs r → MatchOption (result_ok r) (IsNowhere number xs n) (λ i. IsAt number xs n i)
+  pub searched : (r : Result ℕ ℕ) → IsSearchInRange r (length xs) → IsBinarySearchResult (λ x. nat_cmp (number x) n) xs r
+      → MatchOption (result_ok r) (IsNowhere number xs n) (λ i. IsAt number xs n i)
   searched (Ok at) in_range equal = (in_range, λ x. ranked _ n _ (sym (equal x)))
   searched (Err at) in_range parted = λ k x below same.
       let before : k < at → number (get_or xs k x) < n = λ lt. ranked _ n _ (sym ((parted comparisons_rise).0 k x (omega arith) lt)) in

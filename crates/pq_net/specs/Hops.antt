@@ -26,8 +26,16 @@ collects report (Controller x) = collected_at report x.packet x.vlan
 
 -- what the copies of one hop put in flight, deliver and put into buckets
 abbrev pub adds : Topology → Report → List Sent → TablesState
-adds t report sent = record { flight = carried_all t (to_ports sent); delivered = delivered_of t (to_ports sent); buckets = collected report (to_controller sent) }
+adds t report sent = record {
+  flight = carried_all t (to_ports sent);
+  delivered = delivered_of t (to_ports sent);
+  buckets = collected report (to_controller sent);
+}
 
 -- the state without the packet in flight at this place, and with what its hop adds
 abbrev pub moved_on : TablesState → ℕ → TablesState → TablesState
-moved_on s place added = record { flight = remove s.flight place ++ added.flight; delivered = s.delivered ++ added.delivered; buckets = s.buckets ++ added.buckets }
+moved_on s place added = record {
+  flight = remove s.flight place ++ added.flight;
+  delivered = s.delivered ++ added.delivered;
+  buckets = s.buckets ++ added.buckets;
+}

@@ -112,11 +112,14 @@ of_vlan m = more_of (5 ∷ 10 ∷ 4 ∷ 3 ∷ 11 ∷ 12 ∷ 13 ∷ 14 ∷ 15 ∷
 of_in_port : (m : MatchFields) → AreOf (0 ∷ 6 ∷ 5 ∷ 10 ∷ 4 ∷ 3 ∷ 11 ∷ 12 ∷ 13 ∷ 14 ∷ 15 ∷ 16 ∷ 26 ∷ 27 ∷ []) (from_in_port m)
 of_in_port m = more_of (6 ∷ 5 ∷ 10 ∷ 4 ∷ 3 ∷ 11 ∷ 12 ∷ 13 ∷ 14 ∷ 15 ∷ 16 ∷ 26 ∷ 27 ∷ []) (to_be_bytes w32) 0 m.in_port (from_vlan m) (of_vlan m)
 
-regrouped : (a b c d e f g h i j k l n o : List ℕ) → a ++ b ++ c ++ d ++ e ++ f ++ g ++ h ++ i ++ j ++ k ++ l ++ n ++ o ≡ a ++ (b ++ (c ++ (d ++ (e ++ (f ++ (g ++ (h ++ (i ++ (j ++ (k ++ (l ++ (n ++ (o)))))))))))))
+regrouped : (a b c d e f g h i j k l n o : List ℕ) → a ++ b ++ c ++ d ++ e ++ f ++ g ++ h ++ i ++ j ++ k ++ l ++ n ++ o ≡ a
+    ++ (b ++ (c ++ (d ++ (e ++ (f ++ (g ++ (h ++ (i ++ (j ++ (k ++ (l ++ (n ++ (o)))))))))))))
 regrouped a b c d e f g h i j k l n o = simp append_assoc
 
 -- field after field
-chained : (m : MatchFields) (from_in_port from_vlan from_eth_type from_ip_proto from_eth_src from_eth_dst from_ipv4_src from_ipv4_dst from_tcp_src from_tcp_dst from_udp_src from_udp_dst from_ipv6_src from_ipv6_dst behind : List ℕ) →
+chained : (m : MatchFields)
+    (from_in_port from_vlan from_eth_type from_ip_proto from_eth_src from_eth_dst from_ipv4_src from_ipv4_dst from_tcp_src from_tcp_dst
+    from_udp_src from_udp_dst from_ipv6_src from_ipv6_dst behind : List ℕ) →
     number_field 0 4 (from_be_bytes w32) from_in_port ≡ (m.in_port, from_vlan) →
     number_field 6 2 (from_be_bytes w16) from_vlan ≡ (m.vlan, from_eth_type) →
     number_field 5 2 (from_be_bytes w16) from_eth_type ≡ (m.eth_type, from_ip_proto) →
@@ -133,27 +136,70 @@ chained : (m : MatchFields) (from_in_port from_vlan from_eth_type from_ip_proto 
     address_field 27 16 (from_be_bytes w128) ones128 from_ipv6_dst ≡ (m.ipv6_dst, behind) →
     fields_of from_in_port ≡ m
 unfolding fields_of
-chained m from_in_port from_vlan from_eth_type from_ip_proto from_eth_src from_eth_dst from_ipv4_src from_ipv4_dst from_tcp_src from_tcp_dst from_udp_src from_udp_dst from_ipv6_src from_ipv6_dst behind in_port_is vlan_is eth_type_is ip_proto_is eth_src_is eth_dst_is ipv4_src_is ipv4_dst_is tcp_src_is tcp_dst_is udp_src_is udp_dst_is ipv6_src_is ipv6_dst_is =
-    rw (in_port_is, vlan_is, eth_type_is, ip_proto_is, eth_src_is, eth_dst_is, ipv4_src_is, ipv4_dst_is, tcp_src_is, tcp_dst_is, udp_src_is, udp_dst_is, ipv6_src_is, ipv6_dst_is) refl
+chained m from_in_port from_vlan from_eth_type from_ip_proto from_eth_src from_eth_dst from_ipv4_src from_ipv4_dst from_tcp_src from_tcp_dst
+    from_udp_src from_udp_dst from_ipv6_src from_ipv6_dst behind in_port_is vlan_is eth_type_is ip_proto_is eth_src_is eth_dst_is
+    ipv4_src_is ipv4_dst_is tcp_src_is tcp_dst_is udp_src_is udp_dst_is ipv6_src_is ipv6_dst_is =
+    rw (
+      in_port_is,
+      vlan_is,
+      eth_type_is,
+      ip_proto_is,
+      eth_src_is,
+      eth_dst_is,
+      ipv4_src_is,
+      ipv4_dst_is,
+      tcp_src_is,
+      tcp_dst_is,
+      udp_src_is,
+      udp_dst_is,
+      ipv6_src_is,
+      ipv6_dst_is,
+    ) refl
 
 -- the fields that a lawful match states are read from their spelling
 pub fields_read : (m : MatchFields) → IsLawfulMatch m → fields_of (match_oxms m) ≡ m
 unfolding match_oxms
 fields_read m law =
-    let in_port = number_read 4 (2 ^ 32) (to_be_bytes w32) (from_be_bytes w32) reads_32 0 m.in_port (from_vlan m) (some_of IsPortNumber (λ n. n < 2 ^ 32) (λ n p. omega (arith, p.1)) m.in_port law.in_port) (of_vlan m 0 refl) in
-    let vlan = number_read 2 (2 ^ 16) (to_be_bytes w16) (from_be_bytes w16) reads_16 6 m.vlan (from_eth_type m) (some_of (λ w. (w ≡ 0) ⊎ IsTagWord w) (λ n. n < 2 ^ 16) vlan_below m.vlan law.vlan) (of_eth_type m 6 refl) in
+    let in_port = number_read 4 (2 ^ 32) (to_be_bytes w32) (from_be_bytes w32) reads_32 0 m.in_port (from_vlan m)
+    (some_of IsPortNumber (λ n. n < 2 ^ 32) (λ n p. omega (arith, p.1)) m.in_port law.in_port) (of_vlan m 0 refl) in
+    let vlan = number_read 2 (2 ^ 16) (to_be_bytes w16) (from_be_bytes w16) reads_16 6 m.vlan (from_eth_type m)
+    (some_of (λ w. (w ≡ 0) ⊎ IsTagWord w) (λ n. n < 2 ^ 16) vlan_below m.vlan law.vlan) (of_eth_type m 6 refl) in
     let eth_type = number_read 2 (2 ^ 16) (to_be_bytes w16) (from_be_bytes w16) reads_16 5 m.eth_type (from_ip_proto m) (law.eth_type) (of_ip_proto m 5 refl) in
-    let ip_proto = number_read 1 (2 ^ 8) byte byte_number reads_byte 10 m.ip_proto (from_eth_src m) (some_of (λ n. (n < 2 ^ 8) × ((m.eth_type ≡ Some 0x0800) ⊎ (m.eth_type ≡ Some 0x86dd))) (λ n. n < 2 ^ 8) (λ n p. p.0) m.ip_proto law.ip_proto) (of_eth_src m 10 refl) in
+    let ip_proto = number_read 1 (2 ^ 8) byte byte_number reads_byte 10 m.ip_proto (from_eth_src m)
+    (some_of (λ n. (n < 2 ^ 8) × ((m.eth_type ≡ Some 0x0800) ⊎ (m.eth_type ≡ Some 0x86dd))) (λ n. n < 2 ^ 8)
+    (λ n p. p.0) m.ip_proto law.ip_proto) (of_eth_src m 10 refl) in
     let eth_src = number_read 6 (2 ^ 48) mac_bytes mac_number reads_mac 4 m.eth_src (from_eth_dst m) (law.eth_src) (of_eth_dst m 4 refl) in
     let eth_dst = number_read 6 (2 ^ 48) mac_bytes mac_number reads_mac 3 m.eth_dst (from_ipv4_src m) (law.eth_dst) (of_ipv4_src m 3 refl) in
-    let ipv4_src = address_read 4 (2 ^ 32) (to_be_bytes w32) (from_be_bytes w32) reads_32 11 ones32 m.ipv4_src (from_ipv4_dst m) (some_of (λ a. IsMasked 32 a × (m.eth_type ≡ Some 0x0800)) (λ a. (a.0 < 2 ^ 32) × (a.1 < 2 ^ 32)) (λ a p. masked_below 32 a p.0) m.ipv4_src law.ipv4_src) (of_ipv4_dst m 11 refl) in
-    let ipv4_dst = address_read 4 (2 ^ 32) (to_be_bytes w32) (from_be_bytes w32) reads_32 12 ones32 m.ipv4_dst (from_tcp_src m) (some_of (λ a. IsMasked 32 a × (m.eth_type ≡ Some 0x0800)) (λ a. (a.0 < 2 ^ 32) × (a.1 < 2 ^ 32)) (λ a p. masked_below 32 a p.0) m.ipv4_dst law.ipv4_dst) (of_tcp_src m 12 refl) in
-    let tcp_src = number_read 2 (2 ^ 16) (to_be_bytes w16) (from_be_bytes w16) reads_16 13 m.tcp_src (from_tcp_dst m) (some_of (λ n. (n < 2 ^ 16) × (m.ip_proto ≡ Some 6)) (λ n. n < 2 ^ 16) (λ n p. p.0) m.tcp_src law.tcp_src) (of_tcp_dst m 13 refl) in
-    let tcp_dst = number_read 2 (2 ^ 16) (to_be_bytes w16) (from_be_bytes w16) reads_16 14 m.tcp_dst (from_udp_src m) (some_of (λ n. (n < 2 ^ 16) × (m.ip_proto ≡ Some 6)) (λ n. n < 2 ^ 16) (λ n p. p.0) m.tcp_dst law.tcp_dst) (of_udp_src m 14 refl) in
-    let udp_src = number_read 2 (2 ^ 16) (to_be_bytes w16) (from_be_bytes w16) reads_16 15 m.udp_src (from_udp_dst m) (some_of (λ n. (n < 2 ^ 16) × (m.ip_proto ≡ Some 17)) (λ n. n < 2 ^ 16) (λ n p. p.0) m.udp_src law.udp_src) (of_udp_dst m 15 refl) in
-    let udp_dst = number_read 2 (2 ^ 16) (to_be_bytes w16) (from_be_bytes w16) reads_16 16 m.udp_dst (from_ipv6_src m) (some_of (λ n. (n < 2 ^ 16) × (m.ip_proto ≡ Some 17)) (λ n. n < 2 ^ 16) (λ n p. p.0) m.udp_dst law.udp_dst) (of_ipv6_src m 16 refl) in
-    let ipv6_src = address_read 16 (2 ^ 128) (to_be_bytes w128) (from_be_bytes w128) reads_128 26 ones128 m.ipv6_src (from_ipv6_dst m) (some_of (λ a. IsMasked 128 a × (m.eth_type ≡ Some 0x86dd)) (λ a. (a.0 < 2 ^ 128) × (a.1 < 2 ^ 128)) (λ a p. masked_below 128 a p.0) m.ipv6_src law.ipv6_src) (of_ipv6_dst m 26 refl) in
+    let ipv4_src = address_read 4 (2 ^ 32) (to_be_bytes w32) (from_be_bytes w32) reads_32 11 ones32 m.ipv4_src (from_ipv4_dst m)
+    (some_of (λ a. IsMasked 32 a × (m.eth_type ≡ Some 0x0800)) (λ a. (a.0 < 2 ^ 32) × (a.1 < 2 ^ 32))
+    (λ a p. masked_below 32 a p.0) m.ipv4_src law.ipv4_src) (of_ipv4_dst m 11 refl) in
+    let ipv4_dst = address_read 4 (2 ^ 32) (to_be_bytes w32) (from_be_bytes w32) reads_32 12 ones32 m.ipv4_dst (from_tcp_src m)
+    (some_of (λ a. IsMasked 32 a × (m.eth_type ≡ Some 0x0800)) (λ a. (a.0 < 2 ^ 32) × (a.1 < 2 ^ 32))
+    (λ a p. masked_below 32 a p.0) m.ipv4_dst law.ipv4_dst) (of_tcp_src m 12 refl) in
+    let tcp_src = number_read 2 (2 ^ 16) (to_be_bytes w16) (from_be_bytes w16) reads_16 13 m.tcp_src (from_tcp_dst m)
+    (some_of (λ n. (n < 2 ^ 16) × (m.ip_proto ≡ Some 6)) (λ n. n < 2 ^ 16) (λ n p. p.0) m.tcp_src law.tcp_src) (of_tcp_dst m 13 refl) in
+    let tcp_dst = number_read 2 (2 ^ 16) (to_be_bytes w16) (from_be_bytes w16) reads_16 14 m.tcp_dst (from_udp_src m)
+    (some_of (λ n. (n < 2 ^ 16) × (m.ip_proto ≡ Some 6)) (λ n. n < 2 ^ 16) (λ n p. p.0) m.tcp_dst law.tcp_dst) (of_udp_src m 14 refl) in
+    let udp_src = number_read 2 (2 ^ 16) (to_be_bytes w16) (from_be_bytes w16) reads_16 15 m.udp_src (from_udp_dst m)
+    (some_of (λ n. (n < 2 ^ 16) × (m.ip_proto ≡ Some 17)) (λ n. n < 2 ^ 16) (λ n p. p.0) m.udp_src law.udp_src)
+    (of_udp_dst m 15 refl) in
+    let udp_dst = number_read 2 (2 ^ 16) (to_be_bytes w16) (from_be_bytes w16) reads_16 16 m.udp_dst (from_ipv6_src m)
+    (some_of (λ n. (n < 2 ^ 16) × (m.ip_proto ≡ Some 17)) (λ n. n < 2 ^ 16) (λ n p. p.0) m.udp_dst law.udp_dst)
+    (of_ipv6_src m 16 refl) in
+    let ipv6_src = address_read 16 (2 ^ 128) (to_be_bytes w128) (from_be_bytes w128) reads_128 26 ones128 m.ipv6_src (from_ipv6_dst m)
+    (some_of (λ a. IsMasked 128 a × (m.eth_type ≡ Some 0x86dd)) (λ a. (a.0 < 2 ^ 128) × (a.1 < 2 ^ 128))
+    (λ a p. masked_below 128 a p.0) m.ipv6_src law.ipv6_src) (of_ipv6_dst m 26 refl) in
     let last : from_ipv6_dst m ≡ from_ipv6_dst m ++ [] = sym (append-nil (from_ipv6_dst m)) in
-    let ipv6_dst = address_read 16 (2 ^ 128) (to_be_bytes w128) (from_be_bytes w128) reads_128 27 ones128 m.ipv6_dst [] (some_of (λ a. IsMasked 128 a × (m.eth_type ≡ Some 0x86dd)) (λ a. (a.0 < 2 ^ 128) × (a.1 < 2 ^ 128)) (λ a p. masked_below 128 a p.0) m.ipv6_dst law.ipv6_dst) (none_of 27 refl) in
-    let parted : match_oxms m ≡ from_in_port m = regrouped (stated 0 (to_be_bytes w32) m.in_port) (stated 6 (to_be_bytes w16) m.vlan) (stated 5 (to_be_bytes w16) m.eth_type) (stated 10 byte m.ip_proto) (stated 4 mac_bytes m.eth_src) (stated 3 mac_bytes m.eth_dst) (stated_masked 11 (to_be_bytes w32) ones32 m.ipv4_src) (stated_masked 12 (to_be_bytes w32) ones32 m.ipv4_dst) (stated 13 (to_be_bytes w16) m.tcp_src) (stated 14 (to_be_bytes w16) m.tcp_dst) (stated 15 (to_be_bytes w16) m.udp_src) (stated 16 (to_be_bytes w16) m.udp_dst) (stated_masked 26 (to_be_bytes w128) ones128 m.ipv6_src) (stated_masked 27 (to_be_bytes w128) ones128 m.ipv6_dst) in
-    ap fields_of parted ∙ chained m (from_in_port m) (from_vlan m) (from_eth_type m) (from_ip_proto m) (from_eth_src m) (from_eth_dst m) (from_ipv4_src m) (from_ipv4_dst m) (from_tcp_src m) (from_tcp_dst m) (from_udp_src m) (from_udp_dst m) (from_ipv6_src m) (from_ipv6_dst m) [] in_port vlan eth_type ip_proto eth_src eth_dst ipv4_src ipv4_dst tcp_src tcp_dst udp_src udp_dst ipv6_src (ap (address_field 27 16 (from_be_bytes w128) ones128) last ∙ ipv6_dst)
+    let ipv6_dst = address_read 16 (2 ^ 128) (to_be_bytes w128) (from_be_bytes w128) reads_128 27 ones128 m.ipv6_dst []
+    (some_of (λ a. IsMasked 128 a × (m.eth_type ≡ Some 0x86dd)) (λ a. (a.0 < 2 ^ 128) × (a.1 < 2 ^ 128))
+    (λ a p. masked_below 128 a p.0) m.ipv6_dst law.ipv6_dst) (none_of 27 refl) in
+    let parted : match_oxms m ≡ from_in_port m = regrouped (stated 0 (to_be_bytes w32) m.in_port) (stated 6 (to_be_bytes w16) m.vlan)
+    (stated 5 (to_be_bytes w16) m.eth_type) (stated 10 byte m.ip_proto) (stated 4 mac_bytes m.eth_src) (stated 3 mac_bytes m.eth_dst)
+    (stated_masked 11 (to_be_bytes w32) ones32 m.ipv4_src) (stated_masked 12 (to_be_bytes w32) ones32 m.ipv4_dst)
+    (stated 13 (to_be_bytes w16) m.tcp_src) (stated 14 (to_be_bytes w16) m.tcp_dst) (stated 15 (to_be_bytes w16) m.udp_src)
+    (stated 16 (to_be_bytes w16) m.udp_dst) (stated_masked 26 (to_be_bytes w128) ones128 m.ipv6_src)
+    (stated_masked 27 (to_be_bytes w128) ones128 m.ipv6_dst) in
+    ap fields_of parted ∙ chained m (from_in_port m) (from_vlan m) (from_eth_type m) (from_ip_proto m) (from_eth_src m) (from_eth_dst m)
+    (from_ipv4_src m) (from_ipv4_dst m) (from_tcp_src m) (from_tcp_dst m) (from_udp_src m) (from_udp_dst m) (from_ipv6_src m)
+    (from_ipv6_dst m) [] in_port vlan eth_type ip_proto eth_src eth_dst ipv4_src ipv4_dst tcp_src tcp_dst udp_src udp_dst ipv6_src
+    (ap (address_field 27 16 (from_be_bytes w128) ones128) last ∙ ipv6_dst)

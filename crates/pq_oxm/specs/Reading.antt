@@ -12,13 +12,17 @@ is_field code size bytes = nat_le (4 + size) (length bytes) && (get_or bytes 2 0
 
 -- the number of a field at the front, and what stands behind the field
 unfoldable pub number_field : ℕ → ℕ → (List ℕ → ℕ) → List ℕ → Option ℕ × List ℕ
-number_field field size number bytes = if is_field (field * 2) size bytes then (Some (number (take size (drop 4 bytes))), drop (4 + size) bytes) else (None, bytes)
+number_field field size number bytes = if is_field (field * 2) size bytes then (
+  Some (number (take size (drop 4 bytes))),
+  drop (4 + size) bytes,
+) else (None, bytes)
 
 -- the address of a field at the front with its mask, and what stands behind the field
 unfoldable pub address_field : ℕ → ℕ → (List ℕ → ℕ) → ℕ → List ℕ → Option (ℕ × ℕ) × List ℕ
 address_field field size number ones bytes =
     if is_field (field * 2) size bytes then (Some (number (take size (drop 4 bytes)), ones), drop (4 + size) bytes)
-    else if is_field (field * 2 + 1) (size + size) bytes then (Some (number (take size (drop 4 bytes)), number (take size (drop (4 + size) bytes))), drop (4 + (size + size)) bytes)
+    else if is_field (field * 2 + 1) (size + size) bytes then
+    (Some (number (take size (drop 4 bytes)), number (take size (drop (4 + size) bytes))), drop (4 + (size + size)) bytes)
     else (None, bytes)
 
 -- a number of one byte
@@ -46,4 +50,21 @@ fields_of bytes =
     let udp_dst = number_field 16 2 (from_be_bytes w16) udp_src.1 in
     let ipv6_src = address_field 26 16 (from_be_bytes w128) ones128 udp_dst.1 in
     let ipv6_dst = address_field 27 16 (from_be_bytes w128) ones128 ipv6_src.1 in
-    record { in_port = in_port.0; vlan = vlan.0; eth_type = eth_type.0; ip_proto = ip_proto.0; eth_src = eth_src.0; eth_dst = eth_dst.0; ipv4_src = ipv4_src.0; ipv4_dst = ipv4_dst.0; tcp_src = tcp_src.0; tcp_dst = tcp_dst.0; udp_src = udp_src.0; udp_dst = udp_dst.0; ipv6_src = ipv6_src.0; ipv6_dst = ipv6_dst.0 }
+    record {
+      in_port = in_port.0;
+      vlan = vlan.0;
+      eth_type = eth_type.0;
+      ip_proto = ip_proto.0;
+      eth_src = eth_src.0;
+      eth_dst =
+          eth_dst.0;
+      ipv4_src = ipv4_src.0;
+      ipv4_dst = ipv4_dst.0;
+      tcp_src = tcp_src.0;
+      tcp_dst = tcp_dst.0;
+      udp_src = udp_src.0;
+      udp_dst =
+          udp_dst.0;
+      ipv6_src = ipv6_src.0;
+      ipv6_dst = ipv6_dst.0;
+    }

@@ -1,5 +1,6 @@
 -- Reading on within a piece.
-use Rattle.std.proofs.Common.{◌≡◌, ◌+◌, ◌≤◌, ◌<◌, ℕ, zero, suc, Bool, true, false, List, [], ◌∷◌, ◌++◌, length, refl, sym, ap, subst, ◌∙◌, arith, append-nil, append_assoc}
+use Rattle.std.proofs.Common.{◌≡◌, ◌+◌, ◌≤◌, ◌<◌, ℕ, zero, suc, Bool, true, false, List, [], ◌∷◌, ◌++◌, length, refl, sym, ap, subst, ◌∙◌}
+use Rattle.std.proofs.Common.{arith, append-nil, append_assoc}
 use Rattle.std.specs.Prelude.{Option, None, Some, Err, IfSome, MatchBool}
 use Rattle.std.specs.Io.KnownBytes.{Consumes, IsAtEnd}
 use Rattle.std.proofs.KnownBytes.{Consumes-trans}
@@ -29,18 +30,22 @@ pub goes_on_reading : (before : List ℕ) (left mid rest : Option (List ℕ)) (p
 goes_on_reading before left mid rest pending line piece next new more (read, taken, within) gone took = (
   read ++ more,
   Consumes-trans left mid rest read more taken took,
-  λ others. ap (λ t. pieces_of (t ++ others)) (sym (append_assoc before read more)) ∙ (ap pieces_of (append_assoc (before ++ read) more others) ∙ (within (more ++ others) ∙ gone.same (more ++ others))),
+  λ others. ap (λ t. pieces_of (t ++ others)) (sym (append_assoc before read more))
+      ∙ (ap pieces_of (append_assoc (before ++ read) more others) ∙ (within (more ++ others) ∙ gone.same (more ++ others))),
 )
 
 -- the piece has ended before what is pending now
-pub is_first : (before : List ℕ) (left rest : Option (List ℕ)) (pending : List ℕ) (line : Line) (piece new after : List ℕ) (p : Piece) → p.is_last ≡ false → p.text.items ≡ new
+pub is_first : (before : List ℕ) (left rest : Option (List ℕ)) (pending : List ℕ) (line : Line) (piece new after : List ℕ) (p : Piece)
+    → p.is_last ≡ false → p.text.items ≡ new
     → IsWithin before left rest pending line piece → ((more : List ℕ) → going line piece (pending ++ more) ≡ new ∷ pieces_of (after ++ more))
     → Reads left rest (λ read. IsNext (before ++ read) rest after p)
 is_first before left rest pending line piece new after p not_last is (read, taken, within) ended = (
   read,
   taken,
   subst (λ b. MatchBool b (IsOnly (before ++ read) rest p.text.items) (IsFirst (before ++ read) rest after p.text.items)) (sym not_last)
-      (subst (IsFirst (before ++ read) rest after) (sym is) (if_known (λ more. pieces_of ((before ++ read) ++ more) ≡ new ∷ pieces_of (after ++ more)) rest (λ more. within more ∙ ended more))),
+      (subst (IsFirst (before ++ read) rest after) (sym is)
+      (if_known (λ more. pieces_of ((before ++ read) ++ more) ≡ new ∷ pieces_of (after ++ more)) rest (λ more. within more
+      ∙ ended more))),
 )
 
 -- the piece is too long, whatever is left
@@ -48,12 +53,17 @@ pub is_stopped : (before : List ℕ) (left rest : Option (List ℕ)) (pending : 
     → IsWithin before left rest pending line piece → ((more : List ℕ) → IsStopped unread limit (going line piece (pending ++ more)))
     → Reads left rest (λ read. IsUnread unread limit (before ++ read) rest)
 is_stopped before left rest pending line piece limit Failed (read, taken, within) stopped = absurd (stopped [])
-is_stopped before left rest pending line piece limit TooLong (read, taken, within) stopped =
-    (read, taken, if_known (λ more. BeginsLong limit (pieces_of ((before ++ read) ++ more))) rest (λ more. subst (BeginsLong limit) (sym (within more)) (stopped more)))
+is_stopped before left rest pending line piece limit TooLong (read, taken, within) stopped = (
+  read,
+  taken,
+  if_known (λ more. BeginsLong limit (pieces_of ((before ++ read) ++ more))) rest
+      (λ more. subst (BeginsLong limit) (sym (within more)) (stopped more)),
+)
 is_stopped before left rest pending line piece limit Memory (read, taken, within) stopped = (read, taken, tt)
 
 -- a read failed within the piece
-pub is_open : (before : List ℕ) (left rest : Option (List ℕ)) (line : Line) (piece : List ℕ) (limit : ℕ) → IsWithin before left rest [] line piece → length piece ≤ limit
+pub is_open : (before : List ℕ) (left rest : Option (List ℕ)) (line : Line) (piece : List ℕ) (limit : ℕ)
+    → IsWithin before left rest [] line piece → length piece ≤ limit
     → Reads left rest (λ read. IsUnread Failed limit (before ++ read) rest)
 is_open before left rest line piece limit (read, taken, within) short = (read, taken, record { line = line; piece = piece; within = within; short = short })
 
@@ -63,7 +73,8 @@ if_none P None ended none = tt
 if_none P (Some rest) ended none = subst P (sym ended) none
 
 -- the input ended within the piece
-pub is_finished : (before : List ℕ) (left rest : Option (List ℕ)) (line : Line) (piece : List ℕ) (p : Piece) → IsWithin before left rest [] line piece → IsAtEnd rest → IsFinished line piece p
+pub is_finished : (before : List ℕ) (left rest : Option (List ℕ)) (line : Line) (piece : List ℕ) (p : Piece)
+    → IsWithin before left rest [] line piece → IsAtEnd rest → IsFinished line piece p
     → Reads left rest (λ read. IsNext (before ++ read) rest [] p)
 is_finished before left rest line piece p (read, taken, within) ended finished = by p.is_last refl
   where
@@ -72,8 +83,12 @@ is_finished before left rest line piece p (read, taken, within) ended finished =
 
     by : (last : Bool) → p.is_last ≡ last → Reads left rest (λ read. IsNext (before ++ read) rest [] p)
     by true is =
-        let only = subst (λ b. MatchBool b (going line piece [] ≡ p.text.items ∷ []) (going line piece [] ≡ p.text.items ∷ pieces_of [])) is finished in
-        (read, taken, subst (λ b. MatchBool b (IsOnly (before ++ read) rest p.text.items) (IsFirst (before ++ read) rest [] p.text.items)) (sym is) (record { only = whole ∙ only; ended = ended }))
+        let only = subst (λ b. MatchBool b (going line piece [] ≡ p.text.items ∷ []) (going line piece [] ≡ p.text.items ∷ pieces_of [])) is finished in (
+          read,
+          taken,
+          subst (λ b. MatchBool b (IsOnly (before ++ read) rest p.text.items) (IsFirst (before ++ read) rest [] p.text.items))
+              (sym is) (record { only = whole ∙ only; ended = ended }),
+        )
     by false is =
         let first = subst (λ b. MatchBool b (going line piece [] ≡ p.text.items ∷ []) (going line piece [] ≡ p.text.items ∷ pieces_of [])) is finished in (
           read,
@@ -92,7 +107,8 @@ is_stopped_at_end before left rest line piece limit TooLong (read, taken, within
 is_stopped_at_end before left rest line piece limit Memory (read, taken, within) ended stopped = (read, taken, tt)
 
 -- what stops a piece is no fault of a read
-pub no_fault : (T : Type 0) (unread : Unread) (limit : ℕ) (pieces : List (List ℕ)) (before now : ℕ) → IsStopped unread limit pieces → now ≡ before → HasReadCause {T = T} (Err unread) before now
+pub no_fault : (T : Type 0) (unread : Unread) (limit : ℕ) (pieces : List (List ℕ)) (before now : ℕ) → IsStopped unread limit pieces
+    → now ≡ before → HasReadCause {T = T} (Err unread) before now
 no_fault T Failed limit pieces before now stopped same = absurd stopped
 no_fault T TooLong limit pieces before now stopped same = same
 no_fault T Memory limit pieces before now stopped same = same

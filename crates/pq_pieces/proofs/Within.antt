@@ -1,5 +1,6 @@
 -- A line that can't become `%%` parts no pieces.
-use Rattle.std.proofs.Common.{◌≡◌, ◌<◌, ◌+◌, ℕ, Bool, true, false, List, [], ◌∷◌, ◌++◌, refl, sym, ap, subst, ◌∙◌, arith, length, length-append, append-nil, append_assoc}
+use Rattle.std.proofs.Common.{◌≡◌, ◌<◌, ◌+◌, ℕ, Bool, true, false, List, [], ◌∷◌, ◌++◌, refl, sym, ap, subst, ◌∙◌, arith, length}
+use Rattle.std.proofs.Common.{length-append, append-nil, append_assoc}
 use Rattle.std.proofs.lemmas.Bool.{eqb-true}
 use Rattle.std.specs.Prelude.{◌==◌}
 use Rattle.pq_pieces.specs.declared.line.Line.{Line}
@@ -22,7 +23,8 @@ in_line : (lines line text : List ℕ) → PartsNothing line → pieces_from lin
 in_line lines line [] parts = rw (none_here line parts) refl
 in_line lines line (b ∷ bs) parts = by (b == 10) refl (in_line lines (line ++ b ∷ []) bs (longer line b parts))
   where
-    by : (c : Bool) → (b == 10) ≡ c → pieces_from lines (line ++ b ∷ []) bs ≡ within_line (lines ++ (line ++ b ∷ [])) bs → pieces_from lines line (b ∷ bs) ≡ within_line (lines ++ line) (b ∷ bs)
+    by : (c : Bool) → (b == 10) ≡ c → pieces_from lines (line ++ b ∷ []) bs ≡ within_line (lines ++ (line ++ b ∷ [])) bs
+        → pieces_from lines line (b ∷ bs) ≡ within_line (lines ++ line) (b ∷ bs)
     by true is later = rw (is, none_here line parts) (ap (λ l. pieces_from l [] bs) (sym (append_assoc lines line (10 ∷ []))))
     by false is later = rw is (later ∙ ap (λ l. within_line l bs) (sym (append_assoc lines line (b ∷ []))))
 
@@ -45,7 +47,8 @@ goes_on line piece b breaks = record { same = λ rest. same line rest breaks; he
     first rest true is breaks = rw (eqb-true b 10 is, append-nil piece) refl
     first rest false is breaks = rw (is, append-nil piece) (in_line piece (b ∷ []) rest (λ more. rw breaks refl))
 
-    second : (rest : List ℕ) (c : Bool) → (b == 10) ≡ c → (b == 37) ≡ false → pieces_from piece (37 ∷ []) (b ∷ rest) ≡ going (after b) ((piece ++ 37 ∷ []) ++ b ∷ []) rest
+    second : (rest : List ℕ) (c : Bool) → (b == 10) ≡ c → (b == 37) ≡ false
+        → pieces_from piece (37 ∷ []) (b ∷ rest) ≡ going (after b) ((piece ++ 37 ∷ []) ++ b ∷ []) rest
     second rest true is breaks = rw (eqb-true b 10 is, append_assoc piece (37 ∷ []) (10 ∷ [])) refl
     second rest false is breaks = rw (is, append_assoc piece (37 ∷ []) (b ∷ [])) (in_line piece (37 ∷ b ∷ []) rest (λ more. rw breaks refl))
 
@@ -69,9 +72,13 @@ first_long limit lines line [] long = by (is_separator line) refl
     by : (c : Bool) → is_separator line ≡ c → BeginsLong limit (pieces_from lines line [])
     by true is = rw is (record { first = lines; others = [] ∷ []; is = refl; long = long })
     by false is = rw is (record { first = lines ++ line; others = []; is = refl; long = omega (arith, long, length-append lines line) })
-first_long limit lines line (b ∷ bs) long = by (b == 10) (is_separator line) refl refl (first_long limit (lines ++ (line ++ 10 ∷ [])) [] bs (omega (arith, long, length-append lines (line ++ 10 ∷ [])))) (first_long limit lines (line ++ b ∷ []) bs long)
+first_long limit lines line (b ∷ bs) long =
+    by (b == 10) (is_separator line) refl refl
+    (first_long limit (lines ++ (line ++ 10 ∷ [])) [] bs (omega (arith, long, length-append lines (line ++ 10 ∷ []))))
+    (first_long limit lines (line ++ b ∷ []) bs long)
   where
-    by : (c d : Bool) → (b == 10) ≡ c → is_separator line ≡ d → BeginsLong limit (pieces_from (lines ++ (line ++ 10 ∷ [])) [] bs) → BeginsLong limit (pieces_from lines (line ++ b ∷ []) bs)
+    by : (c d : Bool) → (b == 10) ≡ c → is_separator line ≡ d → BeginsLong limit (pieces_from (lines ++ (line ++ 10 ∷ [])) [] bs)
+        → BeginsLong limit (pieces_from lines (line ++ b ∷ []) bs)
         → BeginsLong limit (pieces_from lines line (b ∷ bs))
     by true true is parts ended gone = rw (is, parts) (record { first = lines; others = pieces_from [] [] bs; is = refl; long = long })
     by true false is parts ended gone = rw (is, parts) ended

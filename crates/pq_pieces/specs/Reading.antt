@@ -72,4 +72,5 @@ pub record IsFilled (after : Reading) : Type 0 where
 
 -- bytes were read, of which the text's first piece has these so far; these are pending
 abbrev pub IsWithin : (before : List ℕ) → (left rest : Option (List ℕ)) → (pending : List ℕ) → Line → (piece : List ℕ) → Type 0
-IsWithin before left rest pending line piece = Reads left rest (λ read. (more : List ℕ) → pieces_of ((before ++ read) ++ more) ≡ going line piece (pending ++ more))
+IsWithin before left rest pending line piece =
+    Reads left rest (λ read. (more : List ℕ) → pieces_of ((before ++ read) ++ more) ≡ going line piece (pending ++ more))

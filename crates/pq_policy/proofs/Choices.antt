@@ -31,7 +31,8 @@ blank = roll-Term (record { head = record { kind = Word; at = 0; len = 0 }; chil
 
 -- three children are a predicate and two policies
 pub three : (T : Topology) (bytes : List ℕ) (head : Token) (ts : List Term) (d : Term) → 3 ≤ length ts → length ts < 4
-    → choice_of T bytes head (trees ts) (policy_readings T bytes (trees ts)) ≡ choice_among T bytes (tree (slice_index_or ts 0 d)) (tree (slice_index_or ts 1 d)) (tree (slice_index_or ts 2 d))
+    → choice_of T bytes head (trees ts) (policy_readings T bytes (trees ts)) ≡ choice_among T bytes (tree (slice_index_or ts 0 d))
+    (tree (slice_index_or ts 1 d)) (tree (slice_index_or ts 2 d))
 three T bytes head [] d few many = absurd (omega (arith, few))
 three T bytes head (x ∷ []) d few many = absurd (omega (arith, few))
 three T bytes head (x ∷ y ∷ []) d few many = absurd (omega (arith, few))

@@ -14,7 +14,23 @@ use Rattle.pq_policy.specs.Policy.{IsInPacketOrder}
 -- the packet with these numbers
 packet_of : List ℕ → Numbers
 packet_of (a ∷ b ∷ c ∷ d ∷ e ∷ f ∷ g ∷ h ∷ i ∷ j ∷ k ∷ l ∷ m ∷ n ∷ rest) =
-    record { switch = a; port = b; eth_type = c; ip_proto = d; eth_src = e; eth_dst = f; ipv4_src = g; ipv4_dst = h; tcp_src = i; tcp_dst = j; udp_src = k; udp_dst = l; ipv6_src = m; ipv6_dst = n }
+    record {
+      switch = a;
+      port = b;
+      eth_type = c;
+      ip_proto = d;
+      eth_src = e;
+      eth_dst = f;
+      ipv4_src = g;
+      ipv4_dst = h;
+      tcp_src = i;
+      tcp_dst =
+          j;
+      udp_src = k;
+      udp_dst = l;
+      ipv6_src = m;
+      ipv6_dst = n;
+    }
 packet_of few = zero_packet
 
 -- a packet's numbers tell it
@@ -25,10 +41,12 @@ numbers_tell x y same = ap packet_of same
 pub tells : ((x y : Numbers) → packet_cmp x y ≡ slice_cmp nat_cmp (numbers x) (numbers y)) → (x y : Numbers) → packet_cmp x y ≡ Equal → x ≡ y
 tells compares x y equal = numbers_tell x y (exact_bytes (numbers x) (numbers y) (sym (compares x y) ∙ equal))
 
-pub in_order : ((x y : Numbers) → is_lt (packet_cmp x y) ≡ is_before (numbers x) (numbers y)) → (xs : List Numbers) → IsStrictlySortedBy packet_cmp xs → IsInPacketOrder xs
+pub in_order : ((x y : Numbers) → is_lt (packet_cmp x y) ≡ is_before (numbers x) (numbers y)) → (xs : List Numbers)
+    → IsStrictlySortedBy packet_cmp xs → IsInPacketOrder xs
 unfolding IsStrictlySortedBy
 in_order precedes [] sorted = tt
 in_order precedes (x ∷ xs) sorted = (
-  All-weaker (λ y. packet_cmp x y ≡ Less) (λ y. is_before (numbers x) (numbers y) ≡ true) (λ y less. sym (precedes x y) ∙ ap is_lt less) xs (All-after_first packet_cmp x xs sorted),
+  All-weaker (λ y. packet_cmp x y ≡ Less) (λ y. is_before (numbers x) (numbers y) ≡ true) (λ y less. sym (precedes x y) ∙ ap is_lt less) xs
+      (All-after_first packet_cmp x xs sorted),
   in_order precedes xs sorted.1,
 )

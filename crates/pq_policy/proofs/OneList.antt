@@ -40,13 +40,15 @@ in_rest x y z ys first less (inl same) =
     absurd (never_both (numbers x) (numbers x) itself itself)
 in_rest x y z ys first less (inr later) = later
 
-same_lists : (xs ys : List Numbers) → IsInPacketOrder xs → IsInPacketOrder ys → ((z : Numbers) → IsIn z xs → IsIn z ys) → ((z : Numbers) → IsIn z ys → IsIn z xs) → xs ≡ ys
+same_lists : (xs ys : List Numbers) → IsInPacketOrder xs → IsInPacketOrder ys → ((z : Numbers) → IsIn z xs → IsIn z ys)
+    → ((z : Numbers) → IsIn z ys → IsIn z xs) → xs ≡ ys
 same_lists [] [] a b there back = refl
 same_lists [] (y ∷ ys) a b there back = absurd (back y (inl refl))
 same_lists (x ∷ xs) [] a b there back = absurd (there x (inl refl))
 same_lists (x ∷ xs) (y ∷ ys) a b there back =
     let first = same_first x y xs ys a.0 b.0 (there x (inl refl)) (back y (inl refl)) in
-    let rest = same_lists xs ys a.1 b.1 (λ z here. in_rest x y z ys first (behind x xs z a.0 here) (there z (inr here))) (λ z here. in_rest y x z xs (sym first) (behind y ys z b.0 here) (back z (inr here))) in
+    let rest = same_lists xs ys a.1 b.1 (λ z here. in_rest x y z ys first (behind x xs z a.0 here) (there z (inr here)))
+    (λ z here. in_rest y x z xs (sym first) (behind y ys z b.0 here) (back z (inr here))) in
     λ i. first i ∷ rest i
 
 pub one_list : (P : Numbers → Type 0) (xs ys : List Numbers) → IsListOf P xs → IsListOf P ys → xs ≡ ys

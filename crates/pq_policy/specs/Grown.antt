@@ -5,7 +5,8 @@ use Rattle.pq_fields.specs.Order.{packet_cmp}
 use Rattle.pq_fields.specs.Packet.{Numbers}
 use Rattle.pq_fields.specs.Pred.{holds}
 use Rattle.pq_model.specs.Topology.{Topology, ports_of}
-use Rattle.pq_policy.specs.Policy.{Joint, AnyOne, Chained, First, Second, Policies, none, put, PolicyTop, PolicyTree, Pass, Discard, Spread, Only, Write, Forward, Choose, Either, InTurn, written}
+use Rattle.pq_policy.specs.Policy.{Joint, AnyOne, Chained, First, Second, Policies, none, put, PolicyTop, PolicyTree, Pass, Discard, Spread}
+use Rattle.pq_policy.specs.Policy.{Only, Write, Forward, Choose, Either, InTurn, written}
 
 -- the set with one packet more, where it isn't there yet
 abbrev pub with_packet : Numbers → List Numbers → List Numbers
@@ -43,7 +44,8 @@ grown_together t none Chained xs ys = on_each with_packet xs ys
 grown_together t none First xs ys = ys
 grown_together t none Second xs ys = ys
 grown_together t (put top below rest) AnyOne xs ys = grown_together t rest AnyOne xs (on_each (grown_by t top (λ j x. grown_together t below j (x ∷ []))) xs ys)
-grown_together t (put top below rest) Chained xs ys = grown_together t rest Chained (on_each (grown_by t top (λ j x. grown_together t below j (x ∷ []))) xs []) ys
+grown_together t (put top below rest) Chained xs ys =
+    grown_together t rest Chained (on_each (grown_by t top (λ j x. grown_together t below j (x ∷ []))) xs []) ys
 grown_together t (put top below rest) First xs ys = on_each (grown_by t top (λ j x. grown_together t below j (x ∷ []))) xs ys
 grown_together t (put top below rest) Second xs ys = grown_together t rest First xs ys
 

@@ -8,7 +8,8 @@ use Rattle.pq_term.specs.Groups.{before_separator, behind_separator}
 use Rattle.pq_term.specs.Addresses.{mac_of, ipv4_of, ipv6_of}
 use Rattle.pq_tree.specs.Texts.{text_in}
 use Rattle.pq_fields.specs.declared.field.Field.{Field}
-use Rattle.pq_fields.specs.declared.field.Field.TheVariants.{Switch, Port, EthType, IpProto, EthSrc, EthDst, Ipv4Src, Ipv4Dst, TcpSrc, TcpDst, UdpSrc, UdpDst, Ipv6Src, Ipv6Dst}
+use Rattle.pq_fields.specs.declared.field.Field.TheVariants.{Switch, Port, EthType, IpProto, EthSrc, EthDst, Ipv4Src, Ipv4Dst, TcpSrc}
+use Rattle.pq_fields.specs.declared.field.Field.TheVariants.{TcpDst, UdpSrc, UdpDst, Ipv6Src, Ipv6Dst}
 use Rattle.pq_fields.specs.Packet.{width_of, is_wide}
 use Rattle.pq_fields.specs.declared.pred.Pred.{Pred}
 use Rattle.pq_fields.specs.Pred.{PredTop, Equals, Leads, LeadsWide, PredTree, pred_tree, leaf, leading, is_prefixed}

@@ -1,5 +1,6 @@
 -- Numbers in ascending order, each once: which they are, and how many.
-use Rattle.std.proofs.Common.{◌≡◌, ℕ, ◌+◌, ◌<◌, ◌≤◌, ◌==◌, Bool, true, false, ◌||◌, if◌then◌else◌, List, [], ◌∷◌, length, drop, get_or, ◌-◌, Ordering, Less, Equal, Greater, nat_cmp, nat_eq, refl, sym, ap, ◌∙◌, arith}
+use Rattle.std.proofs.Common.{◌≡◌, ℕ, ◌+◌, ◌<◌, ◌≤◌, ◌==◌, Bool, true, false, ◌||◌, if◌then◌else◌, List, [], ◌∷◌, length, drop, get_or, ◌-◌}
+use Rattle.std.proofs.Common.{Ordering, Less, Equal, Greater, nat_cmp, nat_eq, refl, sym, ap, ◌∙◌, arith}
 use Rattle.std.specs.BTreeSet.{insert_key}
 use Rattle.std.specs.Cmp.{ranks}
 use Rattle.std.specs.List.{list_any, AllByRecursion, IsDistinct}
@@ -30,7 +31,8 @@ has_put : (ks : List ℕ) (n m : ℕ) → has (insert_key nat_cmp ks n) m ≡ ((
 has_put [] n m = refl
 has_put (k ∷ ks) n m = by (nat_cmp n k) (ranks n k) (has_put ks n m)
   where
-    by : (r : Ordering) → MatchOrdering r (n < k) (n ≡ k) (k < n) → has (insert_key nat_cmp ks n) m ≡ ((n == m) || has ks m) → has (match_ordering r (n ∷ k ∷ ks) (k ∷ ks) (k ∷ insert_key nat_cmp ks n)) m ≡ ((n == m) || has (k ∷ ks) m)
+    by : (r : Ordering) → MatchOrdering r (n < k) (n ≡ k) (k < n) → has (insert_key nat_cmp ks n) m ≡ ((n == m) || has ks m)
+        → has (match_ordering r (n ∷ k ∷ ks) (k ∷ ks) (k ∷ insert_key nat_cmp ks n)) m ≡ ((n == m) || has (k ∷ ks) m)
     by Less below later = refl
     by Equal same later = rw same (again (k == m) (has ks m))
     by Greater above later = rw later (turned (k == m) (n == m) (has ks m))
@@ -44,7 +46,8 @@ put_behind : (x n : ℕ) (ks : List ℕ) → Ascends (x ∷ ks) → x < n → As
 put_behind x n [] up lt = (lt, tt)
 put_behind x n (k ∷ ks) up lt = by (nat_cmp n k) (ranks n k) (put_behind k n ks up.1)
   where
-    by : (r : Ordering) → MatchOrdering r (n < k) (n ≡ k) (k < n) → (k < n → Ascends (k ∷ insert_key nat_cmp ks n)) → Ascends (x ∷ match_ordering r (n ∷ k ∷ ks) (k ∷ ks) (k ∷ insert_key nat_cmp ks n))
+    by : (r : Ordering) → MatchOrdering r (n < k) (n ≡ k) (k < n) → (k < n → Ascends (k ∷ insert_key nat_cmp ks n))
+        → Ascends (x ∷ match_ordering r (n ∷ k ∷ ks) (k ∷ ks) (k ∷ insert_key nat_cmp ks n))
     by Less below later = (lt, (below, up.1))
     by Equal same later = up
     by Greater above later = (up.0, later above)
@@ -83,7 +86,9 @@ length_put : (ks : List ℕ) (n : ℕ) → Ascends ks → length (insert_key nat
 length_put [] n up = refl
 length_put (k ∷ ks) n up = by (nat_cmp n k) (ranks n k) (length_put ks n)
   where
-    by : (r : Ordering) → MatchOrdering r (n < k) (n ≡ k) (k < n) → (Ascends ks → length (insert_key nat_cmp ks n) ≡ one_more (has ks n) (length ks)) → length (match_ordering r (n ∷ k ∷ ks) (k ∷ ks) (k ∷ insert_key nat_cmp ks n)) ≡ one_more (has (k ∷ ks) n) (length (k ∷ ks))
+    by : (r : Ordering) → MatchOrdering r (n < k) (n ≡ k) (k < n)
+        → (Ascends ks → length (insert_key nat_cmp ks n) ≡ one_more (has ks n) (length ks))
+        → length (match_ordering r (n ∷ k ∷ ks) (k ∷ ks) (k ∷ insert_key nat_cmp ks n)) ≡ one_more (has (k ∷ ks) n) (length (k ∷ ks))
     by Less below later = rw (none_below ks k n up below) (omega arith)
     by Equal same later = let here : (k == n) ≡ true = grind (arith, nat_tests, same) in rw here refl
     by Greater above later =
@@ -107,7 +112,8 @@ pub length_within : (ns : List ℕ) → length (ascending ns) ≤ length ns
 length_within [] = omega arith
 length_within (n ∷ ns) = by (has ns n) (length_ascending n ns) (length_within ns)
   where
-    by : (b : Bool) → length (ascending (n ∷ ns)) ≡ one_more b (length (ascending ns)) → length (ascending ns) ≤ length ns → length (ascending (n ∷ ns)) ≤ length (n ∷ ns)
+    by : (b : Bool) → length (ascending (n ∷ ns)) ≡ one_more b (length (ascending ns)) → length (ascending ns) ≤ length ns
+        → length (ascending (n ∷ ns)) ≤ length (n ∷ ns)
     by true e later = omega (arith, e, later)
     by false e later = omega (arith, e, later)
 
@@ -129,7 +135,9 @@ none_same n (m ∷ ns) differ =
 -- all count where they differ
 pub length_distinct : (ns : List ℕ) → IsDistinct nat_eq ns → length (ascending ns) ≡ length ns
 length_distinct [] differ = refl
-length_distinct (n ∷ ns) differ = length_ascending n ns ∙ (rw (none_same n ns (IsDistinct-head nat_eq n ns differ)) (ap (λ k. k + 1) (length_distinct ns (IsDistinct-tail nat_eq n ns differ)) ∙ omega arith))
+length_distinct (n ∷ ns) differ = length_ascending n ns
+    ∙ (rw (none_same n ns (IsDistinct-head nat_eq n ns differ)) (ap (λ k. k + 1) (length_distinct ns (IsDistinct-tail nat_eq n ns differ))
+    ∙ omega arith))
 
 -- to put numbers into the empty set gives them in ascending order
 pub put_all_ascends : (ns : List ℕ) → put_last_first ns [] ≡ ascending ns
@@ -137,8 +145,10 @@ put_all_ascends [] = refl
 put_all_ascends (n ∷ ns) = ap (λ ks. insert_key nat_cmp ks n) (put_all_ascends ns)
 
 -- one more number is put, of those before the last ones
-pub put_more : (ns : List ℕ) (left : ℕ) (old ks new : List ℕ) → 0 < left → left ≤ length ns → ks ≡ put_last_first (drop left ns) old → new ≡ insert_key nat_cmp ks (get_or ns (left - 1) 0) → new ≡ put_last_first (drop (left - 1) ns) old
+pub put_more : (ns : List ℕ) (left : ℕ) (old ks new : List ℕ) → 0 < left → left ≤ length ns → ks ≡ put_last_first (drop left ns) old
+    → new ≡ insert_key nat_cmp ks (get_or ns (left - 1) 0) → new ≡ put_last_first (drop (left - 1) ns) old
 put_more ns left old ks new some within is put =
     let shown : drop (left - 1) ns ≡ get_or ns (left - 1) 0 ∷ drop (left - 1 + 1) ns = drop_more ns (left - 1) 0 (omega (arith, some, within)) in
     let same : left - 1 + 1 ≡ left = omega (arith, some) in
-    put ∙ (ap (λ k. insert_key nat_cmp k (get_or ns (left - 1) 0)) is ∙ sym (ap (λ k. put_last_first k old) (shown ∙ ap (λ j. get_or ns (left - 1) 0 ∷ drop j ns) same)))
+    put ∙ (ap (λ k. insert_key nat_cmp k (get_or ns (left - 1) 0)) is
+    ∙ sym (ap (λ k. put_last_first k old) (shown ∙ ap (λ j. get_or ns (left - 1) 0 ∷ drop j ns) same)))

@@ -1,5 +1,7 @@
 -- Counts of labels and of values, group by group, are those of all lists.
-use Rattle.std.proofs.Common.{◌≡◌, ℕ, zero, suc, ◌+◌, ◌*◌, ◌<◌, ◌≤◌, Ordering, Less, Equal, Greater, nat_cmp, ◌==◌, Bool, true, false, if◌then◌else◌, List, [], ◌∷◌, ◌++◌, map, length, Option, Some, None, min, refl, sym, ap, ◌∙◌, arith, mul-suc, mul_comm, mul_assoc, append_assoc, append-nil}
+use Rattle.std.proofs.Common.{◌≡◌, ℕ, zero, suc, ◌+◌, ◌*◌, ◌<◌, ◌≤◌, Ordering, Less, Equal, Greater, nat_cmp, ◌==◌, Bool, true, false}
+use Rattle.std.proofs.Common.{if◌then◌else◌, List, [], ◌∷◌, ◌++◌, map, length, Option, Some, None, min, refl, sym, ap, ◌∙◌, arith, mul-suc}
+use Rattle.std.proofs.Common.{mul_comm, mul_assoc, append_assoc, append-nil}
 use Rattle.std.specs.Cmp.{ranks}
 use Rattle.std.specs.Ordering.{MatchOrdering}
 use Rattle.std.proofs.lemmas.List.Sums.{sum_by-cons}
@@ -23,8 +25,10 @@ groups_below step none a = refl
 groups_below step (put top below rest) a =
     let own = on_groups step (top_groups top) a in
     let inner : on_queries step below own ≡ on_groups step (groups_of below) own = groups_below step below own in
-    let outer : on_queries step rest (on_queries step below own) ≡ on_groups step (groups_of rest) (on_queries step below own) = groups_below step rest (on_queries step below own) in
-    outer ∙ (ap (on_groups step (groups_of rest)) inner ∙ sym (groups_append step (top_groups top) (groups_of below ++ groups_of rest) a ∙ groups_append step (groups_of below) (groups_of rest) own))
+    let outer : on_queries step rest (on_queries step below own) ≡ on_groups step (groups_of rest) (on_queries step below own) =
+    groups_below step rest (on_queries step below own) in
+    outer ∙ (ap (on_groups step (groups_of rest)) inner ∙ sym (groups_append step (top_groups top) (groups_of below ++ groups_of rest) a
+    ∙ groups_append step (groups_of below) (groups_of rest) own))
 
 -- Caps.
 
@@ -55,11 +59,13 @@ lists_over T gs = map (λ g. ascending (group_values T g)) gs
 values_counted : (T : Topology) (g : Group) → capped (value_count (sizes_of T) g) ≡ capped (length (ascending (group_values T g)))
 values_counted T g = by g.values
   where
-    listed : (b : Bool) → (if b then length (ascending (datapath_numbers T)) else length (ascending (port_numbers T))) ≡ length (ascending (if b then datapath_numbers T else port_numbers T))
+    listed : (b : Bool) → (if b then length (ascending (datapath_numbers T)) else length (ascending (port_numbers T)))
+        ≡ length (ascending (if b then datapath_numbers T else port_numbers T))
     listed true = refl
     listed false = refl
 
-    by : (vs : Option (List ℕ)) → capped (value_count (sizes_of T) (record { field = g.field; values = vs })) ≡ capped (length (ascending (group_values T (record { field = g.field; values = vs }))))
+    by : (vs : Option (List ℕ)) → capped (value_count (sizes_of T) (record { field = g.field; values = vs }))
+        ≡ capped (length (ascending (group_values T (record { field = g.field; values = vs }))))
     by (Some ns) = omega arith
     by None = ap capped (listed (rank g.field == 0))
 
@@ -90,18 +96,25 @@ sum_is T (q ∷ qs) n =
 values_over : (T : Topology) (g : Group) → values_of (ascending (datapath_numbers T)) (ascending (port_numbers T)) g ≡ ascending (group_values T g)
 values_over T g = by g.values
   where
-    listed : (b : Bool) → (if b then ascending (datapath_numbers T) else ascending (port_numbers T)) ≡ ascending (if b then datapath_numbers T else port_numbers T)
+    listed : (b : Bool) → (if b then ascending (datapath_numbers T) else ascending (port_numbers T))
+        ≡ ascending (if b then datapath_numbers T else port_numbers T)
     listed true = refl
     listed false = refl
 
-    by : (vs : Option (List ℕ)) → values_of (ascending (datapath_numbers T)) (ascending (port_numbers T)) (record { field = g.field; values = vs }) ≡ ascending (group_values T (record { field = g.field; values = vs }))
+    by : (vs : Option (List ℕ))
+        → values_of (ascending (datapath_numbers T)) (ascending (port_numbers T)) (record { field = g.field; values = vs })
+        ≡ ascending (group_values T (record { field = g.field; values = vs }))
     by (Some ns) = refl
     by None = listed (rank g.field == 0)
 
-lists_made : (T : Topology) (gs : List Group) (made : List (List ℕ)) → on_groups (with_values (ascending (datapath_numbers T)) (ascending (port_numbers T))) gs made ≡ made ++ lists_over T gs
+lists_made : (T : Topology) (gs : List Group) (made : List (List ℕ))
+    → on_groups (with_values (ascending (datapath_numbers T)) (ascending (port_numbers T))) gs made ≡ made ++ lists_over T gs
 lists_made T [] made = sym (append-nil made)
-lists_made T (g ∷ gs) made = rw (values_over T g) (lists_made T gs (made ++ ascending (group_values T g) ∷ []) ∙ append_assoc made (ascending (group_values T g) ∷ []) (lists_over T gs))
+lists_made T (g ∷ gs) made = rw (values_over T g) (lists_made T gs (made ++ ascending (group_values T g) ∷ [])
+    ∙ append_assoc made (ascending (group_values T g) ∷ []) (lists_over T gs))
 
 -- a query has these labels
-pub labels_made : (T : Topology) (q : QueryTree) → one_from_each (on_query (with_values (ascending (datapath_numbers T)) (ascending (port_numbers T))) q []) ≡ labels T q
-labels_made T q = ap one_from_each (groups_below (with_values (ascending (datapath_numbers T)) (ascending (port_numbers T))) (queries (q ∷ [])) [] ∙ lists_made T (groups_of (queries (q ∷ []))) [])
+pub labels_made : (T : Topology) (q : QueryTree)
+    → one_from_each (on_query (with_values (ascending (datapath_numbers T)) (ascending (port_numbers T))) q []) ≡ labels T q
+labels_made T q = ap one_from_each (groups_below (with_values (ascending (datapath_numbers T)) (ascending (port_numbers T)))
+    (queries (q ∷ [])) [] ∙ lists_made T (groups_of (queries (q ∷ []))) [])

@@ -10,7 +10,10 @@ use Rattle.pq_query.specs.Labels.{labels}
 
 -- switches 3 and 7, with ports 1 and 2 and ports 2 and 5
 abbrev network : Topology
-network = record { switches = record { name = []; datapath = 3; ports = 1 ∷ 2 ∷ []; limit = 2000 } ∷ record { name = []; datapath = 7; ports = 2 ∷ 5 ∷ []; limit = 2000 } ∷ []; links = [] }
+network = record {
+  switches = record { name = []; datapath = 3; ports = 1 ∷ 2 ∷ []; limit = 2000 } ∷ record { name = []; datapath = 7; ports = 2 ∷ 5 ∷ []; limit = 2000 } ∷ [];
+  links = [];
+}
 
 abbrev any_packet : PredTree
 any_packet = plain Always
@@ -33,9 +36,13 @@ ports_grouped : labels network (leaf (Enters any_packet (by_port ∷ []))) ≡ (
 ports_grouped = refl
 
 -- stated values ascend, and the first of the values decides first
-two_grouped : labels network (leaf (Passes any_packet (by_switch ∷ []) any_packet (by_protocol ∷ []))) ≡ (3 ∷ 6 ∷ []) ∷ (3 ∷ 17 ∷ []) ∷ (7 ∷ 6 ∷ []) ∷ (7 ∷ 17 ∷ []) ∷ []
+two_grouped : labels network (leaf (Passes any_packet (by_switch ∷ []) any_packet (by_protocol ∷ []))) ≡ (3 ∷ 6 ∷ []) ∷ (3 ∷ 17 ∷ []) ∷
+    (7 ∷ 6 ∷ []) ∷ (7 ∷ 17 ∷ []) ∷ []
 two_grouped = refl
 
 -- the grouped fields of operands stand in text order
-operands_grouped : labels network (record { top = InTurn; below = queries (leaf (Enters any_packet (by_protocol ∷ [])) ∷ leaf (Enters any_packet (by_switch ∷ [])) ∷ []) }) ≡ (6 ∷ 3 ∷ []) ∷ (6 ∷ 7 ∷ []) ∷ (17 ∷ 3 ∷ []) ∷ (17 ∷ 7 ∷ []) ∷ []
+operands_grouped : labels network (record {
+  top = InTurn;
+  below = queries (leaf (Enters any_packet (by_protocol ∷ [])) ∷ leaf (Enters any_packet (by_switch ∷ [])) ∷ []);
+}) ≡ (6 ∷ 3 ∷ []) ∷ (6 ∷ 7 ∷ []) ∷ (17 ∷ 3 ∷ []) ∷ (17 ∷ 7 ∷ []) ∷ []
 operands_grouped = refl

@@ -60,7 +60,8 @@ pub data Joint : Type 0 where
 abbrev pub Holds : QueryTop → (Joint → List ℕ → Word → Type 0) → List ℕ → Word → Type 0
 Holds (Enters p gs) Operands label w = (x : Numbers) × (w ≡ In x ∷ []) × Fulfils p gs label x
 Holds (Leaves p gs) Operands label w = (x : Numbers) × (y : Numbers) × IsHop w x y × Fulfils p gs label y × (y.port ≢ 0)
-Holds (Passes p gs q hs) Operands label w = (x : Numbers) × (y : Numbers) × IsHop w x y × Fulfils p gs (take (length gs) label) x × Fulfils q hs (drop (length gs) label) y × (y.port ≢ 0)
+Holds (Passes p gs q hs) Operands label w = (x : Numbers) × (y : Numbers) × IsHop w x y × Fulfils p gs (take (length gs) label) x
+    × Fulfils q hs (drop (length gs) label) y × (y.port ≢ 0)
 Holds (Ends p) Operands label w = (x : Numbers) × (y : Numbers) × IsHop w x y × (holds p x ≡ true) × (y.port ≡ 0)
 Holds InTurn Operands label w = Operands Joined label w
 Holds Either Operands label w = Operands AnyOne label w
@@ -78,9 +79,12 @@ HoldTogether none AnyOne label w = ⊥
 HoldTogether none All label w = Unit {0}
 HoldTogether none Joined label w = w ≡ []
 HoldTogether none First label w = ⊥
-HoldTogether (put top below rest) AnyOne label w = Holds top (HoldTogether below) (take (share top below) label) w ⊎ HoldTogether rest AnyOne (drop (share top below) label) w
-HoldTogether (put top below rest) All label w = Holds top (HoldTogether below) (take (share top below) label) w × HoldTogether rest All (drop (share top below) label) w
-HoldTogether (put top below rest) Joined label w = (u : Word) × (v : Word) × Joins u v w × Holds top (HoldTogether below) (take (share top below) label) u × HoldTogether rest Joined (drop (share top below) label) v
+HoldTogether (put top below rest) AnyOne label w =
+    Holds top (HoldTogether below) (take (share top below) label) w ⊎ HoldTogether rest AnyOne (drop (share top below) label) w
+HoldTogether (put top below rest) All label w = Holds top (HoldTogether below) (take (share top below) label) w
+    × HoldTogether rest All (drop (share top below) label) w
+HoldTogether (put top below rest) Joined label w = (u : Word) × (v : Word) × Joins u v w × Holds top (HoldTogether below)
+    (take (share top below) label) u × HoldTogether rest Joined (drop (share top below) label) v
 HoldTogether (put top below rest) First label w = Holds top (HoldTogether below) (take (share top below) label) w
 
 -- whether the query holds the word under the label

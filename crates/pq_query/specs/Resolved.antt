@@ -2,7 +2,8 @@
 use Rattle.std.specs.Prelude.{ℕ, not, ◌==◌, ◌&&◌, if◌then◌else◌, Bool, true, false, List, [], ◌∷◌, ◌++◌, nat_le, Some, None, Ok}
 use Rattle.std.specs.List.{list_any}
 use Rattle.pq_term.specs.declared.token.Token.{Token}
-use Rattle.pq_grammar.specs.declared.class.Class.TheVariants.{InAtom, OutAtom, InOutAtom, EndAtom, InGroup, OutGroup, InOutGroup, Caret, Bar, Ampersand, Tilde, Star}
+use Rattle.pq_grammar.specs.declared.class.Class.TheVariants.{InAtom, OutAtom, InOutAtom, EndAtom, InGroup, OutGroup, InOutGroup, Caret}
+use Rattle.pq_grammar.specs.declared.class.Class.TheVariants.{Bar, Ampersand, Tilde, Star}
 use Rattle.pq_grammar.specs.Tables.{is_class}
 use Rattle.pq_tree.specs.Trees.{Forest, nothing, grown, Tree}
 use Rattle.pq_tree.specs.Texts.{text_in, class_in_text}

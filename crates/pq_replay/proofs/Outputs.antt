@@ -12,7 +12,8 @@ same_names : (n : Network) (events : List Event) → (after_all n events).querie
 same_names n [] = refl
 same_names n (e ∷ es) = same_names (after n e) es
 
-pub output_of : (i : Install) (events : List Event) (n : Network) (text : List ℕ) → n ≡ after_all (opened i) events → text ≡ output n.queries n.state → text ≡ output i.queries (replayed i events)
+pub output_of : (i : Install) (events : List Event) (n : Network) (text : List ℕ) → n ≡ after_all (opened i) events
+    → text ≡ output n.queries n.state → text ≡ output i.queries (replayed i events)
 output_of i events n text is written =
     let names = ap (λ (m : Network). m.queries) is ∙ same_names (opened i) events in
     let state = ap (λ (m : Network). m.state) is ∙ opened_runs i events in

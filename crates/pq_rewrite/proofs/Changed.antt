@@ -35,7 +35,8 @@ pub equal_within : (f : Field) (n : ℕ) (ns : Field → List ℕ) → change_ne
 equal_within f n ns needs = subst (IsPredWithin ns) (equal_is f n) (needs, tt, tt)
 
 -- its diagram says so
-pub equal_condition : (f : Field) (n : ℕ) (cs : List (Tree Bool)) (k : ℕ) → HoldsAt (equal_tree f n) cs k → HasAt (IsCondition (has_number f n) (change_needs f n)) cs k
+pub equal_condition : (f : Field) (n : ℕ) (cs : List (Tree Bool)) (k : ℕ) → HoldsAt (equal_tree f n) cs k
+    → HasAt (IsCondition (has_number f n) (change_needs f n)) cs k
 equal_condition f n cs k =
     predicate_condition (has_number f n) (change_needs f n) (equal_tree f n) cs k
     (λ x. ap (λ p. holds p x) (sym (equal_is f n))) (equal_within f n)
@@ -64,7 +65,8 @@ module _ {L : Type 0} where
       room_for (λ ns within. (within.0.1, subst (Within ns) is (choice.tests ns within.0 within.2 within.1), within.2)) (fits first.0 other first.1 was)
 
   -- where packets have the field and not this number the first tree is chosen, else the second
-  choices_joined : (f : Field) (n : ℕ) (y o m r : Tree L) → IsChoiceBy (has_number f n) (change_needs f n) o y m → IsChoiceBy (has_field f) (field_needs f) m o r
+  choices_joined : (f : Field) (n : ℕ) (y o m r : Tree L) → IsChoiceBy (has_number f n) (change_needs f n) o y m
+      → IsChoiceBy (has_field f) (field_needs f) m o r
       → IsChoiceBy (differs f n) (change_needs f n) y o r
   choices_joined f n y o m r inner outer = record {
     gives = λ x fit.
@@ -75,7 +77,8 @@ module _ {L : Type 0} where
 
   -- and so at their places
   pub chooses_changed : (f : Field) (n : ℕ) (old mid new : List (Tree L)) (i j k id : ℕ) → Keeps old mid
-      → ChoosesByAt (has_number f n) (change_needs f n) old j i mid k → ChoosesByAt (has_field f) (field_needs f) mid k j new id → ChoosesByAt (differs f n) (change_needs f n) old i j new id
+      → ChoosesByAt (has_number f n) (change_needs f n) old j i mid k → ChoosesByAt (has_field f) (field_needs f) mid k j new id
+      → ChoosesByAt (differs f n) (change_needs f n) old i j new id
   chooses_changed f n old mid new i j k id keeps first second y o y_is o_is =
       let inner = first o y o_is y_is in
       let outer = second inner.0 o inner.1 (keeps j o o_is) in

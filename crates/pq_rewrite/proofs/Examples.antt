@@ -35,7 +35,8 @@ leaf_after w ts k l is t t_is =
     record { numbers = ns; few = examples_few; within = (subst (Within ns) same (tip_within ns l), λ f n written. needs_known f) }
 
 -- a diagram that writes a number of examples is an example
-pub writing_example : (f : Field) (n : ℕ) (ts : List (Tree (List Written))) (id : ℕ) → list_any (λ m. n == m) example_numbers ≡ true → HasAt (IsWriting f n) ts id → IsExampleRewritingAt ts id
+pub writing_example : (f : Field) (n : ℕ) (ts : List (Tree (List Written))) (id : ℕ) → list_any (λ m. n == m) example_numbers ≡ true
+    → HasAt (IsWriting f n) ts id → IsExampleRewritingAt ts id
 writing_example f n ts id known (t, is, writing) = (
   t,
   is,
@@ -52,7 +53,8 @@ writing_example f n ts id known (t, is, writing) = (
     writes g m written = (λ whole. subst (λ k. IsAmong k example_numbers) (sym (writing.writes g m written).1) among, needs_known g)
 
 -- so is one that keeps packets by an example
-pub keeping_example : (cs : List (Tree Bool)) (k : ℕ) (ts : List (Tree (List Written))) (id : ℕ) → IsExampleAt cs k → KeepsWhereAt cs k ts id → IsExampleRewritingAt ts id
+pub keeping_example : (cs : List (Tree Bool)) (k : ℕ) (ts : List (Tree (List Written))) (id : ℕ) → IsExampleAt cs k
+    → KeepsWhereAt cs k ts id → IsExampleRewritingAt ts id
 keeping_example cs k ts id (c, c_is, within) keeps = by (keeps c c_is)
   where
     by : HasAt (IsKeeping c) ts id → IsExampleRewritingAt ts id
@@ -81,7 +83,8 @@ module _ (ts : List (Tree (List Written))) (i j : ℕ) (first : IsExampleRewriti
       record { numbers = λ f. example_numbers; few = examples_few; within = (left.covers, right.covers) }
 
   -- what one of them writes is covered
-  either_covered : (f : Field) (n : ℕ) → IsToWrite f n first.0 ⊎ IsToWrite f n second.0 → IsCounted (λ g. example_numbers) f n × NeedsAmong (λ g. example_numbers) f
+  either_covered : (f : Field) (n : ℕ) → IsToWrite f n first.0 ⊎ IsToWrite f n second.0
+      → IsCounted (λ g. example_numbers) f n × NeedsAmong (λ g. example_numbers) f
   either_covered f n (inl left) = first.2.covers.writes f n left
   either_covered f n (inr right) = second.2.covers.writes f n right
 

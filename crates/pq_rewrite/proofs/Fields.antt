@@ -2,7 +2,8 @@
 use Rattle.std.proofs.Common.{ℕ, ◌≡◌, ◌∙◌, true, Option, Some, ◌==◌, if◌then◌else◌, refl, sym, ap}
 use Rattle.std.proofs.lemmas.Bool.{true≢false}
 use Rattle.pq_fields.specs.declared.field.Field.{Field}
-use Rattle.pq_fields.specs.declared.field.Field.TheVariants.{Switch, Port, EthType, IpProto, EthSrc, EthDst, Ipv4Src, Ipv4Dst, TcpSrc, TcpDst, UdpSrc, UdpDst, Ipv6Src, Ipv6Dst}
+use Rattle.pq_fields.specs.declared.field.Field.TheVariants.{Switch, Port, EthType, IpProto, EthSrc, EthDst, Ipv4Src, Ipv4Dst, TcpSrc}
+use Rattle.pq_fields.specs.declared.field.Field.TheVariants.{TcpDst, UdpSrc, UdpDst, Ipv6Src, Ipv6Dst}
 use Rattle.pq_fields.specs.Packet.{rank}
 use Rattle.pq_fields.specs.Writes.{Written, is_writable, with_write, written_in}
 
@@ -90,5 +91,6 @@ at_field f Ipv6Src n w writable = absurd (true≢false (sym writable))
 at_field f Ipv6Dst n w writable = absurd (true≢false (sym writable))
 
 -- a number for one field stands there, and elsewhere what was to be written
-pub written_with : (f g : Field) (n : ℕ) (w : Written) → is_writable g ≡ true → written_in g (with_write f n w) ≡ (if rank f == rank g then Some n else written_in g w)
+pub written_with : (f g : Field) (n : ℕ) (w : Written) → is_writable g ≡ true
+    → written_in g (with_write f n w) ≡ (if rank f == rank g then Some n else written_in g w)
 written_with f g n w writable = ap (written_in g) (with_write_is f n w) ∙ at_field f g n w writable

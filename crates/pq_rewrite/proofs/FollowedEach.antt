@@ -36,7 +36,8 @@ pub one_before : (w : Written) (ts : List (Tree (List Written))) (k : ℕ) → F
 one_before w ts k fits u u_is = room_for (λ ns within. (All-head (CoversWrites ns) w [] within.0, within.1)) (fits u u_is)
 
 -- and what follows it follows each
-pub one_followed : (w : Written) (old new : List (Tree (List Written))) (k id : ℕ) → Keeps old new → IsFollowedAt w new k id → FollowsEachAt (w ∷ []) old k new id
+pub one_followed : (w : Written) (old new : List (Tree (List Written))) (k id : ℕ) → Keeps old new → IsFollowedAt w new k id
+    → FollowsEachAt (w ∷ []) old k new id
 one_followed w old new k id keeps made u u_is =
     let followed = followed_there w new k id u made.followed made (keeps k u u_is) made.followed_is in (
       made.followed,
@@ -55,9 +56,11 @@ module _ (front back : List Written) where
   halves_followed u t s r left right merge = record {
     giving = λ x fit ready.
         let parts = all_halves (λ w. AreReady x w (value u (on w x))) front back ready in
-        given_same x (λ y. Any (λ w. Gives u (on w x) y) front ⊎ Any (λ w. Gives u (on w x) y) back) (λ y. Any (λ w. Gives u (on w x) y) (front ++ back)) (value r x)
+        given_same x (λ y. Any (λ w. Gives u (on w x) y) front ⊎ Any (λ w. Gives u (on w x) y) back)
+        (λ y. Any (λ w. Gives u (on w x) y) (front ++ back)) (value r x)
         (λ y. any_halves (λ w. Gives u (on w x) y) front back)
-        (merge_given t s r merge (λ y. Any (λ w. Gives u (on w x) y) front) (λ y. Any (λ w. Gives u (on w x) y) back) x (left.giving x fit parts.0) (right.giving x fit parts.1));
+        (merge_given t s r merge (λ y. Any (λ w. Gives u (on w x) y) front) (λ y. Any (λ w. Gives u (on w x) y) back) x
+        (left.giving x fit parts.0) (right.giving x fit parts.1));
     tests = λ ns first second.
         let parts = all_halves (CoversWrites ns) front back first in
         merge_within t s r merge ns (left.tests ns parts.0 second) (right.tests ns parts.1 second);
@@ -78,7 +81,8 @@ module _ (front back : List Written) where
     pub back_before : FitAsFollowedEachAt (front ++ back) old k → FitAsFollowedEachAt back mid k
     back_before fits u u_is = (halves_fit u (fits u (tree_before old mid k u keeps inside u_is))).1
 
-  module _ (old mid : List (Tree (List Written))) (k i j : ℕ) (inside : k < length old) (left : FollowsEachAt front old k mid i) (right : FollowsEachAt back old k mid j) where
+  module _ (old mid : List (Tree (List Written))) (k i j : ℕ) (inside : k < length old) (left : FollowsEachAt front old k mid i)
+      (right : FollowsEachAt back old k mid j) where
     -- the trees of both halves stand within
     pub halves_within : (i < length mid) × (j < length mid)
     halves_within =
@@ -91,7 +95,8 @@ module _ (front back : List Written) where
         let u = at_place old k inside in
         let first = has_there (IsFollowedEach front u.0) mid i t (left u.0 u.1) t_is in
         let second = has_there (IsFollowedEach back u.0) mid j s (right u.0 u.1) s_is in
-        room_for (λ ns within. let parts = all_halves (CoversWrites ns) front back within.0 in (first.tests ns parts.0 within.1, second.tests ns parts.1 within.1)) (fits u.0 u.1)
+        room_for (λ ns within. let parts = all_halves (CoversWrites ns) front back within.0 in
+        (first.tests ns parts.0 within.1, second.tests ns parts.1 within.1)) (fits u.0 u.1)
 
     -- and what is merged of them is the tree of all
     pub each_merged : (new : List (Tree (List Written))) (id : ℕ) → MergesAt mid i j new id → FollowsEachAt (front ++ back) old k new id
@@ -102,9 +107,11 @@ module _ (front back : List Written) where
         (made.0, made.1, halves_followed u first.0 second.0 made.0 first.2 second.2 made.2)
 
 -- what follows each stays
-pub each_still : (ws : List Written) (old mid new : List (Tree (List Written))) (k id : ℕ) → Keeps mid new → FollowsEachAt ws old k mid id → FollowsEachAt ws old k new id
+pub each_still : (ws : List Written) (old mid new : List (Tree (List Written))) (k id : ℕ) → Keeps mid new → FollowsEachAt ws old k mid id
+    → FollowsEachAt ws old k new id
 each_still ws old mid new k id keeps each u u_is = has_still (IsFollowedEach ws u) mid new id keeps (each u u_is)
 
 -- what follows each in a store that has grown follows each
-pub each_before : (ws : List Written) (old mid new : List (Tree (List Written))) (k id : ℕ) → Keeps old mid → FollowsEachAt ws mid k new id → FollowsEachAt ws old k new id
+pub each_before : (ws : List Written) (old mid new : List (Tree (List Written))) (k id : ℕ) → Keeps old mid → FollowsEachAt ws mid k new id
+    → FollowsEachAt ws old k new id
 each_before ws old mid new k id keeps each u u_is = each u (keeps k u u_is)

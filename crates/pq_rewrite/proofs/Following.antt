@@ -39,28 +39,33 @@ pub covers_no : (ns : Field → List ℕ) (s : Test) (y n : Tree (List Written))
 covers_no ns s y n covers = record { tests = λ f v tested. covers.tests f v (inr (inr tested)); leaves = λ l part. covers.leaves l (inr (inr part)) }
 
 -- with the numbers of writes that come first, it covers what a choice by the root needs
-pub root_needs : (ns : Field → List ℕ) (w : Written) (s : Test) (y n : Tree (List Written)) → CoversWrites ns w → CoversLeaves ns (Fork s y n) → test_needs w s ns
+pub root_needs : (ns : Field → List ℕ) (w : Written) (s : Test) (y n : Tree (List Written)) → CoversWrites ns w
+    → CoversLeaves ns (Fork s y n) → test_needs w s ns
 root_needs ns w s y n first covers = (test_within ns s y n covers.tests, λ m is. (first (field_of s) m is).1)
 
 -- what is given by one of two lists where one of two is to be given, and is ready
 pub chosen_given : (x : Numbers) (R : List Written → Type 0) (F : List Written → Numbers → Type 0) (b : Bool) (ws vs us others : List Written)
-    → (R ws → IsGiven x (F ws) us) → (R vs → IsGiven x (F vs) others) → R (if b then ws else vs) → IsGiven x (F (if b then ws else vs)) (if b then us else others)
+    → (R ws → IsGiven x (F ws) us) → (R vs → IsGiven x (F vs) others) → R (if b then ws else vs)
+    → IsGiven x (F (if b then ws else vs)) (if b then us else others)
 chosen_given x R F true ws vs us others left right = left
 chosen_given x R F false ws vs us others left right = right
 
 -- what follows writes on both sides of a fork follows them on the fork, by the root's test
-both_followed : (w : Written) (s : Test) (y n a b r : Tree (List Written)) → IsFollowed w y a → IsFollowed w n b → IsChoiceBy (passes_after w s) (test_needs w s) a b r
+both_followed : (w : Written) (s : Test) (y n a b r : Tree (List Written)) → IsFollowed w y a → IsFollowed w n b
+    → IsChoiceBy (passes_after w s) (test_needs w s) a b r
     → IsFollowed w (Fork s y n) r
 both_followed w s y n a b r left right choice = record {
   giving = λ x fit ready. subst (IsGiven x (Gives (Fork s y n) (on w x))) (sym (choice.gives x fit))
       (chosen_given x (AreReady x w) (IsWrittenBy (on w x)) (passes_after w s x) (value y (on w x)) (value n (on w x)) (value a x) (value b x)
       (left.giving x fit) (right.giving x fit) ready);
   tests = λ ns first covers.
-      choice.tests ns (root_needs ns w s y n first covers) (left.tests ns first (covers_yes ns s y n covers)) (right.tests ns first (covers_no ns s y n covers));
+      choice.tests ns (root_needs ns w s y n first covers) (left.tests ns first (covers_yes ns s y n covers))
+      (right.tests ns first (covers_no ns s y n covers));
 }
 
 -- what follows them on the one side that packets reach follows them on the fork
-side_followed : (w : Written) (s : Test) (y n r : Tree (List Written)) (answer : Bool) → ((x : Numbers) → passes_after w s x ≡ answer) → IsFollowed w (if answer then y else n) r
+side_followed : (w : Written) (s : Test) (y n r : Tree (List Written)) (answer : Bool) → ((x : Numbers) → passes_after w s x ≡ answer)
+    → IsFollowed w (if answer then y else n) r
     → IsFollowed w (Fork s y n) r
 side_followed w s y n r true answers followed = record {
   giving = λ x fit ready.
@@ -124,7 +129,8 @@ side_fits w ts k next side fits u u_is =
     let same : (if side.answer then y else n) ≡ u = cc in
     subst (FitAsFollowed w) same (either_side (FitAsFollowed w) side.answer y n (yes_fits w s y n whole) (no_fits w s y n whole))
 
-module _ (w : Written) (old mid : List (Tree (List Written))) (k i j : ℕ) (s : Test) (keeps : Keeps old mid) (shows : ShowsBranch old k s i j) (fits : FitAsFollowedAt w old k) where
+module _ (w : Written) (old mid : List (Tree (List Written))) (k i j : ℕ) (s : Test) (keeps : Keeps old mid)
+    (shows : ShowsBranch old k s i j) (fits : FitAsFollowedAt w old k) where
   -- and before both sides, in a store that has grown
   pub yes_side_fits : FitAsFollowedAt w mid i
   yes_side_fits u u_is =
@@ -143,7 +149,8 @@ module _ (w : Written) (old mid : List (Tree (List Written))) (k i j : ℕ) (s :
       subst (FitAsFollowed w) same (no_fits w s y n (fits (Fork s y n) shows.is))
 
 -- what follows writes at a place is what follows them on the tree there
-pub followed_there : (w : Written) (ts : List (Tree (List Written))) (k id : ℕ) (t r : Tree (List Written)) → IsFollowedAt w ts k id → slice_get ts k ≡ Some t → slice_get ts id ≡ Some r
+pub followed_there : (w : Written) (ts : List (Tree (List Written))) (k id : ℕ) (t r : Tree (List Written)) → IsFollowedAt w ts k id
+    → slice_get ts k ≡ Some t → slice_get ts id ≡ Some r
     → IsFollowed w t r
 followed_there w ts k id t r made t_is r_is =
     let tree_is = made.tree_is in
@@ -167,7 +174,8 @@ pub leaf_numbers : (ns : Field → List ℕ) (ws : List Written) → CoversLeave
 leaf_numbers ns ws covers = All-weaker (λ v. AllFit v × CoversWrites ns v) (CoversWrites ns) (λ v both. both.1) ws (covers.leaves ws refl)
 
 -- so these may come in turn
-pub leaf_fits : (w : Written) (ts : List (Tree (List Written))) (k : ℕ) (ws : List Written) → slice_get ts k ≡ Some (Tip ws) → FitAsFollowedAt w ts k → FitInTurn ws
+pub leaf_fits : (w : Written) (ts : List (Tree (List Written))) (k : ℕ) (ws : List Written) → slice_get ts k ≡ Some (Tip ws)
+    → FitAsFollowedAt w ts k → FitInTurn ws
 leaf_fits w ts k ws is fits =
     let fit = fits (Tip ws) is in
     let covers = fit.within.1 in (
@@ -176,7 +184,8 @@ leaf_fits w ts k ws is fits =
     )
 
 -- and in turn they follow
-pub leaf_followed : (w : Written) (old new : List (Tree (List Written))) (k id : ℕ) (ws : List Written) → Keeps old new → slice_get old k ≡ Some (Tip ws) → HasAt (IsInTurn w ws) new id
+pub leaf_followed : (w : Written) (old new : List (Tree (List Written))) (k id : ℕ) (ws : List Written) → Keeps old new
+    → slice_get old k ≡ Some (Tip ws) → HasAt (IsInTurn w ws) new id
     → IsFollowedAt w new k id
 leaf_followed w old new k id ws keeps is made =
     let turn = made.2 in
@@ -192,7 +201,8 @@ leaf_followed w old new k id ws keeps is made =
     }
 
 -- no writes leave an idle-free tree as it is
-pub itself_followed : (w : Written) (ts : List (Tree (List Written))) (k : ℕ) (u : Tree (List Written)) → w ≡ no_writes → slice_get ts k ≡ Some u → IsFollowedAt w ts k k
+pub itself_followed : (w : Written) (ts : List (Tree (List Written))) (k : ℕ) (u : Tree (List Written)) → w ≡ no_writes
+    → slice_get ts k ≡ Some u → IsFollowedAt w ts k k
 itself_followed w ts k u none is = record {
   tree = u;
   followed = u;
@@ -205,7 +215,8 @@ itself_followed w ts k u none is = record {
 }
 
 -- what follows on the side that is reached follows on the whole
-pub reached_followed : (w : Written) (old new : List (Tree (List Written))) (k next id : ℕ) → Keeps old new → IsSideReached w old k next → IsFollowedAt w new next id → IsFollowedAt w new k id
+pub reached_followed : (w : Written) (old new : List (Tree (List Written))) (k next id : ℕ) → Keeps old new → IsSideReached w old k next
+    → IsFollowedAt w new next id → IsFollowedAt w new k id
 reached_followed w old new k next id keeps side made =
     let y = side.yes_tree in
     let n = side.no_tree in
@@ -236,7 +247,8 @@ module _ (w : Written) (old mid : List (Tree (List Written))) (k i j a b : ℕ) 
       )) (fits (Fork s y n) shows.is)
 
   -- and their choice follows on the whole
-  pub chosen_followed : (new : List (Tree (List Written))) (id : ℕ) → Keeps mid new → ChoosesByAt (passes_after w s) (test_needs w s) mid a b new id → IsFollowedAt w new k id
+  pub chosen_followed : (new : List (Tree (List Written))) (id : ℕ) → Keeps mid new
+      → ChoosesByAt (passes_after w s) (test_needs w s) mid a b new id → IsFollowedAt w new k id
   chosen_followed new id grows chooses =
       let y = shows.yes_tree in
       let n = shows.no_tree in

@@ -65,7 +65,8 @@ one_of_two f n v w z x changes written same =
     one_writes (written_in f w) (written_in f z) (number_in f x) n change.1 (sym twice ∙ (sym (ap (number_in f) same) ∙ once))
 
 -- what is given of a packet that one of some writes gives is given of the packet written by one of them
-given_through : (u : Tree (List Written)) (ws : List Written) (x y : Numbers) → Any (λ w. Gives u (on w x) y) ws ↔ ((z : Numbers) × IsWrittenBy x ws z × Gives u z y)
+given_through : (u : Tree (List Written)) (ws : List Written) (x y : Numbers)
+    → Any (λ w. Gives u (on w x) y) ws ↔ ((z : Numbers) × IsWrittenBy x ws z × Gives u z y)
 given_through u ws x y = (into, back)
   where
     into : Any (λ w. Gives u (on w x) y) ws → (z : Numbers) × IsWrittenBy x ws z × Gives u z y
@@ -81,7 +82,8 @@ all_ready t u t_idle_free u_idle_free x fit k d below =
     record { first = (t_idle_free x fit).idle_free k d below; next = u_idle_free (on w x) (on_fits w x ((t_idle_free x fit).fit k d below) fit) }
 
 -- what is written in sequence is written by one of the two trees
-sequence_writes : (t u r : Tree (List Written)) → IsIdleFree t → IsIdleFree u → IsInSequence t u r → (f : Field) (n : ℕ) → IsToWrite f n r → IsToWrite f n t ⊎ IsToWrite f n u
+sequence_writes : (t u r : Tree (List Written)) → IsIdleFree t → IsIdleFree u → IsInSequence t u r → (f : Field) (n : ℕ) → IsToWrite f n r
+    → IsToWrite f n t ⊎ IsToWrite f n u
 sequence_writes t u r idle_free u_idle_free sequence f n (x, fit, (k, v, within, at, written)) = two ((given.gives (on v x)).0 (k, v, within, at, refl))
   where
     given : IsGiven x (λ y. Any (λ w. Gives u (on w x) y) (value t x)) (value r x)
@@ -99,7 +101,8 @@ sequence_writes t u r idle_free u_idle_free sequence f n (x, fit, (k, v, within,
 -- the tree in sequence has what is said of it
 is_sequence : (t u r : Tree (List Written)) → IsDiagram t → IsDiagram u → IsIdleFree t → IsIdleFree u → IsInSequence t u r → IsSequence t u r
 is_sequence t u r t_diagram u_diagram t_idle_free u_idle_free sequence = record {
-  giving = giving_as (λ x y. Any (λ w. Gives u (on w x) y) (value t x)) (λ x y. (z : Numbers) × Gives t x z × Gives u z y) r (λ x y fit. given_through u (value t x) x y)
+  giving = giving_as (λ x y. Any (λ w. Gives u (on w x) y) (value t x)) (λ x y. (z : Numbers) × Gives t x z × Gives u z y) r
+      (λ x y fit. given_through u (value t x) x y)
       (λ x fit. sequence.giving x fit (all_ready t u t_idle_free u_idle_free x fit));
   tests = λ ns first second. sequence.tests ns (covers_leaves t t_diagram t_idle_free ns first) (covers_leaves u u_diagram u_idle_free ns second);
   writes = sequence_writes t u r t_idle_free u_idle_free sequence;
@@ -109,7 +112,10 @@ module _ (ts : List (Tree (List Written))) (i j : ℕ) (diagrams : AreDiagrams t
   -- idle-free diagrams whose numbers are few may come in sequence
   pub sequence_fits : FitInSequenceAt ts i j → FitAsSequenceAt ts i j
   sequence_fits fits t u t_is u_is =
-      room_for (λ ns within. (covers_leaves t (diagrams i t t_is) (first t t_is) ns within.0, covers_leaves u (diagrams j u u_is) (second u u_is) ns within.1)) (fits t u t_is u_is)
+      room_for (λ ns within. (
+        covers_leaves t (diagrams i t t_is) (first t t_is) ns within.0,
+        covers_leaves u (diagrams j u u_is) (second u u_is) ns within.1,
+      )) (fits t u t_is u_is)
 
   -- and what stands at a place in a store that has grown is their sequence
   pub sequences : (new : List (Tree (List Written))) (id : ℕ) → Keeps ts new → IsSequencedAt new i j id → SequencesAt ts i j new id

@@ -27,17 +27,23 @@ use Rattle.pq_rewrite.proofs.Given.{any_merged, given_merged}
 -- writes that are strictly sorted ascend
 ascend_sorted : (ws : List Written) → IsStrictlySortedBy writes_cmp ws → Ascend ws
 ascend_sorted [] sorted = λ i j d less within. absurd (omega (arith, within))
-ascend_sorted (w ∷ ws) sorted = AllPairs-cons (λ v u. writes_cmp v u ≡ Less) w ws (All-after_first writes_cmp w ws sorted) (ascend_sorted ws (sorted_tail writes_cmp w ws sorted))
+ascend_sorted (w ∷ ws) sorted = AllPairs-cons (λ v u. writes_cmp v u ≡ Less) w ws (All-after_first writes_cmp w ws sorted)
+    (ascend_sorted ws (sorted_tail writes_cmp w ws sorted))
 
 -- the writes of two sets, sorted and each once, are merged of them
 pub sorted_merged : (a b sorted : List Written) → IsPermutation (a ++ b) sorted → IsSorted writes_cmp sorted → IsMerged a b (dedup writes_eq sorted)
 sorted_merged a b sorted permutation ascends = record {
   ascend = ascend_sorted (dedup writes_eq sorted) (IsStrictlySortedBy-dedup order.Laws.total-law order.Laws.matches_eq-law sorted ascends);
-  each = λ w. (λ at. Contains-append_cases a b w (Contains-permutation sorted (a ++ b) w (IsPermutation-sym (a ++ b) sorted permutation) (Contains-from_dedup writes_eq sorted w at)), into w);
+  each = λ w. (
+    λ at. Contains-append_cases a b w (Contains-permutation sorted (a ++ b) w (IsPermutation-sym (a ++ b) sorted permutation)
+        (Contains-from_dedup writes_eq sorted w at)),
+    into w,
+  );
 }
   where
     kept : (w : Written) → Contains (a ++ b) w → Contains (dedup writes_eq sorted) w
-    kept w at = Contains-dedup equivalence.Laws.laws-law (λ u v equal. (same_writes u v).0 equal) sorted w (Contains-permutation (a ++ b) sorted w permutation at)
+    kept w at = Contains-dedup equivalence.Laws.laws-law (λ u v equal. (same_writes u v).0 equal) sorted w
+        (Contains-permutation (a ++ b) sorted w permutation at)
 
     into : (w : Written) → Contains a w ⊎ Contains b w → Contains (dedup writes_eq sorted) w
     into w (inl in_a) = kept w (Contains-append_left a b w in_a)
@@ -57,11 +63,16 @@ module _ (t u r : Tree (List Written)) (merge : IsMerge t u r) where
   merge_unites t_idle_free u_idle_free = record {
     giving = λ x fit. merge_given (Gives t x) (Gives u x) x (t_idle_free x fit) (u_idle_free x fit);
     tests = merge.tests;
-    writes = λ f n (x, fit, written). elim (any_merged (merge.merged x) (λ w. written_in f w ≡ Some n) written) [ inl in_t ↦ inl (x, fit, in_t) | inr in_u ↦ inr (x, fit, in_u) ];
+    writes = λ f n (x, fit, written). elim (any_merged (merge.merged x) (λ w. written_in f w ≡ Some n) written) [
+      | inl in_t ↦
+          inl (x, fit, in_t)
+      | inr in_u ↦ inr (x, fit, in_u)
+    ];
   }
 
 -- so it is at its place
-pub merges_unite : (old new : List (Tree (List Written))) (i j id : ℕ) → IsIdleFreeAt old i → IsIdleFreeAt old j → MergesAt old i j new id → UnitesAt old i j new id
+pub merges_unite : (old new : List (Tree (List Written))) (i j id : ℕ) → IsIdleFreeAt old i → IsIdleFreeAt old j → MergesAt old i j new id
+    → UnitesAt old i j new id
 merges_unite old new i j id first second merges t u t_is u_is =
     let made = merges t u t_is u_is in
     (made.0, made.1, merge_unites t u made.0 made.2 (first t t_is) (second u u_is))

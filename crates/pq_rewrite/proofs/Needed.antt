@@ -29,7 +29,8 @@ written_among (Some m) n is = (0, m, omega arith, refl, cc)
 pub numbers_cover : (w : Written) → CoversWrites (numbers_of w) w
 numbers_cover w f n is = (
   λ whole. written_among (written_in f w) n is,
-  needs_among (numbers_of w) (0, 0x0800, omega arith, refl, refl) (1, 0x86dd, omega arith, refl, refl) (2, 6, omega arith, refl, refl) (3, 17, omega arith, refl, refl) f,
+  needs_among (numbers_of w) (0, 0x0800, omega arith, refl, refl) (1, 0x86dd, omega arith, refl, refl) (2, 6, omega arith, refl, refl)
+      (3, 17, omega arith, refl, refl) f,
 )
 
 -- these are few

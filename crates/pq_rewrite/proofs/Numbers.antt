@@ -3,7 +3,8 @@ use Rattle.std.proofs.Common.{ℕ, ◌-◌, ◌/◌, ◌%◌, ◌^◌, ◌≡◌
 use Rattle.std.specs.Prelude.{◌==◌}
 use Rattle.std.specs.Option.{unwrap_or}
 use Rattle.pq_fields.specs.declared.field.Field.{Field}
-use Rattle.pq_fields.specs.declared.field.Field.TheVariants.{Switch, Port, EthType, IpProto, EthSrc, EthDst, Ipv4Src, Ipv4Dst, TcpSrc, TcpDst, UdpSrc, UdpDst, Ipv6Src, Ipv6Dst}
+use Rattle.pq_fields.specs.declared.field.Field.TheVariants.{Switch, Port, EthType, IpProto, EthSrc, EthDst, Ipv4Src, Ipv4Dst, TcpSrc}
+use Rattle.pq_fields.specs.declared.field.Field.TheVariants.{TcpDst, UdpSrc, UdpDst, Ipv6Src, Ipv6Dst}
 use Rattle.pq_fields.specs.Packet.{Numbers, has_field, is_ip, is_ipv6, number_in, width_of}
 use Rattle.pq_fields.specs.Writes.{Written, number_after, on, written_in}
 use Rattle.pq_store.specs.declared.test.Test.{Test}
@@ -57,7 +58,8 @@ pub passes_unwritten : (t : Test) (w : Written) (x : Numbers) → written_in (fi
 passes_unwritten t w x none =
     let f = field_of t in
     passes_by t (on w x) x
-    (number_on f w x ∙ (ap (λ o. if has_field f x then unwrap_or o (number_in f x) else number_in f x) none ∙ sym (one_of_same (has_field f x) (number_in f x))))
+    (number_on f w x ∙ (ap (λ o. if has_field f x then unwrap_or o (number_in f x) else number_in f x) none
+    ∙ sym (one_of_same (has_field f x) (number_in f x))))
 
 -- where it is written, the number decides the test of packets that have the field
 pub passes_written : (t : Test) (w : Written) (n : ℕ) (x : Numbers) → written_in (field_of t) w ≡ Some n
@@ -66,6 +68,7 @@ passes_written t w n x some =
     let f = field_of t in
     by (has_field f x) (number_on f w x ∙ ap (λ o. if has_field f x then unwrap_or o (number_in f x) else number_in f x) some)
   where
-    by : (b : Bool) → number_in (field_of t) (on w x) ≡ (if b then n else number_in (field_of t) x) → passes t (on w x) ≡ (if b then decides t n else passes t x)
+    by : (b : Bool) → number_in (field_of t) (on w x) ≡ (if b then n else number_in (field_of t) x)
+        → passes t (on w x) ≡ (if b then decides t n else passes t x)
     by true is = passes_number t (on w x) n is
     by false is = passes_by t (on w x) x is

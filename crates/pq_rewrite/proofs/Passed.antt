@@ -45,7 +45,8 @@ leaves_differ (Equal f n) same = absurd cc
 leaves_differ (Bit f i) same = absurd cc
 
 -- the diagram of a test says whether a packet passes it, and tests nothing else
-pub passing_condition : (w : Written) (t : Test) (cs : List (Tree Bool)) (k : ℕ) → slice_get cs k ≡ Some (test_tree t) → HasAt (IsCondition (passes t) (test_needs w t)) cs k
+pub passing_condition : (w : Written) (t : Test) (cs : List (Tree Bool)) (k : ℕ) → slice_get cs k ≡ Some (test_tree t)
+    → HasAt (IsCondition (passes t) (test_needs w t)) cs k
 passing_condition w t cs k is = (
   test_tree t,
   is,
@@ -91,7 +92,8 @@ module _ {L : Type 0} (w : Written) (t : Test) where
 
 module _ {L : Type 0} (w : Written) (t : Test) (n : ℕ) (written : written_in (field_of t) w ≡ Some n) where
   -- the one side and the choice by the test stand within the store
-  pub passed_within : (old mid : List (Tree L)) (i j side unwritten : ℕ) → side ≡ (if decides t n then i else j) → Keeps old mid → i < length old → j < length old
+  pub passed_within : (old mid : List (Tree L)) (i j side unwritten : ℕ) → side ≡ (if decides t n then i else j) → Keeps old mid
+      → i < length old → j < length old
       → ChoosesByAt (passes t) (test_needs w t) old i j mid unwritten → (side < length mid) × (unwritten < length mid)
   passed_within old mid i j side unwritten is keeps i_within j_within chooses =
       let b = decides t n in
@@ -123,7 +125,8 @@ module _ {L : Type 0} (w : Written) (t : Test) (n : ℕ) (written : written_in (
 
   -- and the choice of them by presence is that by the test of packets that are written first
   pub passed_chosen : (old mid new : List (Tree L)) (i j side unwritten id : ℕ) → side ≡ (if decides t n then i else j) → Keeps old mid
-      → ChoosesByAt (passes t) (test_needs w t) old i j mid unwritten → ChoosesByAt (has_field (field_of t)) (field_needs (field_of t)) mid side unwritten new id
+      → ChoosesByAt (passes t) (test_needs w t) old i j mid unwritten
+      → ChoosesByAt (has_field (field_of t)) (field_needs (field_of t)) mid side unwritten new id
       → ChoosesByAt (passes_after w t) (test_needs w t) old i j new id
   passed_chosen old mid new i j side unwritten id is keeps chooses present left_tree right_tree left_is right_is =
       let b = decides t n in

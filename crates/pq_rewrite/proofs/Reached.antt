@@ -56,7 +56,8 @@ module _ {L : Type 0} where
       let free = free_number s n n [] (room s y n n d.fits own.fits) in
       let q : Point = no_point s free.0 p in
       let missed : Misses s n n p q = miss s n n free.0 p free.1 range in
-      let same = says_same s (past s n) p q missed.turned.alike (past_before s s n d.ascends.1 own) (past_diagram s n own).ascends (past_skips s n d.lawful.0 d.ascends.1 own) in
+      let same = says_same s (past s n) p q missed.turned.alike (past_before s s n d.ascends.1 own) (past_diagram s n own).ascends
+      (past_skips s n d.lawful.0 d.ascends.1 own) in
       record {
         point = q;
         in_range = missed.turned.in_range;
@@ -87,7 +88,8 @@ leaf_reached t d l part =
     (packet_of r.point, packet_fits r.point r.in_range, value_packet_of t d.lawful r.point ∙ r.reaches)
 
 -- the writes of an idle-free tree on a packet fit, and their numbers and those in prerequisites are among what covers the tree
-value_covered : (t : Tree (List Written)) → IsIdleFree t → (ns : Field → List ℕ) → Covers ns t → (x : Numbers) → Fit x → All (λ w. AllFit w × CoversWrites ns w) (value t x)
+value_covered : (t : Tree (List Written)) → IsIdleFree t → (ns : Field → List ℕ) → Covers ns t → (x : Numbers) → Fit x
+    → All (λ w. AllFit w × CoversWrites ns w) (value t x)
 value_covered t idle_free ns covers x fits k d below =
     let w : Written = slice_index_or (value t x) k d in
     let place = All-contains_itself (value t x) k d below in

@@ -11,7 +11,8 @@ use Rattle.pq_rewrite.specs.Rewriting.{Gives, IsCanonicalRewriting, IsIdleFree}
 use Rattle.pq_rewrite.proofs.Sets.{one_given}
 
 -- idle-free trees that give the same packets have the same values
-same_values : (t u : Tree (List Written)) → IsIdleFree t → IsIdleFree u → ((x y : Numbers) → Fit x → Gives t x y ↔ Gives u x y) → (x : Numbers) → Fit x → value t x ≡ value u x
+same_values : (t u : Tree (List Written)) → IsIdleFree t → IsIdleFree u → ((x y : Numbers) → Fit x → Gives t x y ↔ Gives u x y)
+    → (x : Numbers) → Fit x → value t x ≡ value u x
 same_values t u left right same x fit = one_given x (Gives t x) (Gives u x) (value t x) (value u x) (λ y. same x y fit) (left x fit) (right x fit)
 
 -- where ids of equal values are equal, so are those of idle-free trees that give the same packets

@@ -26,16 +26,19 @@ none_covered : (ns : Field → List ℕ) → CoversWrites ns no_writes
 none_covered ns f n is = let none = none_written f in absurd cc
 
 -- what comes in sequence on both sides of a fork comes so on the fork, by the root's test
-both_sequenced : (s : Test) (y n u a b r : Tree (List Written)) → IsInSequence y u a → IsInSequence n u b → IsChoiceBy (passes_after no_writes s) (test_needs no_writes s) a b r
+both_sequenced : (s : Test) (y n u a b r : Tree (List Written)) → IsInSequence y u a → IsInSequence n u b
+    → IsChoiceBy (passes_after no_writes s) (test_needs no_writes s) a b r
     → IsInSequence (Fork s y n) u r
 both_sequenced s y n u a b r left right choice = record {
   giving = λ x fit ready.
-      let is : value r x ≡ (if passes s x then value a x else value b x) = choice.gives x fit ∙ ap (λ z. if passes s z then value a x else value b x) (on_none x) in
+      let is : value r x ≡ (if passes s x then value a x else value b x) = choice.gives x fit
+      ∙ ap (λ z. if passes s z then value a x else value b x) (on_none x) in
       subst (IsGiven x (λ z. Any (λ w. Gives u (on w x) z) (value (Fork s y n) x))) (sym is)
       (chosen_given x (AllReady x u) (λ ws z. Any (λ w. Gives u (on w x) z) ws) (passes s x) (value y x) (value n x) (value a x) (value b x)
       (left.giving x fit) (right.giving x fit) ready);
   tests = λ ns first second.
-      choice.tests ns (root_needs ns no_writes s y n (none_covered ns) first) (left.tests ns (covers_yes ns s y n first) second) (right.tests ns (covers_no ns s y n first) second);
+      choice.tests ns (root_needs ns no_writes s y n (none_covered ns) first) (left.tests ns (covers_yes ns s y n first) second)
+      (right.tests ns (covers_no ns s y n first) second);
 }
 
 -- a tree may come behind both sides of a fork where it may come behind the fork
@@ -65,7 +68,8 @@ module _ (old mid : List (Tree (List Written))) (k i j l : ℕ) (s : Test) (insi
       subst (λ v. FitAsSequence v u) same (no_fits s y n u (fits (Fork s y n) u shows.is (tree_before old mid l u keeps inside u_is)))
 
 -- what comes in sequence at a place comes so on the trees there
-pub sequenced_there : (ts : List (Tree (List Written))) (k l id : ℕ) (t u r : Tree (List Written)) → IsSequencedAt ts k l id → slice_get ts k ≡ Some t → slice_get ts l ≡ Some u
+pub sequenced_there : (ts : List (Tree (List Written))) (k l id : ℕ) (t u r : Tree (List Written)) → IsSequencedAt ts k l id
+    → slice_get ts k ≡ Some t → slice_get ts l ≡ Some u
     → slice_get ts id ≡ Some r → IsInSequence t u r
 sequenced_there ts k l id t u r made t_is u_is r_is =
     let tree_is = made.tree_is in
@@ -89,11 +93,13 @@ sequenced_still old new k l id keeps made = record {
 }
 
 -- each of the writes at a leaf may come before the second tree
-pub leaf_before : (ts : List (Tree (List Written))) (k l : ℕ) (ws : List Written) → slice_get ts k ≡ Some (Tip ws) → FitAsSequenceAt ts k l → FitAsFollowedEachAt ws ts l
+pub leaf_before : (ts : List (Tree (List Written))) (k l : ℕ) (ws : List Written) → slice_get ts k ≡ Some (Tip ws) → FitAsSequenceAt ts k l
+    → FitAsFollowedEachAt ws ts l
 leaf_before ts k l ws is fits u u_is = room_for (λ ns within. (leaf_numbers ns ws within.0, within.1)) (fits (Tip ws) u is u_is)
 
 -- and what follows each is in sequence
-pub leaf_sequenced : (old new : List (Tree (List Written))) (k l id : ℕ) (ws : List Written) → l < length old → Keeps old new → slice_get old k ≡ Some (Tip ws) → FollowsEachAt ws old l new id
+pub leaf_sequenced : (old new : List (Tree (List Written))) (k l id : ℕ) (ws : List Written) → l < length old → Keeps old new
+    → slice_get old k ≡ Some (Tip ws) → FollowsEachAt ws old l new id
     → IsSequencedAt new k l id
 leaf_sequenced old new k l id ws inside keeps is each =
     let u = at_place old l inside in
@@ -130,7 +136,8 @@ module _ (old mid : List (Tree (List Written))) (k i j l a b : ℕ) (s : Test) (
       )) (fits (Fork s y n) u.0 shows.is u.1)
 
   -- and their choice is the sequence of the whole
-  pub chosen_sequenced : (new : List (Tree (List Written))) (id : ℕ) → Keeps mid new → ChoosesByAt (passes_after no_writes s) (test_needs no_writes s) mid a b new id → IsSequencedAt new k l id
+  pub chosen_sequenced : (new : List (Tree (List Written))) (id : ℕ) → Keeps mid new
+      → ChoosesByAt (passes_after no_writes s) (test_needs no_writes s) mid a b new id → IsSequencedAt new k l id
   chosen_sequenced new id grows chooses =
       let y = shows.yes_tree in
       let n = shows.no_tree in
@@ -162,4 +169,5 @@ pub done_more : {S : Type 0} (l : ℕ) (old new : List (Tree (List Written))) (k
     → Remembers (λ x y. x == y) (λ key i. IsSequencedAt old key l i) done → IsSequencedAt new k l id → Updates (λ x y. x == y) done more k (Some id)
     → Remembers (λ x y. x == y) (λ key i. IsSequencedAt new key l i) more
 done_more l old new k id done more keeps remembers made updates =
-    remembers_more (λ x y. x == y) (λ key i. IsSequencedAt new key l i) done more k id (λ x y same. eqb-true x y same) (done_still l old new done keeps remembers) made updates
+    remembers_more (λ x y. x == y) (λ key i. IsSequencedAt new key l i) done more k id (λ x y same. eqb-true x y same)
+    (done_still l old new done keeps remembers) made updates

@@ -46,7 +46,8 @@ module _ {X : Type 0} where
     rest_ascends x xs pairs i j d below within = pairs (suc i) (suc j) d (omega arith) (omega arith)
 
     -- what stands behind the first of one list, and in another with the same first, stands behind it there
-    behind : (x : X) (xs : List X) (y : X) (ys : List X) → AllPairs R (x ∷ xs) → x ≡ y → ((z : X) → IsIn z (x ∷ xs) → IsIn z (y ∷ ys)) → (z : X) → IsIn z xs → IsIn z ys
+    behind : (x : X) (xs : List X) (y : X) (ys : List X) → AllPairs R (x ∷ xs) → x ≡ y → ((z : X) → IsIn z (x ∷ xs) → IsIn z (y ∷ ys))
+        → (z : X) → IsIn z xs → IsIn z ys
     behind x xs y ys pairs same into z there = elim (any_cases (λ w. z ≡ w) y ys (into z (any_later (λ w. z ≡ w) x xs there))) [
       | inl first ↦ absurd (never x (subst (R x) (first ∙ sym same) (first_before x xs z pairs there)))
       | inr later ↦ later

@@ -7,7 +7,8 @@ use Rattle.std.proofs.lemmas.Bool.{true≢false}
 use Rattle.std.proofs.lemmas.Bool.Decides.{eqb_tells}
 use Rattle.pq_apply.proofs.Choices.{one_of_same}
 use Rattle.pq_fields.specs.declared.field.Field.{Field}
-use Rattle.pq_fields.specs.declared.field.Field.TheVariants.{Switch, Port, EthType, IpProto, EthSrc, EthDst, Ipv4Src, Ipv4Dst, TcpSrc, TcpDst, UdpSrc, UdpDst, Ipv6Src, Ipv6Dst}
+use Rattle.pq_fields.specs.declared.field.Field.TheVariants.{Switch, Port, EthType, IpProto, EthSrc, EthDst, Ipv4Src, Ipv4Dst, TcpSrc}
+use Rattle.pq_fields.specs.declared.field.Field.TheVariants.{TcpDst, UdpSrc, UdpDst, Ipv6Src, Ipv6Dst}
 use Rattle.pq_fields.specs.Packet.{Numbers, has_field, number_in, rank}
 use Rattle.pq_fields.specs.Writes.{Written, AllFit, FitsWidth, is_writable, no_writes, on, with_write, written_in}
 use Rattle.pq_store.proofs.Order.{rank_injective}
@@ -141,11 +142,13 @@ in_place_twice o (Some n) = refl
 
 -- after a step for its own rank a field has the change of that step, and after others it one_of_same
 step_in : (f g : Field) (o : Option ℕ) (x : Numbers) (done : Written) → is_writable g ≡ true
-    → written_in g (with_change f o x done) ≡ (if rank f == rank g then in_place (written_in g done) (change_of (has_field f x) (number_in f x) o) else written_in g done)
+    → written_in g (with_change f o x done)
+    ≡ (if rank f == rank g then in_place (written_in g done) (change_of (has_field f x) (number_in f x) o) else written_in g done)
 step_in f g None x done writable = one_of_same (rank f == rank g) (written_in g done)
 step_in f g (Some n) x done writable = by (differs f n x)
   where
-    by : (b : Bool) → written_in g (if b then with_write f n done else done) ≡ (if rank f == rank g then in_place (written_in g done) (if b then Some n else None) else written_in g done)
+    by : (b : Bool) → written_in g (if b then with_write f n done else done)
+        ≡ (if rank f == rank g then in_place (written_in g done) (if b then Some n else None) else written_in g done)
     by true = written_with f g n done writable
     by false = one_of_same (rank f == rank g) (written_in g done)
 
@@ -170,7 +173,8 @@ steps_in (f ∷ fs) g w x done writable =
     ∙ (ap (λ o. if is_among g fs then in_place o (change_in g w x) else o) (step_own f g w x done writable) ∙ by (rank f == rank g) (is_among g fs))
   where
     by : (here later : Bool)
-        → (if later then in_place (if here then in_place (written_in g done) (change_in g w x) else written_in g done) (change_in g w x) else (if here then in_place (written_in g done) (change_in g w x) else written_in g done))
+        → (if later then in_place (if here then in_place (written_in g done) (change_in g w x) else written_in g done)
+        (change_in g w x) else (if here then in_place (written_in g done) (change_in g w x) else written_in g done))
         ≡ (if here || later then in_place (written_in g done) (change_in g w x) else written_in g done)
     by true true = in_place_twice (written_in g done) (change_in g w x)
     by true false = refl
@@ -183,7 +187,8 @@ in_place_none o None none = none
 in_place_none o (Some n) none = refl
 
 -- after the steps for all fields that can be written, from nothing, just the changes are to be written
-pub steps_change : (fs : List Field) (w : Written) (x : Numbers) → ((g : Field) → is_writable g ≡ true → is_among g fs ≡ true) → with_changes fs w x no_writes ≡ changes w x
+pub steps_change : (fs : List Field) (w : Written) (x : Numbers) → ((g : Field) → is_writable g ≡ true → is_among g fs ≡ true)
+    → with_changes fs w x no_writes ≡ changes w x
 steps_change fs w x all = same_written (with_changes fs w x no_writes) (changes w x) (λ g writable.
     steps_in fs g w x no_writes writable
     ∙ (ap (λ b. if b then in_place (written_in g no_writes) (change_in g w x) else written_in g no_writes) (all g writable)

@@ -32,7 +32,8 @@ shown None old n apart is = absurd (apart (sym is))
 shown (Some k) old n apart is = ap Some (sym is)
 
 -- idle-free writes that give a packet written are among the writes that do
-pub written_given : (x : Numbers) (w : Written) (ws : List Written) → IsGiven x (λ y. y ≡ on w x) ws → (g : Field) (m : ℕ) → Any (λ u. written_in g u ≡ Some m) ws → written_in g w ≡ Some m
+pub written_given : (x : Numbers) (w : Written) (ws : List Written) → IsGiven x (λ y. y ≡ on w x) ws → (g : Field) (m : ℕ)
+    → Any (λ u. written_in g u ≡ Some m) ws → written_in g w ≡ Some m
 written_given x w ws given g m (k, u, within, at, is) =
     let u_changes : ChangesAll x u = subst (ChangesAll x) at (given.idle_free k u within) in
     let change = u_changes g m is in

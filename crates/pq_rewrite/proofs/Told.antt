@@ -34,7 +34,8 @@ module _ {L : Type 0} where
       (h.told, h.told_is, subst (λ u. IsAfter w u h.told) same h.comes)
 
   -- a leaf is told by an equal one
-  pub told_leaf : (w : Written) (from into : List (Tree L)) (k id : ℕ) (l m : L) → slice_get from k ≡ Some (Tip l) → slice_get into id ≡ Some (Tip m) → m ≡ l → IsToldAt w from k into id
+  pub told_leaf : (w : Written) (from into : List (Tree L)) (k id : ℕ) (l m : L) → slice_get from k ≡ Some (Tip l)
+      → slice_get into id ≡ Some (Tip m) → m ≡ l → IsToldAt w from k into id
   told_leaf w from into k id l m tree_is told_is same = record {
     tree = Tip l;
     told = Tip m;
@@ -49,7 +50,8 @@ module _ {L : Type 0} where
   side_says false t y n u x is failed = ap (λ v. value v x) is ∙ ap (λ b. if b then value y x else value n x) (sym failed)
 
   -- where only one side is reached, what is told of it is told of the whole
-  pub told_side : (w : Written) (from into : List (Tree L)) (k next id : ℕ) → IsStepAt w from k (Side next) → IsToldAt w from next into id → IsToldAt w from k into id
+  pub told_side : (w : Written) (from into : List (Tree L)) (k next id : ℕ) → IsStepAt w from k (Side next) → IsToldAt w from next into id
+      → IsToldAt w from k into id
   told_side w from into k next id step done =
       let t = step.0 in
       let shows = step.3 in
@@ -93,7 +95,8 @@ module _ {L : Type 0} where
       part_fits w (Fork t y n) u (side_part step.4 t y n u is).0 (fits (Fork t y n) shows.is)
 
   -- and both sides do
-  pub both_fit : (w : Written) (from : List (Tree L)) (k i j : ℕ) (t : Test) → ShowsBranch from k t i j → FitsAfterAt w from k → FitsAfterAt w from i × FitsAfterAt w from j
+  pub both_fit : (w : Written) (from : List (Tree L)) (k i j : ℕ) (t : Test) → ShowsBranch from k t i j → FitsAfterAt w from k
+      → FitsAfterAt w from i × FitsAfterAt w from j
   both_fit w from k i j t shows fits =
       let y = shows.yes_tree in
       let n = shows.no_tree in
@@ -109,7 +112,8 @@ module _ {L : Type 0} where
 
   -- the trees at places are such
   sides_told : (w : Written) (from into : List (Tree L)) (k i j a b : ℕ) (t : Test) (u v : Tree L) → (shows : ShowsBranch from k t i j)
-      → IsToldAt w from i into a → IsToldAt w from j into b → slice_get into a ≡ Some u → slice_get into b ≡ Some v → AreSidesTold w shows.yes_tree shows.no_tree u v
+      → IsToldAt w from i into a → IsToldAt w from j into b → slice_get into a ≡ Some u → slice_get into b ≡ Some v
+      → AreSidesTold w shows.yes_tree shows.no_tree u v
   sides_told w from into k i j a b t u v shows left right u_is v_is =
       let y = shows.yes_tree in
       let n = shows.no_tree in
@@ -181,13 +185,15 @@ module _ {L : Type 0} where
         comes = record {
           gives = λ x fit. choice.gives x fit ∙ (λ m. if passes_after w t x then yes_after.gives x fit m else no_after.gives x fit m);
           tests = λ ns within needs.
-              choice.tests ns (test_needed ns w t y n within needs) (yes_after.tests ns (yes_within ns t y n within) needs) (no_after.tests ns (no_within ns t y n within) needs);
+              choice.tests ns (test_needed ns w t y n within needs) (yes_after.tests ns (yes_within ns t y n within) needs)
+              (no_after.tests ns (no_within ns t y n within) needs);
         };
       }
 
   -- what is remembered stays told, and one more is remembered
   pub remembers_told : {S : Type 0} (w : Written) (from old new : List (Tree L)) (k id : ℕ) (old_done new_done : IndexMap ℕ ℕ S) → Keeps old new
-      → Remembers (λ x y. x == y) (λ key i. IsToldAt w from key old i) old_done → IsToldAt w from k new id → Updates (λ x y. x == y) old_done new_done k (Some id)
+      → Remembers (λ x y. x == y) (λ key i. IsToldAt w from key old i) old_done → IsToldAt w from k new id
+      → Updates (λ x y. x == y) old_done new_done k (Some id)
       → Remembers (λ x y. x == y) (λ key i. IsToldAt w from key new i) new_done
   remembers_told w from old new k id old_done new_done keeps remembers made updates =
       remembers_more (λ x y. x == y) (λ key i. IsToldAt w from key new i) old_done new_done k id (λ x y same. eqb-true x y same)

@@ -30,7 +30,8 @@ pub giving_idle_free : (P : Numbers → Numbers → Type 0) (t : Tree (List Writ
 giving_idle_free P t giving = giving_as P (Gives t) t (λ x y fit. let g = (giving x fit).gives y in (g.1, g.0)) giving
 
 -- the union of two gives what one or the other is to give
-pub union_giving : (P Q : Numbers → Numbers → Type 0) (t u r : Tree (List Written)) → IsGiving P t → IsGiving Q u → IsUnion t u r → IsGiving (λ x y. P x y ⊎ Q x y) r
+pub union_giving : (P Q : Numbers → Numbers → Type 0) (t u r : Tree (List Written)) → IsGiving P t → IsGiving Q u → IsUnion t u r
+    → IsGiving (λ x y. P x y ⊎ Q x y) r
 union_giving P Q t u r left right union =
     giving_as (λ x y. Gives t x y ⊎ Gives u x y) (λ x y. P x y ⊎ Q x y) r (λ x y fit. (into x y fit, back x y fit)) union.giving
   where
@@ -72,9 +73,11 @@ module _ (w : Written) (front back : List Written) where
   halves_in_turn t u r left right merge = record {
     giving = λ x fit first second.
         let parts = all_halves (ChangesAll (on w x)) front back second in
-        given_same x (λ y. Any (λ v. y ≡ on v (on w x)) front ⊎ Any (λ v. y ≡ on v (on w x)) back) (λ y. Any (λ v. y ≡ on v (on w x)) (front ++ back)) (value r x)
+        given_same x (λ y. Any (λ v. y ≡ on v (on w x)) front ⊎ Any (λ v. y ≡ on v (on w x)) back)
+        (λ y. Any (λ v. y ≡ on v (on w x)) (front ++ back)) (value r x)
         (λ y. any_halves (λ v. y ≡ on v (on w x)) front back)
-        (merge_given t u r merge (λ y. Any (λ v. y ≡ on v (on w x)) front) (λ y. Any (λ v. y ≡ on v (on w x)) back) x (left.giving x fit first parts.0) (right.giving x fit first parts.1));
+        (merge_given t u r merge (λ y. Any (λ v. y ≡ on v (on w x)) front) (λ y. Any (λ v. y ≡ on v (on w x)) back) x
+        (left.giving x fit first parts.0) (right.giving x fit first parts.1));
     tests = λ ns covers.
         let parts = all_halves (CoversWrites ns) front back covers in
         merge_within t u r merge ns (left.tests ns parts.0) (right.tests ns parts.1);

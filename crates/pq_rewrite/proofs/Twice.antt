@@ -6,7 +6,8 @@ use Rattle.std.specs.Option.{option_and, option_or, option_xor, unwrap_or}
 use Rattle.std.proofs.lemmas.Bool.Decides.{eqb_tells}
 use Rattle.std.proofs.lemmas.List.Elements.{All-head}
 use Rattle.pq_fields.specs.declared.field.Field.{Field}
-use Rattle.pq_fields.specs.declared.field.Field.TheVariants.{Switch, Port, EthType, IpProto, EthSrc, EthDst, Ipv4Src, Ipv4Dst, TcpSrc, TcpDst, UdpSrc, UdpDst, Ipv6Src, Ipv6Dst}
+use Rattle.pq_fields.specs.declared.field.Field.TheVariants.{Switch, Port, EthType, IpProto, EthSrc, EthDst, Ipv4Src, Ipv4Dst, TcpSrc}
+use Rattle.pq_fields.specs.declared.field.Field.TheVariants.{TcpDst, UdpSrc, UdpDst, Ipv6Src, Ipv6Dst}
 use Rattle.pq_fields.specs.Packet.{Numbers, Fit, has_field, number_in}
 use Rattle.pq_fields.specs.Writes.{Written, AllFit, FitsWidth, is_writable, on, written_in}
 use Rattle.pq_store.specs.Tree.{Tree, value}
@@ -136,7 +137,8 @@ change_kept false m n (had, apart) = absurd cc
 change_kept true m n (had, apart) = elim (eqb_tells m n) [ inl e ↦ absurd (apart e.1) | inr e ↦ rw e.0 refl ]
 
 -- where each of two changes a field, only the second's number after the first's may leave the packet as it was
-change_twice : (has : Bool) (m : ℕ) (p q : Option ℕ) → ((n : ℕ) → p ≡ Some n → (has ≡ true) × (m ≡ n → ⊥)) → ((n : ℕ) → p ≡ None → q ≡ Some n → (has ≡ true) × (m ≡ n → ⊥))
+change_twice : (has : Bool) (m : ℕ) (p q : Option ℕ) → ((n : ℕ) → p ≡ Some n → (has ≡ true) × (m ≡ n → ⊥))
+    → ((n : ℕ) → p ≡ None → q ≡ Some n → (has ≡ true) × (m ≡ n → ⊥))
     → in_place (option_xor p q) (change_of has m (option_and p q)) ≡ change_of has m (option_or q p)
 change_twice has m None None first second = refl
 change_twice has m None (Some n) first second = sym (change_kept has m n (second n refl refl))
@@ -154,7 +156,8 @@ second_changes f v w x changes n none is =
     (has, λ there. change.1 (same ∙ there))
 
 -- so the steps for the fields that both write, from the numbers of one alone, give the changes of both
-steps_twice : (fs : List Field) (v w : Written) (x : Numbers) → ((g : Field) → is_writable g ≡ true → is_among g fs ≡ true) → ChangesAll x v → ChangesAll (on v x) w
+steps_twice : (fs : List Field) (v w : Written) (x : Numbers) → ((g : Field) → is_writable g ≡ true → is_among g fs ≡ true) → ChangesAll x v
+    → ChangesAll (on v x) w
     → with_changes fs (twice v w) x (once v w) ≡ changes (over v w) x
 steps_twice fs v w x all first second = same_written (with_changes fs (twice v w) x (once v w)) (changes (over v w) x) (λ g writable.
     steps_in fs g (twice v w) x (once v w) writable
@@ -165,7 +168,8 @@ steps_twice fs v w x all first second = same_written (with_changes fs (twice v w
     ∙ (ap (change_of (has_field g x) (number_in g x)) (sym (written_over g v w)) ∙ sym (changes_in g (over v w) x)))))))
 
 -- and their tree gives the packet written by the first and then by the second
-pub one_in_turn : (v w : Written) (t : Tree (List Written)) → AllFit v → AllFit w → IsSettledFrom writable_fields (twice v w) (once v w) t → IsInTurn v (w ∷ []) t
+pub one_in_turn : (v w : Written) (t : Tree (List Written)) → AllFit v → AllFit w → IsSettledFrom writable_fields (twice v w) (once v w) t
+    → IsInTurn v (w ∷ []) t
 one_in_turn v w t v_fits w_fits from = record {
   giving = λ x fit first second.
       let is : value t x ≡ changes (over v w) x ∷ [] =

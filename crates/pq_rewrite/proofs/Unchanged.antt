@@ -57,7 +57,8 @@ is_keeping c t choice = record {
     writes f n (x, fit, written) = kept_unwritten f n (value c x) (subst (Any (λ w. written_in f w ≡ Some n)) (choice.gives x) written)
 
 -- so it does at its place
-pub keeps_where : (cs : List (Tree Bool)) (old new : List (Tree (List Written))) (k i j id : ℕ) → slice_get old i ≡ Some (Tip (no_writes ∷ [])) → slice_get old j ≡ Some (Tip [])
+pub keeps_where : (cs : List (Tree Bool)) (old new : List (Tree (List Written))) (k i j id : ℕ)
+    → slice_get old i ≡ Some (Tip (no_writes ∷ [])) → slice_get old j ≡ Some (Tip [])
     → ChoosesAt cs k old i j new id → KeepsWhereAt cs k new id
 keeps_where cs old new k i j id yes_is no_is chooses c c_is =
     let chosen = chooses c (Tip (no_writes ∷ [])) (Tip []) c_is yes_is no_is in

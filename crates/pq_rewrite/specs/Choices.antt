@@ -66,7 +66,8 @@ module _ {L : Type 0} where
   abbrev pub IsStepAt : Written → List (Tree L) → ℕ → Step L → Type 0
   IsStepAt w ts k (Leaf l) = slice_get ts k ≡ Some (Tip l.now)
   IsStepAt w ts k (Side next) =
-      (t : Test) × (i : ℕ) × (j : ℕ) × ShowsBranch ts k t i j × (answer : Bool) × ((x : Numbers) → passes_after w t x ≡ answer) × (next ≡ (if answer then i else j))
+      (t : Test) × (i : ℕ) × (j : ℕ) × ShowsBranch ts k t i j × (answer : Bool) × ((x : Numbers) → passes_after w t x ≡ answer)
+      × (next ≡ (if answer then i else j))
   IsStepAt w ts k (Both t i j) = ShowsBranch ts k t i j
 
   -- one place has what comes after the writes of the tree at another

@@ -15,17 +15,53 @@ use Rattle.pq_rewrite.specs.Rewriting.{ChangesAll, CoversWrites, Gives, IsGiven,
 -- the numbers of the second, and those of the first in the other fields
 abbrev pub over : Written → Written → Written
 over v w =
-    record { port = option_or w.port v.port; eth_src = option_or w.eth_src v.eth_src; eth_dst = option_or w.eth_dst v.eth_dst; ipv4_src = option_or w.ipv4_src v.ipv4_src; ipv4_dst = option_or w.ipv4_dst v.ipv4_dst; tcp_src = option_or w.tcp_src v.tcp_src; tcp_dst = option_or w.tcp_dst v.tcp_dst; udp_src = option_or w.udp_src v.udp_src; udp_dst = option_or w.udp_dst v.udp_dst }
+    record {
+      port = option_or w.port v.port;
+      eth_src = option_or w.eth_src v.eth_src;
+      eth_dst = option_or w.eth_dst v.eth_dst;
+      ipv4_src =
+          option_or w.ipv4_src v.ipv4_src;
+      ipv4_dst = option_or w.ipv4_dst v.ipv4_dst;
+      tcp_src = option_or w.tcp_src v.tcp_src;
+      tcp_dst =
+          option_or w.tcp_dst v.tcp_dst;
+      udp_src = option_or w.udp_src v.udp_src;
+      udp_dst = option_or w.udp_dst v.udp_dst;
+    }
 
 -- the numbers of one alone, in fields that the other doesn't write
 abbrev pub once : Written → Written → Written
 once v w =
-    record { port = option_xor v.port w.port; eth_src = option_xor v.eth_src w.eth_src; eth_dst = option_xor v.eth_dst w.eth_dst; ipv4_src = option_xor v.ipv4_src w.ipv4_src; ipv4_dst = option_xor v.ipv4_dst w.ipv4_dst; tcp_src = option_xor v.tcp_src w.tcp_src; tcp_dst = option_xor v.tcp_dst w.tcp_dst; udp_src = option_xor v.udp_src w.udp_src; udp_dst = option_xor v.udp_dst w.udp_dst }
+    record {
+      port = option_xor v.port w.port;
+      eth_src = option_xor v.eth_src w.eth_src;
+      eth_dst = option_xor v.eth_dst w.eth_dst;
+      ipv4_src =
+          option_xor v.ipv4_src w.ipv4_src;
+      ipv4_dst = option_xor v.ipv4_dst w.ipv4_dst;
+      tcp_src = option_xor v.tcp_src w.tcp_src;
+      tcp_dst =
+          option_xor v.tcp_dst w.tcp_dst;
+      udp_src = option_xor v.udp_src w.udp_src;
+      udp_dst = option_xor v.udp_dst w.udp_dst;
+    }
 
 -- the numbers of the second, in fields that both write
 abbrev pub twice : Written → Written → Written
 twice v w =
-    record { port = option_and v.port w.port; eth_src = option_and v.eth_src w.eth_src; eth_dst = option_and v.eth_dst w.eth_dst; ipv4_src = option_and v.ipv4_src w.ipv4_src; ipv4_dst = option_and v.ipv4_dst w.ipv4_dst; tcp_src = option_and v.tcp_src w.tcp_src; tcp_dst = option_and v.tcp_dst w.tcp_dst; udp_src = option_and v.udp_src w.udp_src; udp_dst = option_and v.udp_dst w.udp_dst }
+    record {
+      port = option_and v.port w.port;
+      eth_src = option_and v.eth_src w.eth_src;
+      eth_dst = option_and v.eth_dst w.eth_dst;
+      ipv4_src =
+          option_and v.ipv4_src w.ipv4_src;
+      ipv4_dst = option_and v.ipv4_dst w.ipv4_dst;
+      tcp_src = option_and v.tcp_src w.tcp_src;
+      tcp_dst =
+          option_and v.tcp_dst w.tcp_dst;
+      udp_src = option_and v.udp_src w.udp_src;
+      udp_dst = option_and v.udp_dst w.udp_dst;
+    }
 
 -- the writes change the packet, and those that come next change the packet written
 pub record AreReady (x : Numbers) (w : Written) (ws : List Written) : Type 0 where

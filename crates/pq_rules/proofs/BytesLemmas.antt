@@ -1,17 +1,20 @@
 -- How long the bytes of messages are at the most.
-use Rattle.std.proofs.Common.{◌≡◌, ℕ, ◌+◌, ◌*◌, ◌-◌, ◌%◌, ◌^◌, ◌<◌, ◌≤◌, Bool, true, false, cond, eqb, List, [], ◌∷◌, ◌++◌, length, replicate, Option, None, Some, refl, arith}
+use Rattle.std.proofs.Common.{◌≡◌, ℕ, ◌+◌, ◌*◌, ◌-◌, ◌%◌, ◌^◌, ◌<◌, ◌≤◌, Bool, true, false, cond, eqb, List, [], ◌∷◌, ◌++◌, length}
+use Rattle.std.proofs.Common.{replicate, Option, None, Some, refl, arith}
 use Rattle.std.specs.Int.{w16, w32, w128, to_be_bytes}
 use Rattle.std.specs.List.{AllByRecursion, flat_map}
 use Rattle.std.proofs.Math.Nat.{mod-lt}
 use Rattle.std.proofs.lemmas.List.{length-append, length-replicate}
 use Rattle.pq_fields.specs.declared.field.Field.{Field}
-use Rattle.pq_fields.specs.declared.field.Field.TheVariants.{Switch, Port, EthType, IpProto, EthSrc, EthDst, Ipv4Src, Ipv4Dst, TcpSrc, TcpDst, UdpSrc, UdpDst, Ipv6Src, Ipv6Dst}
+use Rattle.pq_fields.specs.declared.field.Field.TheVariants.{Switch, Port, EthType, IpProto, EthSrc, EthDst, Ipv4Src, Ipv4Dst, TcpSrc}
+use Rattle.pq_fields.specs.declared.field.Field.TheVariants.{TcpDst, UdpSrc, UdpDst, Ipv6Src, Ipv6Dst}
 use Rattle.pq_model.specs.declared.action.Action.{Action}
 use Rattle.pq_model.specs.declared.action.Action.TheVariants.{Output, PushVlan, PopVlan, Group, SetVlan, SetField}
 use Rattle.pq_model.specs.declared.message.Message.TheVariants.{Flow, Group as Grouping, Barrier}
 use Rattle.pq_model.specs.MatchFields.{MatchFields}
 use Rattle.pq_model.specs.Mods.{FlowValue, GroupValue}
-use Rattle.pq_model.specs.Spelling.{action_bytes, actions_bytes, apply_bytes, bucket_bytes, byte, flow_body, goto_bytes, group_body, mac_bytes, match_bytes, match_oxms}
+use Rattle.pq_model.specs.Spelling.{action_bytes, actions_bytes, apply_bytes, bucket_bytes, byte, flow_body, goto_bytes, group_body}
+use Rattle.pq_model.specs.Spelling.{mac_bytes, match_bytes, match_oxms}
 use Rattle.pq_model.specs.Spelling.{message_bytes, ones32, ones128, oxm, oxm_masked, padding, stated, stated_masked, with_header}
 use Rattle.pq_layout.specs.Messages.{delete_entries, delete_groups}
 
@@ -56,7 +59,8 @@ stated_short : (field size : ℕ) (bytes : ℕ → List ℕ) → ((n : ℕ) → 
 stated_short field size bytes long None = omega arith
 stated_short field size bytes long (Some n) = omega (arith, long n)
 
-masked_short : (field size : ℕ) (bytes : ℕ → List ℕ) → ((n : ℕ) → length (bytes n) ≡ size) → (ones : ℕ) (x : Option (ℕ × ℕ)) → length (stated_masked field bytes ones x) ≤ 4 + size + size
+masked_short : (field size : ℕ) (bytes : ℕ → List ℕ) → ((n : ℕ) → length (bytes n) ≡ size) → (ones : ℕ) (x : Option (ℕ × ℕ))
+    → length (stated_masked field bytes ones x) ≤ 4 + size + size
 masked_short field size bytes long ones None = omega arith
 masked_short field size bytes long ones (Some a) = by (eqb a.1 ones)
   where
@@ -76,14 +80,18 @@ oxms_short m =
     let to_ip_proto = joined_short _ (stated 10 byte m.ip_proto) 20 5 to_eth_type (stated_short 10 1 byte (λ n. refl) m.ip_proto) in
     let to_eth_src = joined_short _ (stated 4 mac_bytes m.eth_src) 25 10 to_ip_proto (stated_short 4 6 mac_bytes (λ n. refl) m.eth_src) in
     let to_eth_dst = joined_short _ (stated 3 mac_bytes m.eth_dst) 35 10 to_eth_src (stated_short 3 6 mac_bytes (λ n. refl) m.eth_dst) in
-    let to_ipv4_src = joined_short _ (stated_masked 11 (to_be_bytes w32) ones32 m.ipv4_src) 45 12 to_eth_dst (masked_short 11 4 (to_be_bytes w32) (λ n. refl) ones32 m.ipv4_src) in
-    let to_ipv4_dst = joined_short _ (stated_masked 12 (to_be_bytes w32) ones32 m.ipv4_dst) 57 12 to_ipv4_src (masked_short 12 4 (to_be_bytes w32) (λ n. refl) ones32 m.ipv4_dst) in
+    let to_ipv4_src = joined_short _ (stated_masked 11 (to_be_bytes w32) ones32 m.ipv4_src) 45 12 to_eth_dst
+    (masked_short 11 4 (to_be_bytes w32) (λ n. refl) ones32 m.ipv4_src) in
+    let to_ipv4_dst = joined_short _ (stated_masked 12 (to_be_bytes w32) ones32 m.ipv4_dst) 57 12 to_ipv4_src
+    (masked_short 12 4 (to_be_bytes w32) (λ n. refl) ones32 m.ipv4_dst) in
     let to_tcp_src = joined_short _ (stated 13 (to_be_bytes w16) m.tcp_src) 69 6 to_ipv4_dst (stated_short 13 2 (to_be_bytes w16) (λ n. refl) m.tcp_src) in
     let to_tcp_dst = joined_short _ (stated 14 (to_be_bytes w16) m.tcp_dst) 75 6 to_tcp_src (stated_short 14 2 (to_be_bytes w16) (λ n. refl) m.tcp_dst) in
     let to_udp_src = joined_short _ (stated 15 (to_be_bytes w16) m.udp_src) 81 6 to_tcp_dst (stated_short 15 2 (to_be_bytes w16) (λ n. refl) m.udp_src) in
     let to_udp_dst = joined_short _ (stated 16 (to_be_bytes w16) m.udp_dst) 87 6 to_udp_src (stated_short 16 2 (to_be_bytes w16) (λ n. refl) m.udp_dst) in
-    let to_ipv6_src = joined_short _ (stated_masked 26 (to_be_bytes w128) ones128 m.ipv6_src) 93 36 to_udp_dst (masked_short 26 16 (to_be_bytes w128) (λ n. refl) ones128 m.ipv6_src) in
-    joined_short _ (stated_masked 27 (to_be_bytes w128) ones128 m.ipv6_dst) 129 36 to_ipv6_src (masked_short 27 16 (to_be_bytes w128) (λ n. refl) ones128 m.ipv6_dst)
+    let to_ipv6_src = joined_short _ (stated_masked 26 (to_be_bytes w128) ones128 m.ipv6_src) 93 36 to_udp_dst
+    (masked_short 26 16 (to_be_bytes w128) (λ n. refl) ones128 m.ipv6_src) in
+    joined_short _ (stated_masked 27 (to_be_bytes w128) ones128 m.ipv6_dst) 129 36 to_ipv6_src
+    (masked_short 27 16 (to_be_bytes w128) (λ n. refl) ones128 m.ipv6_dst)
 
 match_short : (m : MatchFields) → length (match_bytes m) ≤ 176
 unfolding match_bytes

@@ -32,7 +32,8 @@ module _ {L : Type 0} where
   pub leaf_counts : (ts : List (Tree L)) (k : ℕ) (l : L) → slice_get ts k ≡ Some (Tip l) → CountsAt ts k 1
   leaf_counts ts k l at = (Tip l, at, refl)
 
-  pub sides_count : (ts : List (Tree L)) (k i j : ℕ) (s : Test) (a b n : ℕ) → ShowsBranch ts k s i j → CountsAt ts i a → CountsAt ts j b → n ≡ capped (a + b) → CountsAt ts k n
+  pub sides_count : (ts : List (Tree L)) (k i j : ℕ) (s : Test) (a b n : ℕ) → ShowsBranch ts k s i j → CountsAt ts i a → CountsAt ts j b
+      → n ≡ capped (a + b) → CountsAt ts k n
   sides_count ts k i j s a b n shows first second is =
       let y = shows.yes_tree in
       let z = shows.no_tree in
@@ -40,11 +41,13 @@ module _ {L : Type 0} where
       let right : second.0 ≡ z = (let e = second.1 in let f = shows.no_is in cc) in (
         Fork s y z,
         shows.is,
-        is ∙ (λ p. capped (first.2 p + second.2 p)) ∙ (λ p. capped (capped (path_count (left p)) + capped (path_count (right p)))) ∙ capped_sum (path_count y) (path_count z),
+        is ∙ (λ p. capped (first.2 p + second.2 p)) ∙ (λ p. capped (capped (path_count (left p)) + capped (path_count (right p))))
+            ∙ capped_sum (path_count y) (path_count z),
       )
 
   -- one tree more is counted
-  pub count_more : (ts : List (Tree L)) (roots : List (ℕ × ℕ)) (i : ℕ) (root : ℕ × ℕ) (old more new : ℕ) → i < length roots → root ≡ get_or roots i root → CountsAt ts root.1 more
+  pub count_more : (ts : List (Tree L)) (roots : List (ℕ × ℕ)) (i : ℕ) (root : ℕ × ℕ) (old more new : ℕ) → i < length roots
+      → root ≡ get_or roots i root → CountsAt ts root.1 more
       → new ≡ capped (old + more)
       → capped (old + length (matches_of (trees_with ts (drop i roots)))) ≡ capped (length (matches_of (trees_with ts roots)))
       → capped (new + length (matches_of (trees_with ts (drop (i + 1) roots)))) ≡ capped (length (matches_of (trees_with ts roots)))
@@ -52,9 +55,11 @@ module _ {L : Type 0} where
       let t = counts.0 in
       let rest = matches_of (trees_with ts (drop (i + 1) roots)) in
       let next : drop i roots ≡ root ∷ drop (i + 1) roots = drop_more roots i root within ∙ ap (λ r. r ∷ drop (i + 1) roots) (sym at) in
-      let one : trees_with ts (root ∷ drop (i + 1) roots) ≡ (root.0, t) ∷ trees_with ts (drop (i + 1) roots) = ap (λ o. with_word root.0 o ++ trees_with ts (drop (i + 1) roots)) counts.1 in
+      let one : trees_with ts (root ∷ drop (i + 1) roots) ≡ (root.0, t) ∷ trees_with ts (drop (i + 1) roots) =
+      ap (λ o. with_word root.0 o ++ trees_with ts (drop (i + 1) roots)) counts.1 in
       let all : length (matches_of (trees_with ts (drop i roots))) ≡ path_count t + length rest =
-      ap (λ l. length (matches_of (trees_with ts l))) next ∙ ap (λ us. length (matches_of us)) one ∙ length-append (matches_below (vlan_match root.0) t) rest ∙ ap (λ k. k + length rest)
+      ap (λ l. length (matches_of (trees_with ts l))) next ∙ ap (λ us. length (matches_of us)) one
+      ∙ length-append (matches_below (vlan_match root.0) t) rest ∙ ap (λ k. k + length rest)
       (count_paths t (vlan_match root.0)) in
       let amount = counts.2 in
       let swap : capped (new + length rest) ≡ capped (old + (path_count t + length rest)) = omega (arith, sum, amount) in
@@ -62,11 +67,13 @@ module _ {L : Type 0} where
 
   -- at the end nothing is left
   pub count_all : (ts : List (Tree L)) (roots left : List (ℕ × ℕ)) (n : ℕ) → left ≡ [] → n ≡ capped n
-      → capped (n + length (matches_of (trees_with ts left))) ≡ capped (length (matches_of (trees_with ts roots))) → n ≡ capped (length (matches_of (trees_with ts roots)))
+      → capped (n + length (matches_of (trees_with ts left))) ≡ capped (length (matches_of (trees_with ts roots)))
+      → n ≡ capped (length (matches_of (trees_with ts roots)))
   count_all ts roots left n none small whole =
       let none_left : length (matches_of (trees_with ts left)) ≡ 0 = ap (λ l. length (matches_of (trees_with ts l))) none in
       small ∙ omega (arith, none_left) ∙ ap (λ k. capped (n + k)) (sym none_left) ∙ whole
 
   -- an id among roots
-  pub within_at : (ts : List (Tree L)) (roots : List (ℕ × ℕ)) (i : ℕ) (root : ℕ × ℕ) → AreWithin ts roots → i < length roots → root ≡ get_or roots i root → root.1 < length ts
+  pub within_at : (ts : List (Tree L)) (roots : List (ℕ × ℕ)) (i : ℕ) (root : ℕ × ℕ) → AreWithin ts roots → i < length roots
+      → root ≡ get_or roots i root → root.1 < length ts
   within_at ts roots i root all within at = subst (λ r. r.1 < length ts) (sym at) (all i root within)

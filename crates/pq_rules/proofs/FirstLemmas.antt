@@ -25,11 +25,17 @@ module _ {L : Type 0} (ts : List (Tree L)) (x : TaggedPacket) where
       by : (b : Bool) → covers n.0 x ≡ b → (if b then Some n else first_covering x ns) ≡ Some m →
           (first_covering x ns ≡ Some m → (d : MatchFields × ℕ) × (first_covering x es ≡ Some d) × (slice_get ts d.1 ≡ Some (Tip m.1)))
           → (d : MatchFields × ℕ) × (first_covering x (e ∷ es) ≡ Some d) × (slice_get ts d.1 ≡ Some (Tip m.1))
-      by true is here below = (e, ap (λ b. if b then Some e else first_covering x es) (same ∙ is), let one : n ≡ m = cc in subst (λ p. slice_get ts e.1 ≡ Some (Tip p.1)) one found.0.1)
+      by true is here below = (
+        e,
+        ap (λ b. if b then Some e else first_covering x es) (same ∙ is),
+        let one : n ≡ m = cc in
+            subst (λ p. slice_get ts e.1 ≡ Some (Tip p.1)) one found.0.1,
+      )
       by false is later below = let rest = below later in (rest.0, ap (λ b. if b then Some e else first_covering x es) (same ∙ is) ∙ rest.1, rest.2)
 
 module _ {L : Type 0} (ts : List (Tree L)) where
-  pub first_tells : (t : Tree L) (word : ℕ) (es : List (MatchFields × ℕ)) → IsMatchable t → AreFound ts (matches_below (vlan_match word) t) es → FirstTells ts t word es
+  pub first_tells : (t : Tree L) (word : ℕ) (es : List (MatchFields × ℕ)) → IsMatchable t
+      → AreFound ts (matches_below (vlan_match word) t) es → FirstTells ts t word es
   first_tells t word es matchable found x same =
       let answer = entries-answer t word x matchable same in
       first_found ts x (matches_below (vlan_match word) t) es (answer.0, value t x.packet) found answer.1

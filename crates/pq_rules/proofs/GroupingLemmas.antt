@@ -56,7 +56,8 @@ place_stays old new cs (Some p) grows place = (place.0, place.1, grows p place.0
 
 pub notes_stay : {S : Type 0} (old new : List (List Outgoing)) (ts : List (Tree (List Outgoing))) (known : IndexMap ℕ ℕ S) → Grows old new
     → Remembers (λ x y. x == y) (IsNoted old ts) known → Remembers (λ x y. x == y) (IsNoted new ts) known
-notes_stay old new ts known grows noted = remembers_still (λ x y. x == y) (IsNoted old ts) (IsNoted new ts) known (λ k p place. place_stays old new (leaf_at [] ts k) (Some p) grows place) noted
+notes_stay old new ts known grows noted = remembers_still (λ x y. x == y) (IsNoted old ts) (IsNoted new ts) known
+    (λ k p place. place_stays old new (leaf_at [] ts k) (Some p) grows place) noted
 
 -- what is left of the entries completes the places, whatever groups are added
 abbrev pub PlacesComplete : List (List Outgoing) → List (MatchFields × List Outgoing) → List (MatchFields × List Outgoing) → List (Option ℕ) → Type 0
@@ -67,7 +68,8 @@ pub none_placed : (gs : List (List Outgoing)) (es : List (MatchFields × List Ou
 none_placed gs es more rest grows places = places
 
 -- one place more
-pub one_placed : (old new : List (List Outgoing)) (es left : List (MatchFields × List Outgoing)) (e : MatchFields × List Outgoing) (places : List (Option ℕ)) (p : Option ℕ) → Grows old new
+pub one_placed : (old new : List (List Outgoing)) (es left : List (MatchFields × List Outgoing)) (e : MatchFields × List Outgoing)
+    (places : List (Option ℕ)) (p : Option ℕ) → Grows old new
     → IsPlace new e.1 p
     → PlacesComplete old es (e ∷ left) places → PlacesComplete new es left (places ++ p ∷ [])
 one_placed old new es left e places p grows place complete more rest later rests =
@@ -75,7 +77,8 @@ one_placed old new es left e places p grows place complete more rest later rests
     (complete more (p ∷ rest) (λ i g is. later i g (grows i g is)) (place_stays new more e.1 p later place, rests))
 
 -- at the end all are placed
-pub all_placed : (gs : List (List Outgoing)) (es left : List (MatchFields × List Outgoing)) (places : List (Option ℕ)) → left ≡ [] → PlacesComplete gs es left places → ArePlaces gs es places
+pub all_placed : (gs : List (List Outgoing)) (es left : List (MatchFields × List Outgoing)) (places : List (Option ℕ)) → left ≡ []
+    → PlacesComplete gs es left places → ArePlaces gs es places
 all_placed gs es left places none complete =
     subst (ArePlaces gs es) (append-nil places) (complete gs [] (grows_self gs) (subst (λ l. ArePlaces gs l []) (sym none) tt))
 
@@ -91,8 +94,10 @@ more_need_one (c ∷ []) more = absurd (omega arith)
 more_need_one (c ∷ d ∷ cs) more = refl
 
 -- a group more, and its place noted
-pub noted_more : {S : Type 0} (old new : List (List Outgoing)) (ts : List (Tree (List Outgoing))) (known more : IndexMap ℕ ℕ S) (k p : ℕ) (cs : List Outgoing) → cs ≡ leaf_at [] ts k → 2 ≤ length cs
-    → new ≡ insert_key copies_eq old (map in_bucket cs) → slice_get new p ≡ Some (map in_bucket cs) → Remembers (λ x y. x == y) (IsNoted old ts) known → Updates (λ x y. x == y) known more k (Some p)
+pub noted_more : {S : Type 0} (old new : List (List Outgoing)) (ts : List (Tree (List Outgoing))) (known more : IndexMap ℕ ℕ S) (k p : ℕ)
+    (cs : List Outgoing) → cs ≡ leaf_at [] ts k → 2 ≤ length cs
+    → new ≡ insert_key copies_eq old (map in_bucket cs) → slice_get new p ≡ Some (map in_bucket cs)
+    → Remembers (λ x y. x == y) (IsNoted old ts) known → Updates (λ x y. x == y) known more k (Some p)
     → Remembers (λ x y. x == y) (IsNoted new ts) more
 noted_more old new ts known more k p cs is many grown at noted updates =
     let grows : Grows old new = subst (Grows old) (sym grown) (insert_grows old (map in_bucket cs)) in
@@ -100,12 +105,17 @@ noted_more old new ts known more k p cs is many grown at noted updates =
     (map in_bucket cs, subst (λ l. group_copies l ≡ Some (map in_bucket cs)) is (more_need_one cs many), at) updates
 
 -- one entry more
-pub entry_grouped : (ts : List (Tree (List Outgoing))) (es : List (MatchFields × ℕ)) (i : ℕ) (e : MatchFields × ℕ) (old new : List (List Outgoing)) (places placed : List (Option ℕ)) (p : Option ℕ)
-    → i < length es → e ≡ get_or es i e → new ≡ with_group old (group_copies (leaf_at [] ts e.1)) → IsPlace new (leaf_at [] ts e.1) p → placed ≡ places ++ p ∷ []
-    → with_groups old (resolved [] ts (drop i es)) ≡ with_groups [] (resolved [] ts es) → PlacesComplete old (resolved [] ts es) (resolved [] ts (drop i es)) places
-    → (with_groups new (resolved [] ts (drop (i + 1) es)) ≡ with_groups [] (resolved [] ts es)) × PlacesComplete new (resolved [] ts es) (resolved [] ts (drop (i + 1) es)) placed
+pub entry_grouped : (ts : List (Tree (List Outgoing))) (es : List (MatchFields × ℕ)) (i : ℕ) (e : MatchFields × ℕ)
+    (old new : List (List Outgoing)) (places placed : List (Option ℕ)) (p : Option ℕ)
+    → i < length es → e ≡ get_or es i e → new ≡ with_group old (group_copies (leaf_at [] ts e.1)) → IsPlace new (leaf_at [] ts e.1) p
+    → placed ≡ places ++ p ∷ []
+    → with_groups old (resolved [] ts (drop i es)) ≡ with_groups [] (resolved [] ts es)
+    → PlacesComplete old (resolved [] ts es) (resolved [] ts (drop i es)) places
+    → (with_groups new (resolved [] ts (drop (i + 1) es)) ≡ with_groups [] (resolved [] ts es)) × PlacesComplete new (resolved [] ts es)
+    (resolved [] ts (drop (i + 1) es)) placed
 entry_grouped ts es i e old new places placed p within is grown place pushed groups complete =
-    let next : resolved [] ts (drop i es) ≡ (e.0, leaf_at [] ts e.1) ∷ resolved [] ts (drop (i + 1) es) = ap (resolved [] ts) (drop_more es i e within ∙ ap (λ d. d ∷ drop (i + 1) es) (sym is)) in
+    let next : resolved [] ts (drop i es) ≡ (e.0, leaf_at [] ts e.1) ∷ resolved [] ts (drop (i + 1) es) =
+    ap (resolved [] ts) (drop_more es i e within ∙ ap (λ d. d ∷ drop (i + 1) es) (sym is)) in
     let grows : Grows old new = subst (Grows old) (sym grown) (group_grows old (group_copies (leaf_at [] ts e.1))) in (
       ap (λ gs. with_groups gs (resolved [] ts (drop (i + 1) es))) grown ∙ ap (with_groups old) (sym next) ∙ groups,
       subst (PlacesComplete new (resolved [] ts es) (resolved [] ts (drop (i + 1) es))) (sym pushed)

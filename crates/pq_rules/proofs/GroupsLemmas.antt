@@ -38,7 +38,8 @@ two_tests false false into back = refl
 same_tests : (g h : List Outgoing) → IsShown g → IsShown h → same_buckets (buckets_of g) (buckets_of h) ≡ copies_eq g h
 same_tests g h first second =
     two_tests (same_buckets (buckets_of g) (buckets_of h)) (copies_eq g h)
-    (λ same. subst (λ k. copies_eq g k ≡ true) (sym first.shown ∙ same_shown g h first.sound second.sound (buckets_exact (buckets_of g) (buckets_of h) same) ∙ second.shown) (copies_equiv.refl g))
+    (λ same. subst (λ k. copies_eq g k ≡ true) (sym first.shown
+    ∙ same_shown g h first.sound second.sound (buckets_exact (buckets_of g) (buckets_of h) same) ∙ second.shown) (copies_equiv.refl g))
     (λ same. subst (λ k. same_buckets (buckets_of g) (buckets_of k) ≡ true) (same_copies g h same) (buckets_itself (buckets_of g)))
 
 -- Groups of entries.
@@ -52,7 +53,8 @@ once_made [] all = refl
 once_made (g ∷ gs) all =
     ap (λ l. buckets_of g ∷ filter (λ c. not (same_buckets (buckets_of g) c)) l) (once_made gs all.1)
     ∙ ap (λ l. buckets_of g ∷ l)
-    (filter_made IsShown buckets_of (λ c. not (same_buckets (buckets_of g) c)) (λ h. not (copies_eq g h)) (λ h shown. ap not (same_tests g h all.0 shown)) (once copies_eq gs)
+    (filter_made IsShown buckets_of (λ c. not (same_buckets (buckets_of g) c)) (λ h. not (copies_eq g h))
+    (λ h shown. ap not (same_tests g h all.0 shown)) (once copies_eq gs)
     (once_keeps copies_eq IsShown gs all.1))
 
 -- the groups that entries need, in order
@@ -65,7 +67,8 @@ needed_made [] = refl
 needed_made (e ∷ es) = by e.1 (needed_made es)
   where
     by : (cs : List Outgoing) → filter_map (λ d. group_needed d.1) es ≡ map buckets_of (filter_map (λ d. group_copies d.1) es)
-        → cons_option (group_needed cs) (filter_map (λ d. group_needed d.1) es) ≡ map buckets_of (cons_option (group_copies cs) (filter_map (λ d. group_copies d.1) es))
+        → cons_option (group_needed cs) (filter_map (λ d. group_needed d.1) es)
+        ≡ map buckets_of (cons_option (group_copies cs) (filter_map (λ d. group_copies d.1) es))
     by [] rest = rest
     by (c ∷ []) rest = rest
     by (c ∷ d ∷ cs) rest = (λ i. sym (shown_buckets (c ∷ d ∷ cs)) i ∷ rest i)
@@ -87,7 +90,14 @@ shown_fit CaptureOut w fit = record {
 
 shown_sound : (cs : List Outgoing) → AllByRecursion IsSoundCopy cs → AllByRecursion IsSoundCopy (map in_bucket cs)
 shown_sound [] sound = tt
-shown_sound (c ∷ cs) sound = (record { tag = sound.0.tag; fit = shown_fit c.kind c.writes sound.0.fit; port = shown_port c.kind c.writes sound.0.port }, shown_sound cs sound.1)
+shown_sound (c ∷ cs) sound = (
+  record {
+    tag = sound.0.tag;
+    fit = shown_fit c.kind c.writes sound.0.fit;
+    port = shown_port c.kind c.writes sound.0.port;
+  },
+  shown_sound cs sound.1,
+)
 
 group_shown : (cs g : List Outgoing) → AllByRecursion IsSoundCopy cs → group_copies cs ≡ Some g → IsShown g
 group_shown [] g sound is = absurd cc
@@ -105,7 +115,8 @@ unfolding AllShown needed
 needed_shown [] sound = tt
 needed_shown (e ∷ es) sound = by (group_copies e.1) refl (needed_shown es sound.1)
   where
-    by : (o : Option (List Outgoing)) → group_copies e.1 ≡ o → AllShown (needed es) → AllByRecursion IsShown (cons_option o (filter_map (λ d. group_copies d.1) es))
+    by : (o : Option (List Outgoing)) → group_copies e.1 ≡ o → AllShown (needed es)
+        → AllByRecursion IsShown (cons_option o (filter_map (λ d. group_copies d.1) es))
     by None is rest = rest
     by (Some g) is rest = (group_shown e.1 g sound.0 is, rest)
 
@@ -115,7 +126,8 @@ unfolding needed
 taken_needed [] gs = refl
 taken_needed (e ∷ es) gs = by (group_copies e.1) (λ hs. taken_needed es hs)
   where
-    by : (o : Option (List Outgoing)) → ((hs : List (List Outgoing)) → with_groups hs es ≡ insert_all copies_eq hs (needed es)) → with_groups (with_group gs o) es ≡ insert_all copies_eq gs
+    by : (o : Option (List Outgoing)) → ((hs : List (List Outgoing)) → with_groups hs es ≡ insert_all copies_eq hs (needed es))
+        → with_groups (with_group gs o) es ≡ insert_all copies_eq gs
         (cons_option o (filter_map (λ d. group_copies d.1) es))
     by None rest = rest gs
     by (Some g) rest = rest (insert_key copies_eq gs g)
@@ -137,7 +149,8 @@ groups_distinct es = subst (IsDistinct copies_eq) (sym (all_once es)) (once_dist
 
 -- Numbers of groups.
 
-differs : (g : List Outgoing) (gs : List (List Outgoing)) (h : List Outgoing) (p : ℕ) → AllByRecursion (λ k. copies_eq g k ≡ false) gs → slice_get gs p ≡ Some h → copies_eq g h ≡ false
+differs : (g : List Outgoing) (gs : List (List Outgoing)) (h : List Outgoing) (p : ℕ) → AllByRecursion (λ k. copies_eq g k ≡ false) gs
+    → slice_get gs p ≡ Some h → copies_eq g h ≡ false
 differs g [] h p apart at = absurd cc
 differs g (k ∷ gs) h zero apart at = let one : k ≡ h = cc in subst (λ l. copies_eq g l ≡ false) one apart.0
 differs g (k ∷ gs) h (suc p) apart at = differs g gs h p apart.1 at
@@ -148,13 +161,15 @@ shown_at (k ∷ gs) h zero all at = let one : k ≡ h = cc in subst IsShown one 
 shown_at (k ∷ gs) h (suc p) all at = shown_at gs h p all.1 at
 
 -- a group at a place has the number after it
-numbered : (gs : List (List Outgoing)) (h : List Outgoing) (p : ℕ) → IsDistinct copies_eq gs → AllByRecursion IsShown gs → slice_get gs p ≡ Some h → group_number (map buckets_of gs)
+numbered : (gs : List (List Outgoing)) (h : List Outgoing) (p : ℕ) → IsDistinct copies_eq gs → AllByRecursion IsShown gs
+    → slice_get gs p ≡ Some h → group_number (map buckets_of gs)
     (buckets_of h) ≡ p + 1
 unfolding IsDistinct
 numbered [] h p apart all at = absurd cc
 numbered (k ∷ gs) h zero apart all at =
     let one : k ≡ h = cc in
-    ap (λ b. if b then 1 else suc (group_number (map buckets_of gs) (buckets_of h))) (subst (λ l. same_buckets (buckets_of k) (buckets_of l) ≡ true) one (buckets_itself (buckets_of k)))
+    ap (λ b. if b then 1 else suc (group_number (map buckets_of gs) (buckets_of h)))
+    (subst (λ l. same_buckets (buckets_of k) (buckets_of l) ≡ true) one (buckets_itself (buckets_of k)))
 numbered (k ∷ gs) h (suc p) apart all at =
     let other : same_buckets (buckets_of k) (buckets_of h) ≡ false = same_tests k h all.0 (shown_at gs h p all.1 at) ∙ differs k gs h p apart.0 at in
     ap (λ b. if b then 1 else suc (group_number (map buckets_of gs) (buckets_of h))) other ∙ omega (arith, numbered gs h p apart.1 all.1 at)
@@ -170,9 +185,11 @@ actions_placed gs (c ∷ []) (Some p) apart all place = absurd (let is = place.1
 actions_placed gs (c ∷ d ∷ cs) (Some p) apart all place =
     let one : place.0 ≡ map in_bucket (c ∷ d ∷ cs) = let is = place.1 in cc in
     ap (λ n. Group n ∷ [])
-    (sym (numbered gs place.0 p apart all place.2) ∙ ap (λ g. group_number (map buckets_of gs) (buckets_of g)) one ∙ ap (group_number (map buckets_of gs)) (shown_buckets (c ∷ d ∷ cs)))
+    (sym (numbered gs place.0 p apart all place.2) ∙ ap (λ g. group_number (map buckets_of gs) (buckets_of g)) one
+    ∙ ap (group_number (map buckets_of gs)) (shown_buckets (c ∷ d ∷ cs)))
 
-pub rules_placed : (gs : List (List Outgoing)) (es : List (MatchFields × List Outgoing)) (ps : List (Option ℕ)) → IsDistinct copies_eq gs → AllByRecursion IsShown gs → ArePlaces gs es ps
+pub rules_placed : (gs : List (List Outgoing)) (es : List (MatchFields × List Outgoing)) (ps : List (Option ℕ)) → IsDistinct copies_eq gs
+    → AllByRecursion IsShown gs → ArePlaces gs es ps
     → placed_rules es ps ≡ map (second_rule (map buckets_of gs)) es
 rules_placed gs [] ps apart all places = refl
 rules_placed gs (e ∷ es) [] apart all places = absurd places
@@ -192,7 +209,8 @@ pub groups_few : (es : List (MatchFields × List Outgoing)) (gs : List (List Out
 groups_few [] gs = omega arith
 groups_few (e ∷ es) gs = by (group_copies e.1) (λ hs. groups_few es hs)
   where
-    by : (o : Option (List Outgoing)) → ((hs : List (List Outgoing)) → length (with_groups hs es) ≤ length hs + length es) → length (with_groups (with_group gs o) es) ≤ length gs + suc (length es)
+    by : (o : Option (List Outgoing)) → ((hs : List (List Outgoing)) → length (with_groups hs es) ≤ length hs + length es)
+        → length (with_groups (with_group gs o) es) ≤ length gs + suc (length es)
     by None rest = omega (arith, rest gs)
     by (Some g) rest = omega (arith, rest (insert_key copies_eq gs g), insert_length gs g)
 
@@ -201,7 +219,8 @@ place_below [] p g at = absurd cc
 place_below (h ∷ gs) zero g at = omega arith
 place_below (h ∷ gs) (suc p) g at = omega (arith, place_below gs p g at)
 
-places_below : (n : ℕ) (gs : List (List Outgoing)) (es : List (MatchFields × List Outgoing)) (ps : List (Option ℕ)) → length gs ≤ n → ArePlaces gs es ps → AllByRecursion
+places_below : (n : ℕ) (gs : List (List Outgoing)) (es : List (MatchFields × List Outgoing)) (ps : List (Option ℕ)) → length gs ≤ n
+    → ArePlaces gs es ps → AllByRecursion
     (λ p. IfSome p (λ k. k < n)) ps
 places_below n gs [] [] few places = tt
 places_below n gs [] (p ∷ ps) few places = absurd places
@@ -212,7 +231,8 @@ places_below n gs (e ∷ es) (p ∷ ps) small places = (by p places.0, places_be
     by None place = tt
     by (Some k) place = omega (arith, small, place_below gs k place.0 place.2)
 
-pub places_few : (gs : List (List Outgoing)) (es : List (MatchFields × List Outgoing)) (ps : List (Option ℕ)) → length gs ≤ few → ArePlaces gs es ps → AreFewPlaces ps
+pub places_few : (gs : List (List Outgoing)) (es : List (MatchFields × List Outgoing)) (ps : List (Option ℕ)) → length gs ≤ few
+    → ArePlaces gs es ps → AreFewPlaces ps
 places_few gs es ps small places = All-from_recursion (λ p. IfSome p (λ n. n < few)) ps (places_below few gs es ps small places)
 
 pub places_long : (gs : List (List Outgoing)) (es : List (MatchFields × List Outgoing)) (ps : List (Option ℕ)) → ArePlaces gs es ps → length ps ≡ length es
@@ -230,7 +250,8 @@ groups_sound gs all = All-from_recursion (All IsSoundCopy) gs (each gs all)
     each (h ∷ hs) all = (All-from_recursion IsSoundCopy h all.0.sound, each hs all.1)
 
 -- what holds of the group of each entry holds of all groups
-needed_all : (P : List Outgoing → Type 0) (es : List (MatchFields × List Outgoing)) → AllByRecursion (λ e. (g : List Outgoing) → group_copies e.1 ≡ Some g → P g) es → AllByRecursion P (needed es)
+needed_all : (P : List Outgoing → Type 0) (es : List (MatchFields × List Outgoing))
+    → AllByRecursion (λ e. (g : List Outgoing) → group_copies e.1 ≡ Some g → P g) es → AllByRecursion P (needed es)
 unfolding needed
 needed_all P [] all = tt
 needed_all P (e ∷ es) all = by (group_copies e.1) (λ g is. all.0 g is) (needed_all P es all.1)
@@ -240,6 +261,7 @@ needed_all P (e ∷ es) all = by (group_copies e.1) (λ g is. all.0 g is) (neede
     by None here rest = rest
     by (Some g) here rest = (here g refl, rest)
 
-pub groups_all : (P : List Outgoing → Type 0) (es : List (MatchFields × List Outgoing)) → AllByRecursion (λ e. (g : List Outgoing) → group_copies e.1 ≡ Some g → P g) es → AllByRecursion P
+pub groups_all : (P : List Outgoing → Type 0) (es : List (MatchFields × List Outgoing))
+    → AllByRecursion (λ e. (g : List Outgoing) → group_copies e.1 ≡ Some g → P g) es → AllByRecursion P
     (with_groups [] es)
 groups_all P es all = subst (AllByRecursion P) (sym (all_once es)) (once_keeps copies_eq P (needed es) (needed_all P es all))

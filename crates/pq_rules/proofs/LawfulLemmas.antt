@@ -1,5 +1,6 @@
 -- The messages of a switch are lawful.
-use Rattle.std.proofs.Common.{◌≡◌, ◌≢◌, inl, inr, ℕ, suc, ◌+◌, ◌^◌, ◌<◌, ◌≤◌, Bool, true, false, not, if◌then◌else◌, List, [], ◌∷◌, ◌++◌, Some, None, length, map, refl, sym, ap, subst, ◌∙◌, arith}
+use Rattle.std.proofs.Common.{◌≡◌, ◌≢◌, inl, inr, ℕ, suc, ◌+◌, ◌^◌, ◌<◌, ◌≤◌, Bool, true, false, not, if◌then◌else◌, List, [], ◌∷◌, ◌++◌}
+use Rattle.std.proofs.Common.{Some, None, length, map, refl, sym, ap, subst, ◌∙◌, arith}
 use Rattle.std.specs.Prelude.{All, nat_lt}
 use Rattle.std.specs.List.{AllByRecursion}
 use Rattle.std.specs.declared.option.Option.{Option}
@@ -37,12 +38,15 @@ module _ {L : Type 0} where
   below_lawful : (t : Tree L) (m : MatchFields) → IsLawfulMatch m → StaysLawful m t → AllByRecursion (λ e. IsLawfulMatch e.0) (matches_below m t)
   below_lawful (Tip l) m lawful stays = (lawful, tt)
   below_lawful (Fork s y n) m lawful stays =
-      all_append (λ e. IsLawfulMatch e.0) (matches_below (passing s m) y) (matches_below (failing s m) n) (below_lawful y (passing s m) stays.1 stays.3) (below_lawful n (failing s m) stays.2 stays.4)
+      all_append (λ e. IsLawfulMatch e.0) (matches_below (passing s m) y) (matches_below (failing s m) n)
+      (below_lawful y (passing s m) stays.1 stays.3) (below_lawful n (failing s m) stays.2 stays.4)
 
-  table_lawful : (blank : L → Bool) (trees : List (ℕ × Tree L)) → AllByRecursion (λ p. IsKeyWord p.0 × StaysLawful (vlan_match p.0) p.1) trees → AllByRecursion (λ e. IsLawfulMatch e.0)
+  table_lawful : (blank : L → Bool) (trees : List (ℕ × Tree L))
+      → AllByRecursion (λ p. IsKeyWord p.0 × StaysLawful (vlan_match p.0) p.1) trees → AllByRecursion (λ e. IsLawfulMatch e.0)
       (table_of blank trees)
   table_lawful blank [] all = tt
-  table_lawful blank (p ∷ ps) all = all_append (λ e. IsLawfulMatch e.0) (entries_of blank p) (table_of blank ps) (by (is_blank blank p.1)) (table_lawful blank ps all.1)
+  table_lawful blank (p ∷ ps) all = all_append (λ e. IsLawfulMatch e.0) (entries_of blank p) (table_of blank ps) (by (is_blank blank p.1))
+      (table_lawful blank ps all.1)
     where
       by : (b : Bool) → AllByRecursion (λ e. IsLawfulMatch e.0) (if b then [] else matches_below (vlan_match p.0) p.1)
       by true = tt
@@ -51,13 +55,15 @@ module _ {L : Type 0} where
 arriving_lawful : (firsts : ArrivingTrees) → AreSoundArriving firsts → AllByRecursion (λ e. IsLawfulMatch e.0) (table_of is_nothing firsts)
 arriving_lawful firsts sound =
     table_lawful is_nothing firsts
-    (all_weaker (λ p. IsSoundArriving p.0 p.1) (λ p. IsKeyWord p.0 × StaysLawful (vlan_match p.0) p.1) firsts (λ p h. (h.vlan, stays_lawful p.0 p.1 h.vlan h.matchable))
+    (all_weaker (λ p. IsSoundArriving p.0 p.1) (λ p. IsKeyWord p.0 × StaysLawful (vlan_match p.0) p.1) firsts
+    (λ p h. (h.vlan, stays_lawful p.0 p.1 h.vlan h.matchable))
     (recursion_from_All (λ p. IsSoundArriving p.0 p.1) firsts sound.each))
 
 leaving_lawful : (seconds : LeavingTrees) → AreSoundLeaving seconds → AllByRecursion (λ e. IsLawfulMatch e.0) (leaving_entries seconds)
 leaving_lawful seconds sound =
     table_lawful is_without seconds
-    (all_weaker (λ p. IsSoundLeaving p.0 p.1) (λ p. IsKeyWord p.0 × StaysLawful (vlan_match p.0) p.1) seconds (λ p h. (inr h.vlan, stays_lawful p.0 p.1 (inr h.vlan) h.matchable))
+    (all_weaker (λ p. IsSoundLeaving p.0 p.1) (λ p. IsKeyWord p.0 × StaysLawful (vlan_match p.0) p.1) seconds
+    (λ p h. (inr h.vlan, stays_lawful p.0 p.1 (inr h.vlan) h.matchable))
     (recursion_from_All (λ p. IsSoundLeaving p.0 p.1) seconds sound.each))
 
 -- Rules.
@@ -86,7 +92,8 @@ number_few (c ∷ gs) b = by (same_buckets c b) (number_few gs b)
     by true rest = omega arith
     by false rest = omega (arith, rest)
 
-second_lawful : (gs : List Buckets) (e : MatchFields × List Outgoing) → length gs ≤ 16384 → IsLawfulMatch e.0 → AllByRecursion IsSoundCopy e.1 → IsLawfulRule 1 (second_rule gs e)
+second_lawful : (gs : List Buckets) (e : MatchFields × List Outgoing) → length gs ≤ 16384 → IsLawfulMatch e.0
+    → AllByRecursion IsSoundCopy e.1 → IsLawfulRule 1 (second_rule gs e)
 second_lawful gs e few lawful sound = by e.1 sound
   where
     by : (cs : List Outgoing) → AllByRecursion IsSoundCopy cs → IsLawfulRule 1 (second_rule gs (e.0, cs))
@@ -96,7 +103,8 @@ second_lawful gs e few lawful sound = by e.1 sound
         let number = number_few gs (buckets_of (c ∷ d ∷ cs)) in
         record { matching = lawful; actions = (omega (arith, number, few), tt); few = omega arith; goto = tt }
 
-rules_lawful : {A : Type 0} (table : ℕ) (f : A → Rule) (P : A → Type 0) → ((a : A) → P a → IsLawfulRule table (f a)) → (xs : List A) → AllByRecursion P xs → AllByRecursion
+rules_lawful : {A : Type 0} (table : ℕ) (f : A → Rule) (P : A → Type 0) → ((a : A) → P a → IsLawfulRule table (f a)) → (xs : List A)
+    → AllByRecursion P xs → AllByRecursion
     (IsLawfulRule table) (map f xs)
 rules_lawful table f P lawful [] all = tt
 rules_lawful table f P lawful (x ∷ xs) all = (lawful x all.0, rules_lawful table f P lawful xs all.1)
@@ -107,7 +115,8 @@ both_hold P Q (x ∷ xs) first second = ((first.0, second.0), both_hold P Q xs f
 
 -- Messages.
 
-adds_lawful : (rs : List Rule) (xid table index : ℕ) → table ≤ 254 → xid + length rs < 2 ^ 32 → AllByRecursion (IsLawfulRule table) rs → AllByRecursion IsLawfulMessage
+adds_lawful : (rs : List Rule) (xid table index : ℕ) → table ≤ 254 → xid + length rs < 2 ^ 32 → AllByRecursion (IsLawfulRule table) rs
+    → AllByRecursion IsLawfulMessage
     (map Flow (adds_from xid table index rs))
 adds_lawful [] xid table index within few all = tt
 adds_lawful (r ∷ rs) xid table index within few all =
@@ -132,7 +141,8 @@ record AreLawfulBuckets (b : Buckets) : Type 0 where
   few : AllByRecursion (λ as_. length as_ ≤ 10) b
   small : length b ≤ 256
 
-groups_lawful : (bs : List Buckets) (xid number : ℕ) → 1 ≤ number → number + length bs ≤ 0xffffff00 → xid + length bs < 2 ^ 32 → AllByRecursion AreLawfulBuckets bs
+groups_lawful : (bs : List Buckets) (xid number : ℕ) → 1 ≤ number → number + length bs ≤ 0xffffff00 → xid + length bs < 2 ^ 32
+    → AllByRecursion AreLawfulBuckets bs
     → AllByRecursion IsLawfulMessage (map Grouping (groups_from xid number bs))
 groups_lawful [] xid number some less few all = tt
 groups_lawful (b ∷ bs) xid number some less few all =
@@ -186,7 +196,8 @@ few_each : (es : List (MatchFields × List Outgoing)) → many_copies es ≡ Non
 few_each [] few = tt
 few_each (e ∷ es) few = by (nat_lt 256 (length e.1)) refl few (few_each es)
   where
-    by : (b : Bool) → nat_lt 256 (length e.1) ≡ b → (if b then Some (length e.1) else many_copies es) ≡ None → (many_copies es ≡ None → AllByRecursion (λ d. length d.1 ≤ 256) es)
+    by : (b : Bool) → nat_lt 256 (length e.1) ≡ b → (if b then Some (length e.1) else many_copies es) ≡ None
+        → (many_copies es ≡ None → AllByRecursion (λ d. length d.1 ≤ 256) es)
         → AllByRecursion (λ d. length d.1 ≤ 256) (e ∷ es)
     by true is none rest = absurd cc
     by false is none rest = (
@@ -218,17 +229,20 @@ group_buckets (c ∷ cs) shown group = record {
   small = let same = length-map (c ∷ cs) (copy_actions true) in let few = group.few in omega (arith, same, few);
 }
 
-made_all : {A B : Type 0} (f : A → B) (P : A → Type 0) (Q : B → Type 0) → ((a : A) → P a → Q (f a)) → (xs : List A) → AllByRecursion P xs → AllByRecursion Q (map f xs)
+made_all : {A B : Type 0} (f : A → B) (P : A → Type 0) (Q : B → Type 0) → ((a : A) → P a → Q (f a)) → (xs : List A) → AllByRecursion P xs
+    → AllByRecursion Q (map f xs)
 made_all f P Q such [] all = tt
 made_all f P Q such (x ∷ xs) all = (such x all.0, made_all f P Q such xs all.1)
 
 sound_entries : (seconds : LeavingTrees) → AreSoundLeaving seconds → SoundEntries (leaving_entries seconds)
-sound_entries seconds sound = all_weaker (λ e. All IsSoundCopy e.1) (λ e. AllByRecursion IsSoundCopy e.1) (leaving_entries seconds) (λ e h. recursion_from_All IsSoundCopy e.1 h)
+sound_entries seconds sound = all_weaker (λ e. All IsSoundCopy e.1) (λ e. AllByRecursion IsSoundCopy e.1) (leaving_entries seconds)
+    (λ e h. recursion_from_All IsSoundCopy e.1 h)
     (leaving_leaves seconds sound)
 
 groups_of_lawful : (es : List (MatchFields × List Outgoing)) → SoundEntries es → many_copies es ≡ None → AllByRecursion AreLawfulBuckets (groups_of es)
 groups_of_lawful es sound few =
-    let groups = groups_all IsGroup es (all_weaker (λ e. length e.1 ≤ 256) (λ e. (g : List Outgoing) → group_copies e.1 ≡ Some g → IsGroup g) es (λ e small g is. group_such e.1 g small is)
+    let groups = groups_all IsGroup es (all_weaker (λ e. length e.1 ≤ 256) (λ e. (g : List Outgoing) → group_copies e.1 ≡ Some g
+    → IsGroup g) es (λ e small g is. group_such e.1 g small is)
     (few_each es few)) in
     subst (AllByRecursion AreLawfulBuckets) (sym (groups_made es sound))
     (made_all buckets_of (λ g. IsShown g × IsGroup g) AreLawfulBuckets (λ g h. group_buckets g h.0 h.1) (with_groups [] es)
@@ -240,7 +254,8 @@ groups_of_few es sound =
 
 -- The whole.
 
-module _ (limit : ℕ) (firsts : ArrivingTrees) (seconds : LeavingTrees) (arriving : AreSoundArriving firsts) (leaving : AreSoundLeaving seconds) (few : limit ≤ 16384)
+module _ (limit : ℕ) (firsts : ArrivingTrees) (seconds : LeavingTrees) (arriving : AreSoundArriving firsts)
+    (leaving : AreSoundLeaving seconds) (few : limit ≤ 16384)
     (fit : FitRules limit firsts seconds) where
   group_count : length (groups_of (leaving_entries seconds)) ≤ 16384
   group_count = let small = fit.tables.leaving in omega (arith, groups_of_few (leaving_entries seconds) (sound_entries seconds leaving), small, few)
@@ -249,19 +264,22 @@ module _ (limit : ℕ) (firsts : ArrivingTrees) (seconds : LeavingTrees) (arrivi
   first_count = let small = fit.tables.arriving in let same = length-map (table_of is_nothing firsts) first_rule in omega (arith, same, small, few)
 
   second_count : length (second_rules seconds) ≤ 16384
-  second_count = let small = fit.tables.leaving in let same = length-map (leaving_entries seconds) (second_rule (groups_of (leaving_entries seconds))) in omega (arith, same, small, few)
+  second_count = let small = fit.tables.leaving in
+      let same = length-map (leaving_entries seconds) (second_rule (groups_of (leaving_entries seconds))) in omega (arith, same, small, few)
 
   firsts_lawful : AllByRecursion (IsLawfulRule 0) (first_rules firsts)
   firsts_lawful =
       rules_lawful 0 first_rule (λ e. IsLawfulMatch e.0 × IsSoundArrival e.1) (λ e h. first_lawful e h.0 h.1) (table_of is_nothing firsts)
-      (both_hold (λ e. IsLawfulMatch e.0) (λ e. IsSoundArrival e.1) (table_of is_nothing firsts) (arriving_lawful firsts arriving) (arriving_leaves firsts arriving))
+      (both_hold (λ e. IsLawfulMatch e.0) (λ e. IsSoundArrival e.1) (table_of is_nothing firsts) (arriving_lawful firsts arriving)
+      (arriving_leaves firsts arriving))
 
   seconds_lawful : AllByRecursion (IsLawfulRule 1) (second_rules seconds)
   seconds_lawful =
       rules_lawful 1 (second_rule (groups_of (leaving_entries seconds))) (λ e. IsLawfulMatch e.0 × AllByRecursion IsSoundCopy e.1)
       (λ e h. second_lawful (groups_of (leaving_entries seconds)) e group_count h.0 h.1)
       (leaving_entries seconds)
-      (both_hold (λ e. IsLawfulMatch e.0) (λ e. AllByRecursion IsSoundCopy e.1) (leaving_entries seconds) (leaving_lawful seconds leaving) (sound_entries seconds leaving))
+      (both_hold (λ e. IsLawfulMatch e.0) (λ e. AllByRecursion IsSoundCopy e.1) (leaving_entries seconds) (leaving_lawful seconds leaving)
+      (sound_entries seconds leaving))
 
   each_lawful : AllByRecursion IsLawfulMessage (messages_of firsts seconds)
   each_lawful =
@@ -271,10 +289,15 @@ module _ (limit : ℕ) (firsts : ArrivingTrees) (seconds : LeavingTrees) (arrivi
       let groups = groups_lawful (groups_of (leaving_entries seconds)) 4 1 (omega arith) (omega (arith, group_count)) (omega (arith, group_count))
       (groups_of_lawful (leaving_entries seconds) (sound_entries seconds leaving) fit.groups) in
       let first = adds_lawful (first_rules firsts) (suc (4 + n)) 0 0 (omega arith) (omega (arith, group_count, first_count)) firsts_lawful in
-      let second = adds_lawful (second_rules seconds) (suc (4 + n) + a) 1 0 (omega arith) (omega (arith, group_count, first_count, second_count)) seconds_lawful in
-      let adds : AllByRecursion IsLawfulMessage (map Flow (adds_from (suc (4 + n)) 0 0 (first_rules firsts) ++ adds_from (suc (4 + n) + a) 1 0 (second_rules seconds))) =
-      subst (AllByRecursion IsLawfulMessage) (sym (map-append Flow (adds_from (suc (4 + n)) 0 0 (first_rules firsts)) (adds_from (suc (4 + n) + a) 1 0 (second_rules seconds))))
-      (all_append IsLawfulMessage (map Flow (adds_from (suc (4 + n)) 0 0 (first_rules firsts))) (map Flow (adds_from (suc (4 + n) + a) 1 0 (second_rules seconds))) first second) in (
+      let second = adds_lawful (second_rules seconds) (suc (4 + n) + a) 1 0 (omega arith)
+      (omega (arith, group_count, first_count, second_count)) seconds_lawful in
+      let adds : AllByRecursion IsLawfulMessage
+      (map Flow (adds_from (suc (4 + n)) 0 0 (first_rules firsts) ++ adds_from (suc (4 + n) + a) 1 0 (second_rules seconds))) =
+      subst (AllByRecursion IsLawfulMessage)
+      (sym (map-append Flow (adds_from (suc (4 + n)) 0 0 (first_rules firsts))
+      (adds_from (suc (4 + n) + a) 1 0 (second_rules seconds))))
+      (all_append IsLawfulMessage (map Flow (adds_from (suc (4 + n)) 0 0 (first_rules firsts)))
+      (map Flow (adds_from (suc (4 + n) + a) 1 0 (second_rules seconds))) first second) in (
         away_lawful,
         (
           groups_away_lawful,
@@ -282,7 +305,9 @@ module _ (limit : ℕ) (firsts : ArrivingTrees) (seconds : LeavingTrees) (arrivi
             barrier_lawful 3 (omega arith),
             all_append IsLawfulMessage (map Grouping (groups_from 4 1 (groups_of (leaving_entries seconds)))) _ groups (
               barrier_lawful (4 + n) (omega (arith, group_count)),
-              all_append IsLawfulMessage (map Flow (adds_from (suc (4 + n)) 0 0 (first_rules firsts) ++ adds_from (suc (4 + n) + a) 1 0 (second_rules seconds))) _ adds
+              all_append IsLawfulMessage
+                  (map Flow (adds_from (suc (4 + n)) 0 0 (first_rules firsts) ++ adds_from (suc (4 + n) + a) 1 0 (second_rules seconds))) _
+                  adds
                   (barrier_lawful (suc (4 + n) + a + b) (omega (arith, group_count, first_count, second_count)), tt),
             ),
           ),
@@ -298,7 +323,9 @@ module _ (limit : ℕ) (firsts : ArrivingTrees) (seconds : LeavingTrees) (arrivi
       let n = length (groups_of (leaving_entries seconds)) in
       let adds = adds_from (suc (4 + n)) 0 0 (first_rules firsts) in
       let others = adds_from (suc (4 + n) + length (first_rules firsts)) 1 0 (second_rules seconds) in
-      let many = length-append (map Grouping gs) (Barrier (4 + n) ∷ (map Flow (adds ++ others) ++ Barrier (suc (4 + n) + length (first_rules firsts) + length (second_rules seconds)) ∷ [])) in
+      let many = length-append (map Grouping gs)
+      (Barrier (4 + n) ∷ (map Flow (adds ++ others)
+      ++ Barrier (suc (4 + n) + length (first_rules firsts) + length (second_rules seconds)) ∷ [])) in
       let more = length-append (map Flow (adds ++ others)) (Barrier (suc (4 + n) + length (first_rules firsts) + length (second_rules seconds)) ∷ []) in
       let grouped = length-map gs Grouping ∙ length_groups (groups_of (leaving_entries seconds)) 4 1 in
       let added = length-map (adds ++ others) Flow ∙ length-append adds others in

@@ -71,5 +71,6 @@ masked_more w k b a within whole below same = by b
 
 -- where no bit is stated, there is one then
 pub stated_more : (w k : ℕ) (b : Bool) (o : Option (ℕ × ℕ)) → k < w → AreWhole (suc k) o → IfSome o (IsMasked w) → IfSome (stated_with (2 ^ k) b o) (IsMasked w)
-stated_more w k b None within whole masked = masked_more w k b (0, 0) within (record { value = 0; value_is = omega arith; mask = 0; mask_is = omega arith }) (pow_pos w) (and_self 0)
+stated_more w k b None within whole masked =
+    masked_more w k b (0, 0) within (record { value = 0; value_is = omega arith; mask = 0; mask_is = omega arith }) (pow_pos w) (and_self 0)
 stated_more w k b (Some a) within whole masked = masked_more w k b a within whole masked.1 masked.2

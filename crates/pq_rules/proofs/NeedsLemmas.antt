@@ -1,11 +1,13 @@
 -- Matches with one statement more are lawful where the prerequisites of the field are stated.
-use Rattle.std.proofs.Common.{◌≡◌, ◌≢◌, ◌⊎◌, inl, inr, ℕ, suc, ◌-◌, ◌^◌, ◌<◌, Bool, true, false, List, [], ◌∷◌, Some, None, sym, ap, arith, eqb-true, true≢false}
+use Rattle.std.proofs.Common.{◌≡◌, ◌≢◌, ◌⊎◌, inl, inr, ℕ, suc, ◌-◌, ◌^◌, ◌<◌, Bool, true, false, List, [], ◌∷◌, Some, None, sym, ap, arith}
+use Rattle.std.proofs.Common.{eqb-true, true≢false}
 use Rattle.std.specs.Prelude.{◌==◌, ◌&&◌, IfSome}
 use Rattle.std.specs.Option.{unwrap_or}
 use Rattle.std.specs.declared.option.Option.{Option}
 use Rattle.std.proofs.lemmas.Bool.{eq-eqb, or_cases}
 use Rattle.pq_fields.specs.declared.field.Field.{Field}
-use Rattle.pq_fields.specs.declared.field.Field.TheVariants.{Switch, Port, EthType, IpProto, EthSrc, EthDst, Ipv4Src, Ipv4Dst, TcpSrc, TcpDst, UdpSrc, UdpDst, Ipv6Src, Ipv6Dst}
+use Rattle.pq_fields.specs.declared.field.Field.TheVariants.{Switch, Port, EthType, IpProto, EthSrc, EthDst, Ipv4Src, Ipv4Dst, TcpSrc}
+use Rattle.pq_fields.specs.declared.field.Field.TheVariants.{TcpDst, UdpSrc, UdpDst, Ipv6Src, Ipv6Dst}
 use Rattle.pq_fields.specs.Packet.{Numbers, Fit, has_field, is_ip, width_of, zero_packet}
 use Rattle.pq_model.specs.MatchFields.{MatchFields, IsLawfulMatch, IsMasked, IsPortNumber}
 use Rattle.pq_store.specs.declared.test.Test.{Test}
@@ -61,7 +63,8 @@ unstated : {A : Type 0} (P Q : A → Type 0) (o : Option A) (R : Type 0) → ((a
 unstated P Q o R none holds = if_some P Q o (λ a p. absurd (none a p)) holds
 
 -- a match with a number more
-pub lawful_number : (f : Field) (v : ℕ) (m : MatchFields) → IsLawfulMatch m → v < 2 ^ width_of f → IsPortTest f v → stated_number f m ≡ None → Needs f m → IsLawfulMatch (with_number f v m)
+pub lawful_number : (f : Field) (v : ℕ) (m : MatchFields) → IsLawfulMatch m → v < 2 ^ width_of f → IsPortTest f v → stated_number f m ≡ None
+    → Needs f m → IsLawfulMatch (with_number f v m)
 lawful_number Switch v m h fits port fresh needs = h
 lawful_number Port v m h fits port fresh needs = record {
   in_port = port;
@@ -83,18 +86,23 @@ lawful_number EthType v m h fits port fresh needs = record {
   in_port = h.in_port;
   vlan = h.vlan;
   eth_type = fits;
-  ip_proto = if_some (λ n. (n < 2 ^ 8) × ((m.eth_type ≡ Some 0x0800) ⊎ (m.eth_type ≡ Some 0x86dd))) (λ n. (n < 2 ^ 8) × ((Some v ≡ Some 0x0800) ⊎ (Some v ≡ Some 0x86dd))) m.ip_proto
+  ip_proto = if_some (λ n. (n < 2 ^ 8) × ((m.eth_type ≡ Some 0x0800) ⊎ (m.eth_type ≡ Some 0x86dd)))
+      (λ n. (n < 2 ^ 8) × ((Some v ≡ Some 0x0800) ⊎ (Some v ≡ Some 0x86dd))) m.ip_proto
       (λ n p. absurd (elim p.1 [ inl is ↦ cc | inr is ↦ cc ])) h.ip_proto;
   eth_src = h.eth_src;
   eth_dst = h.eth_dst;
-  ipv4_src = if_some (λ a. IsMasked 32 a × (m.eth_type ≡ Some 0x0800)) (λ a. IsMasked 32 a × (Some v ≡ Some 0x0800)) m.ipv4_src (λ n p. absurd (let is = p.1 in cc)) h.ipv4_src;
-  ipv4_dst = if_some (λ a. IsMasked 32 a × (m.eth_type ≡ Some 0x0800)) (λ a. IsMasked 32 a × (Some v ≡ Some 0x0800)) m.ipv4_dst (λ n p. absurd (let is = p.1 in cc)) h.ipv4_dst;
+  ipv4_src = if_some (λ a. IsMasked 32 a × (m.eth_type ≡ Some 0x0800)) (λ a. IsMasked 32 a × (Some v ≡ Some 0x0800)) m.ipv4_src
+      (λ n p. absurd (let is = p.1 in cc)) h.ipv4_src;
+  ipv4_dst = if_some (λ a. IsMasked 32 a × (m.eth_type ≡ Some 0x0800)) (λ a. IsMasked 32 a × (Some v ≡ Some 0x0800)) m.ipv4_dst
+      (λ n p. absurd (let is = p.1 in cc)) h.ipv4_dst;
   tcp_src = h.tcp_src;
   tcp_dst = h.tcp_dst;
   udp_src = h.udp_src;
   udp_dst = h.udp_dst;
-  ipv6_src = if_some (λ a. IsMasked 128 a × (m.eth_type ≡ Some 0x86dd)) (λ a. IsMasked 128 a × (Some v ≡ Some 0x86dd)) m.ipv6_src (λ n p. absurd (let is = p.1 in cc)) h.ipv6_src;
-  ipv6_dst = if_some (λ a. IsMasked 128 a × (m.eth_type ≡ Some 0x86dd)) (λ a. IsMasked 128 a × (Some v ≡ Some 0x86dd)) m.ipv6_dst (λ n p. absurd (let is = p.1 in cc)) h.ipv6_dst;
+  ipv6_src = if_some (λ a. IsMasked 128 a × (m.eth_type ≡ Some 0x86dd)) (λ a. IsMasked 128 a × (Some v ≡ Some 0x86dd)) m.ipv6_src
+      (λ n p. absurd (let is = p.1 in cc)) h.ipv6_src;
+  ipv6_dst = if_some (λ a. IsMasked 128 a × (m.eth_type ≡ Some 0x86dd)) (λ a. IsMasked 128 a × (Some v ≡ Some 0x86dd)) m.ipv6_dst
+      (λ n p. absurd (let is = p.1 in cc)) h.ipv6_dst;
 }
 lawful_number IpProto v m h fits port fresh needs = record {
   in_port = h.in_port;
@@ -105,10 +113,14 @@ lawful_number IpProto v m h fits port fresh needs = record {
   eth_dst = h.eth_dst;
   ipv4_src = h.ipv4_src;
   ipv4_dst = h.ipv4_dst;
-  tcp_src = if_some (λ n. (n < 2 ^ 16) × (m.ip_proto ≡ Some 6)) (λ n. (n < 2 ^ 16) × (Some v ≡ Some 6)) m.tcp_src (λ n p. absurd (let is = p.1 in cc)) h.tcp_src;
-  tcp_dst = if_some (λ n. (n < 2 ^ 16) × (m.ip_proto ≡ Some 6)) (λ n. (n < 2 ^ 16) × (Some v ≡ Some 6)) m.tcp_dst (λ n p. absurd (let is = p.1 in cc)) h.tcp_dst;
-  udp_src = if_some (λ n. (n < 2 ^ 16) × (m.ip_proto ≡ Some 17)) (λ n. (n < 2 ^ 16) × (Some v ≡ Some 17)) m.udp_src (λ n p. absurd (let is = p.1 in cc)) h.udp_src;
-  udp_dst = if_some (λ n. (n < 2 ^ 16) × (m.ip_proto ≡ Some 17)) (λ n. (n < 2 ^ 16) × (Some v ≡ Some 17)) m.udp_dst (λ n p. absurd (let is = p.1 in cc)) h.udp_dst;
+  tcp_src = if_some (λ n. (n < 2 ^ 16) × (m.ip_proto ≡ Some 6)) (λ n. (n < 2 ^ 16) × (Some v ≡ Some 6)) m.tcp_src
+      (λ n p. absurd (let is = p.1 in cc)) h.tcp_src;
+  tcp_dst = if_some (λ n. (n < 2 ^ 16) × (m.ip_proto ≡ Some 6)) (λ n. (n < 2 ^ 16) × (Some v ≡ Some 6)) m.tcp_dst
+      (λ n p. absurd (let is = p.1 in cc)) h.tcp_dst;
+  udp_src = if_some (λ n. (n < 2 ^ 16) × (m.ip_proto ≡ Some 17)) (λ n. (n < 2 ^ 16) × (Some v ≡ Some 17)) m.udp_src
+      (λ n p. absurd (let is = p.1 in cc)) h.udp_src;
+  udp_dst = if_some (λ n. (n < 2 ^ 16) × (m.ip_proto ≡ Some 17)) (λ n. (n < 2 ^ 16) × (Some v ≡ Some 17)) m.udp_dst
+      (λ n p. absurd (let is = p.1 in cc)) h.udp_dst;
   ipv6_src = h.ipv6_src;
   ipv6_dst = h.ipv6_dst;
 }
@@ -214,12 +226,14 @@ lawful_number Ipv6Src v m h fits port fresh needs = h
 lawful_number Ipv6Dst v m h fits port fresh needs = h
 
 -- the mask of a stated address, with what it needs
-with_needs : (w k : ℕ) (b : Bool) (o : Option (ℕ × ℕ)) (N : Type 0) → k < w → AreWhole (suc k) o → IfSome o (λ a. IsMasked w a × N) → N → IfSome (stated_with (2 ^ k) b o) (λ a. IsMasked w a × N)
+with_needs : (w k : ℕ) (b : Bool) (o : Option (ℕ × ℕ)) (N : Type 0) → k < w → AreWhole (suc k) o → IfSome o (λ a. IsMasked w a × N) → N
+    → IfSome (stated_with (2 ^ k) b o) (λ a. IsMasked w a × N)
 with_needs w k b None N within whole holds needs = (stated_more w k b None within whole tt, needs)
 with_needs w k b (Some a) N within whole holds needs = (stated_more w k b (Some a) within whole holds.0, needs)
 
 -- a match with a bit more
-pub lawful_bit : (f : Field) (i : ℕ) (b : Bool) (m : MatchFields) → IsLawfulMatch m → i < width_of f → AreWhole (width_of f - i) (stated_bits f m) → Needs f m → IsLawfulMatch (with_bit f i b m)
+pub lawful_bit : (f : Field) (i : ℕ) (b : Bool) (m : MatchFields) → IsLawfulMatch m → i < width_of f
+    → AreWhole (width_of f - i) (stated_bits f m) → Needs f m → IsLawfulMatch (with_bit f i b m)
 lawful_bit Switch i b m h within whole needs = h
 lawful_bit Port i b m h within whole needs = h
 lawful_bit EthType i b m h within whole needs = h
@@ -369,8 +383,10 @@ unfolding stated_packet
 needed Switch m h = tt
 needed Port m h = tt
 needed EthType m h = tt
-needed IpProto m h = elim (or_cases (unwrap_or m.eth_type 0 == 0x0800) (unwrap_or m.eth_type 0 == 0x86dd) h)
-    [ inl is ↦ inl (is_stated m.eth_type 0x0800 (λ e. absurd (omega (arith, e))) is) | inr is ↦ inr (is_stated m.eth_type 0x86dd (λ e. absurd (omega (arith, e))) is) ]
+needed IpProto m h = elim (or_cases (unwrap_or m.eth_type 0 == 0x0800) (unwrap_or m.eth_type 0 == 0x86dd) h) [
+  | inl is ↦ inl (is_stated m.eth_type 0x0800 (λ e. absurd (omega (arith, e))) is)
+  | inr is ↦ inr (is_stated m.eth_type 0x86dd (λ e. absurd (omega (arith, e))) is)
+]
 needed EthSrc m h = tt
 needed EthDst m h = tt
 needed Ipv4Src m h = is_stated m.eth_type 0x0800 (λ e. absurd (omega (arith, e))) h

@@ -12,7 +12,8 @@ filter_twice : {A : Type 0} (p q r : A → Bool) → ((a : A) → r a ≡ (q a &
 filter_twice p q r both [] = refl
 filter_twice {A} p q r both (x ∷ xs) = by (q x) refl (filter_twice p q r both xs)
   where
-    by : (b : Bool) → q x ≡ b → filter p (filter q xs) ≡ filter r xs → filter p (cond b (x ∷ filter q xs) (filter q xs)) ≡ cond (r x) (x ∷ filter r xs) (filter r xs)
+    by : (b : Bool) → q x ≡ b → filter p (filter q xs) ≡ filter r xs
+        → filter p (cond b (x ∷ filter q xs) (filter q xs)) ≡ cond (r x) (x ∷ filter r xs) (filter r xs)
     by true is same = (λ i. cond (p x) (x ∷ same i) (same i)) ∙ ap (λ b. cond b (x ∷ filter r xs) (filter r xs)) (sym (both x ∙ ap (λ b. b && p x) is))
     by false is same = same ∙ ap (λ b. cond b (x ∷ filter r xs) (filter r xs)) (sym (both x ∙ ap (λ b. b && p x) is))
 
@@ -22,12 +23,14 @@ filter_all p all [] = refl
 filter_all p all (x ∷ xs) = ap (λ b. cond b (x ∷ filter p xs) (filter p xs)) (all x) ∙ ap (λ l. x ∷ l) (filter_all p all xs)
 
 -- a filter of values that are made
-pub filter_made : {A B : Type 0} (P : A → Type 0) (f : A → B) (p : B → Bool) (q : A → Bool) → ((a : A) → P a → p (f a) ≡ q a) → (xs : List A) → AllByRecursion P xs → filter p
+pub filter_made : {A B : Type 0} (P : A → Type 0) (f : A → B) (p : B → Bool) (q : A → Bool) → ((a : A) → P a → p (f a) ≡ q a)
+    → (xs : List A) → AllByRecursion P xs → filter p
     (map f xs) ≡ map f (filter q xs)
 filter_made P f p q same [] all = refl
 filter_made P f p q same (x ∷ xs) all = by (q x) (same x all.0) (filter_made P f p q same xs all.1)
   where
-    by : (b : Bool) → p (f x) ≡ b → filter p (map f xs) ≡ map f (filter q xs) → cond (p (f x)) (f x ∷ filter p (map f xs)) (filter p (map f xs)) ≡ map f (cond b (x ∷ filter q xs) (filter q xs))
+    by : (b : Bool) → p (f x) ≡ b → filter p (map f xs) ≡ map f (filter q xs)
+        → cond (p (f x)) (f x ∷ filter p (map f xs)) (filter p (map f xs)) ≡ map f (cond b (x ∷ filter q xs) (filter q xs))
     by true is rest = ap (λ b. cond b (f x ∷ filter p (map f xs)) (filter p (map f xs))) is ∙ ap (λ l. f x ∷ l) rest
     by false is rest = ap (λ b. cond b (f x ∷ filter p (map f xs)) (filter p (map f xs))) is ∙ rest
 
@@ -100,12 +103,14 @@ module _ {A : Type 0} (E : A → A → Bool) where
         others y = not (E x y)
 
         by : (b : Bool) → list_any (E x) ks ≡ b → ((us : List A) → insert_all E us xs ≡ us ++ filter (outside us) (once xs))
-            → insert_all E (if b then ks else ks ++ x ∷ []) xs ≡ ks ++ cond (not (list_any (E x) ks)) (x ∷ filter (outside ks) (filter (λ y. not (E x y)) (once xs)))
+            → insert_all E (if b then ks else ks ++ x ∷ []) xs ≡ ks ++ cond (not (list_any (E x) ks))
+            (x ∷ filter (outside ks) (filter (λ y. not (E x y)) (once xs)))
             (filter (outside ks) (filter (λ y. not (E x y)) (once xs)))
         by true is rest =
             let kept : (y : A) → outside ks y ≡ (not (E x y) && outside ks y) = λ y. with_it y (E x y) refl in
             rest ks ∙ ap (λ l. ks ++ l) (sym (filter_twice (outside ks) (λ y. not (E x y)) (outside ks) kept (once xs))
-            ∙ ap (λ b. cond (not b) (x ∷ filter (outside ks) (filter (λ y. not (E x y)) (once xs))) (filter (outside ks) (filter (λ y. not (E x y)) (once xs)))) (sym is))
+            ∙ ap (λ b. cond (not b) (x ∷ filter (outside ks) (filter (λ y. not (E x y)) (once xs)))
+            (filter (outside ks) (filter (λ y. not (E x y)) (once xs)))) (sym is))
           where
             with_it : (y : A) (b : Bool) → E x y ≡ b → outside ks y ≡ (not b && outside ks y)
             with_it y true same = ap not (there ks x y is same)
@@ -115,7 +120,8 @@ module _ {A : Type 0} (E : A → A → Bool) where
             ap not (list_any-append (E y) ks (x ∷ [])) ∙ negated (list_any (E y) ks) (E y x) ∙ ap (λ b. not b && outside ks y) (turned y x) in
             rest (ks ++ x ∷ []) ∙ append_assoc ks (x ∷ []) (filter (outside (ks ++ x ∷ [])) (once xs))
             ∙ ap (λ l. ks ++ x ∷ l) (sym (filter_twice (outside ks) (λ y. not (E x y)) (outside (ks ++ x ∷ [])) more (once xs)))
-            ∙ ap (λ b. ks ++ cond (not b) (x ∷ filter (outside ks) (filter (λ y. not (E x y)) (once xs))) (filter (outside ks) (filter (λ y. not (E x y)) (once xs)))) (sym is)
+            ∙ ap (λ b. ks ++ cond (not b) (x ∷ filter (outside ks) (filter (λ y. not (E x y)) (once xs)))
+            (filter (outside ks) (filter (λ y. not (E x y)) (once xs)))) (sym is)
 
     pub taken_once : (xs : List A) → insert_all E [] xs ≡ once xs
     taken_once xs = taken xs [] ∙ filter_all (outside []) (λ a. refl) (once xs)

@@ -2,7 +2,8 @@
 use Rattle.std.proofs.Common.{◌≡◌, ◌≢◌, inl, inr, ℕ, ◌-◌, Bool, true, false, if◌then◌else◌, List, [], ◌∷◌, None, refl, sym, subst, ◌∙◌, true≢false}
 use Rattle.std.proofs.lemmas.Bool.{cases_eq}
 use Rattle.pq_fields.specs.declared.field.Field.{Field}
-use Rattle.pq_fields.specs.declared.field.Field.TheVariants.{Switch, Port, EthType, IpProto, EthSrc, EthDst, Ipv4Src, Ipv4Dst, TcpSrc, TcpDst, UdpSrc, UdpDst, Ipv6Src, Ipv6Dst}
+use Rattle.pq_fields.specs.declared.field.Field.TheVariants.{Switch, Port, EthType, IpProto, EthSrc, EthDst, Ipv4Src, Ipv4Dst, TcpSrc}
+use Rattle.pq_fields.specs.declared.field.Field.TheVariants.{TcpDst, UdpSrc, UdpDst, Ipv6Src, Ipv6Dst}
 use Rattle.pq_fields.specs.Packet.{rank, width_of}
 use Rattle.pq_model.specs.MatchFields.{MatchFields, IsLawfulMatch}
 use Rattle.pq_store.specs.declared.test.Test.{Test}
@@ -23,7 +24,8 @@ use Rattle.pq_lookup.proofs.Fresh.{IsFresh, fresh_failing, fresh_passing, lawful
 use Rattle.pq_rules.proofs.NeedsLemmas.{AllStated, IsPortTest, IsStated, Needs, lawful_bit, lawful_number, needs_met}
 
 -- on the yes side of a test the match is lawful
-lawful_passing : (s : Test) (m : MatchFields) → IsLawfulMatch m → IsLawful s → ((v : ℕ) → s ≡ Equal Port v → IsPortTest Port v) → IsFresh s m → Needs (field_of s) m → IsLawfulMatch (passing s m)
+lawful_passing : (s : Test) (m : MatchFields) → IsLawfulMatch m → IsLawful s → ((v : ℕ) → s ≡ Equal Port v → IsPortTest Port v)
+    → IsFresh s m → Needs (field_of s) m → IsLawfulMatch (passing s m)
 lawful_passing (Equal f v) m h lawful port fresh needs = lawful_number f v m h lawful.1 (by f port) fresh needs
   where
     by : (f : Field) → ((u : ℕ) → Equal f v ≡ Equal Port u → IsPortTest Port u) → IsPortTest f v
@@ -53,7 +55,8 @@ still_passing : (s q : Test) (m : MatchFields) → IsLawful s → field_of s ≢
 still_passing s (Bit g j) m lawful other fresh stated = absurd stated
 still_passing (Bit f i) (Equal g u) m lawful other fresh stated = (stated.0, same_number f g i true m ∙ stated.1)
 still_passing (Equal f v) (Equal g u) m lawful other fresh stated = elim (cases_eq (rank f) (rank g)) [
-  | inl same ↦ absurd (let one : f ≡ g = rank_injective f g same in let none : stated_number g m ≡ None = subst (λ h. stated_number h m ≡ None) one fresh in let some = stated.1 in cc)
+  | inl same ↦ absurd (let one : f ≡ g = rank_injective f g same in let none : stated_number g m ≡ None =
+      subst (λ h. stated_number h m ≡ None) one fresh in let some = stated.1 in cc)
   | inr apart ↦ (stated.0, other_number f g v m lawful.0 other apart ∙ stated.1)
 ]
 
@@ -62,7 +65,8 @@ still_failing s (Bit g j) m stated = absurd stated
 still_failing (Bit f i) (Equal g u) m stated = (stated.0, same_number f g i false m ∙ stated.1)
 still_failing (Equal f v) (Equal g u) m stated = stated
 
-all_passing : (s : Test) (m : MatchFields) (passed : List Test) → IsLawful s → field_of s ≢ Switch → IsFresh s m → AllStated m passed → AllStated (passing s m) passed
+all_passing : (s : Test) (m : MatchFields) (passed : List Test) → IsLawful s → field_of s ≢ Switch → IsFresh s m → AllStated m passed
+    → AllStated (passing s m) passed
 all_passing s m [] lawful other fresh stated = tt
 all_passing s m (q ∷ qs) lawful other fresh stated = (still_passing s q m lawful other fresh stated.0, all_passing s m qs lawful other fresh stated.1)
 
@@ -88,7 +92,8 @@ own_stated (Equal UdpDst v) m of = absurd (true≢false (sym of))
 own_stated (Equal Ipv6Src v) m of = absurd (true≢false (sym of))
 own_stated (Equal Ipv6Dst v) m of = absurd (true≢false (sym of))
 
-all_stated : (s : Test) (m : MatchFields) (passed : List Test) → IsLawful s → field_of s ≢ Switch → IsFresh s m → AllStated m passed → AllStated (passing s m) (and_prerequisite s passed)
+all_stated : (s : Test) (m : MatchFields) (passed : List Test) → IsLawful s → field_of s ≢ Switch → IsFresh s m → AllStated m passed
+    → AllStated (passing s m) (and_prerequisite s passed)
 all_stated s m passed lawful other fresh stated = by (is_prerequisite s) refl
   where
     by : (b : Bool) → is_prerequisite s ≡ b → AllStated (passing s m) (if b then s ∷ passed else passed)
@@ -130,13 +135,15 @@ module _ {L : Type 0} where
   -- the match with the test at the root
   yes_held : (passed : List Test) (m : MatchFields) (s : Test) (y n : Tree L) → Stands passed m (Fork s y n) → IsLawfulMatch (passing s m)
   yes_held passed m s y n h =
-      lawful_passing s m h.held h.lawful.0 (λ v is. h.ports v (inl (sym is))) (h.fresh s (inl refl)) (needs_met (field_of s) m passed h.held h.stated ((h.below (field_of s)).0 refl))
+      lawful_passing s m h.held h.lawful.0 (λ v is. h.ports v (inl (sym is))) (h.fresh s (inl refl))
+      (needs_met (field_of s) m passed h.held h.stated ((h.below (field_of s)).0 refl))
 
   no_held : (passed : List Test) (m : MatchFields) (s : Test) (y n : Tree L) → Stands passed m (Fork s y n) → IsLawfulMatch (failing s m)
   no_held passed m s y n h =
       lawful_failing s m h.held h.lawful.0 (h.fresh s (inl refl)) (needs_met (field_of s) m passed h.held h.stated ((h.below (field_of s)).0 refl))
 
-  stands_yes : (passed : List Test) (m : MatchFields) (s : Test) (y n : Tree L) → Stands passed m (Fork s y n) → Stands (and_prerequisite s passed) (passing s m) y
+  stands_yes : (passed : List Test) (m : MatchFields) (s : Test) (y n : Tree L) → Stands passed m (Fork s y n)
+      → Stands (and_prerequisite s passed) (passing s m) y
   stands_yes passed m s y n h = record {
     lawful = h.lawful.1;
     ascends = h.ascends.2;
@@ -144,7 +151,8 @@ module _ {L : Type 0} where
     switch = λ r tested. h.switch r (inr (inl tested));
     ports = λ v tested. h.ports v (inr (inl tested));
     below = λ f. (h.below f).1;
-    fresh = λ r tested. fresh_passing s r m h.lawful.0 (lawful_tested r y h.lawful.1 tested) (h.switch s (inl refl)) (before_tested s r y h.ascends.0 h.ascends.2 tested)
+    fresh = λ r tested. fresh_passing s r m h.lawful.0 (lawful_tested r y h.lawful.1 tested) (h.switch s (inl refl))
+        (before_tested s r y h.ascends.0 h.ascends.2 tested)
         (others s r y h.once.0 tested) (h.fresh s (inl refl)) (h.fresh r (inr (inl tested)));
     stated = all_stated s m passed h.lawful.0 (h.switch s (inl refl)) (h.fresh s (inl refl)) h.stated;
     held = yes_held passed m s y n h;
@@ -158,7 +166,8 @@ module _ {L : Type 0} where
     switch = λ r tested. h.switch r (inr (inr tested));
     ports = λ v tested. h.ports v (inr (inr tested));
     below = λ f. (h.below f).2;
-    fresh = λ r tested. fresh_failing s r m h.lawful.0 (lawful_tested r n h.lawful.2 tested) (before_tested s r n h.ascends.1 h.ascends.3 tested) (h.fresh s (inl refl)) (h.fresh r (inr (inr tested)));
+    fresh = λ r tested. fresh_failing s r m h.lawful.0 (lawful_tested r n h.lawful.2 tested)
+        (before_tested s r n h.ascends.1 h.ascends.3 tested) (h.fresh s (inl refl)) (h.fresh r (inr (inr tested)));
     stated = all_failing s m passed h.stated;
     held = no_held passed m s y n h;
   }

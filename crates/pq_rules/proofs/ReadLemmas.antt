@@ -25,7 +25,8 @@ step PopVlan o = o
 step PushVlan o = o
 step (Group n) o = o
 step (SetField f n) o = record o { writes = with_write f n o.writes }
-step (Output p) o = if p == controller_number then record o { kind = CaptureOut } else if p == in_port_number then o else record o { writes = with_write Port p o.writes }
+step (Output p) o = if p == controller_number then record o { kind = CaptureOut } else if p == in_port_number then o else record o
+    { writes = with_write Port p o.writes }
 
 read : Outgoing → List Action → Outgoing
 read o [] = o
@@ -39,7 +40,22 @@ read_more (a ∷ as_) bs o = read_more as_ bs (step a o)
 -- a copy with these writes
 abbrev made : Option ℕ → (a b c d e f g h : Option ℕ) → Outgoing
 made t a b c d e f g h =
-    record { writes = record { port = None; eth_src = a; eth_dst = b; ipv4_src = c; ipv4_dst = d; tcp_src = e; tcp_dst = f; udp_src = g; udp_dst = h }; tag = t; kind = Send }
+    record {
+      writes = record {
+        port = None;
+        eth_src = a;
+        eth_dst = b;
+        ipv4_src = c;
+        ipv4_dst = d;
+        tcp_src = e;
+        tcp_dst = f;
+        udp_src =
+            g;
+        udp_dst = h;
+      };
+      tag = t;
+      kind = Send;
+    }
 
 start : Outgoing
 start = made None None None None None None None None None
@@ -91,7 +107,8 @@ module _ (t : Option ℕ) where
   udp_dst_read a b c d e f g (Some n) = refl
 
   -- one field after another
-  field_read : (front : List Action) (f : Field) (v : Option ℕ) (o p q : Outgoing) → read o front ≡ p → read p (set_field f v) ≡ q → read o (front ++ set_field f v) ≡ q
+  field_read : (front : List Action) (f : Field) (v : Option ℕ) (o p q : Outgoing) → read o front ≡ p → read p (set_field f v) ≡ q
+      → read o (front ++ set_field f v) ≡ q
   field_read front f v o p q first last = read_more front (set_field f v) o ∙ ap (λ r. read r (set_field f v)) first ∙ last
 
   headers_read : (w : Written) → read (made t None None None None None None None None) (header_actions w)
@@ -123,13 +140,15 @@ module _ (t : Option ℕ) where
 
 -- and last where it goes
 output_read : (k : OutKind) (w : Written) (t : Option ℕ) → IfSome w.port IsPortNumber
-    → read (made t w.eth_src w.eth_dst w.ipv4_src w.ipv4_dst w.tcp_src w.tcp_dst w.udp_src w.udp_dst) (Output (output_port k w) ∷ []) ≡ in_bucket (record { writes = w; tag = t; kind = k })
+    → read (made t w.eth_src w.eth_dst w.ipv4_src w.ipv4_dst w.tcp_src w.tcp_dst w.udp_src w.udp_dst) (Output (output_port k w) ∷ [])
+    ≡ in_bucket (record { writes = w; tag = t; kind = k })
 unfolding read step
 output_read CaptureOut w t port = refl
 output_read Send w t port = by w.port refl port
   where
     by : (p : Option ℕ) → w.port ≡ p → IfSome p IsPortNumber
-        → read (made t w.eth_src w.eth_dst w.ipv4_src w.ipv4_dst w.tcp_src w.tcp_dst w.udp_src w.udp_dst) (Output (output_port Send w) ∷ []) ≡ record { writes = w; tag = t; kind = Send }
+        → read (made t w.eth_src w.eth_dst w.ipv4_src w.ipv4_dst w.tcp_src w.tcp_dst w.udp_src w.udp_dst) (Output (output_port Send w) ∷ [])
+        ≡ record { writes = w; tag = t; kind = Send }
     by None is port =
         let out : output_port Send w ≡ in_port_number = ap (λ o. output_port Send (record w { port = o })) is in
         ap (λ p. read (made t w.eth_src w.eth_dst w.ipv4_src w.ipv4_dst w.tcp_src w.tcp_dst w.udp_src w.udp_dst) (Output p ∷ [])) out
@@ -148,7 +167,8 @@ copy_read : (c : Outgoing) → IsSoundCopy c → read start (copy_actions true c
 copy_read c sound =
     read_more (tag_actions true c.tag ++ header_actions c.writes) (Output (output_port c.kind c.writes) ∷ []) start
     ∙ ap (λ r. read r (Output (output_port c.kind c.writes) ∷ []))
-    (read_more (tag_actions true c.tag) (header_actions c.writes) start ∙ ap (λ r. read r (header_actions c.writes)) (tag_read c.tag) ∙ headers_read c.tag c.writes)
+    (read_more (tag_actions true c.tag) (header_actions c.writes) start ∙ ap (λ r. read r (header_actions c.writes)) (tag_read c.tag)
+    ∙ headers_read c.tag c.writes)
     ∙ output_read c.kind c.writes c.tag sound.port
 
 buckets_read : (cs : List Outgoing) → AllByRecursion IsSoundCopy cs → map (read start) (buckets_of cs) ≡ map in_bucket cs
@@ -156,7 +176,8 @@ buckets_read [] sound = refl
 buckets_read (c ∷ cs) sound = (λ i. copy_read c sound.0 i ∷ buckets_read cs sound.1 i)
 
 -- so copies with the same buckets are shown alike
-pub same_shown : (cs ds : List Outgoing) → AllByRecursion IsSoundCopy cs → AllByRecursion IsSoundCopy ds → buckets_of cs ≡ buckets_of ds → map in_bucket cs ≡ map in_bucket ds
+pub same_shown : (cs ds : List Outgoing) → AllByRecursion IsSoundCopy cs → AllByRecursion IsSoundCopy ds → buckets_of cs ≡ buckets_of ds
+    → map in_bucket cs ≡ map in_bucket ds
 same_shown cs ds first second same = sym (buckets_read cs first) ∙ ap (map (read start)) same ∙ buckets_read ds second
 
 -- a copy as its bucket shows it has the same actions

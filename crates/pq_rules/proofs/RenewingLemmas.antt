@@ -31,14 +31,18 @@ one_longer m n x grown = ap length grown ∙ length-append m (x ∷ [])
 
 pub groups_longer : (gs : List Buckets) (m n : List Message) (xid number : ℕ) → n ≡ m ++ map Group (groups_from xid number gs) → length n ≡ length m + length gs
 groups_longer gs m n xid number grown =
-    ap length grown ∙ length-append m (map Group (groups_from xid number gs)) ∙ ap (λ k. length m + k) (length-map (groups_from xid number gs) Group ∙ length_groups gs xid number)
+    ap length grown ∙ length-append m (map Group (groups_from xid number gs))
+    ∙ ap (λ k. length m + k) (length-map (groups_from xid number gs) Group ∙ length_groups gs xid number)
 
-pub adds_longer : (rs : List Rule) (m n : List Message) (xid table index : ℕ) → n ≡ m ++ map Flow (adds_from xid table index rs) → length n ≡ length m + length rs
+pub adds_longer : (rs : List Rule) (m n : List Message) (xid table index : ℕ) → n ≡ m ++ map Flow (adds_from xid table index rs)
+    → length n ≡ length m + length rs
 adds_longer rs m n xid table index grown =
-    ap length grown ∙ length-append m (map Flow (adds_from xid table index rs)) ∙ ap (λ k. length m + k) (length-map (adds_from xid table index rs) Flow ∙ length_adds rs xid table index)
+    ap length grown ∙ length-append m (map Flow (adds_from xid table index rs))
+    ∙ ap (λ k. length m + k) (length-map (adds_from xid table index rs) Flow ∙ length_adds rs xid table index)
 
 -- three messages and those of the groups
-pub third : (gs : List Buckets) (m0 m1 m2 m3 : List Message) → m0 ≡ [] → m1 ≡ m0 ++ Flow delete_entries ∷ Group delete_groups ∷ [] → m2 ≡ m1 ++ Barrier (length m1 + 1) ∷ []
+pub third : (gs : List Buckets) (m0 m1 m2 m3 : List Message) → m0 ≡ [] → m1 ≡ m0 ++ Flow delete_entries ∷ Group delete_groups ∷ []
+    → m2 ≡ m1 ++ Barrier (length m1 + 1) ∷ []
     → m3 ≡ m2 ++ map Group (groups_from (length m2 + 1) 1 gs) → length m3 ≡ 3 + length gs
 third gs m0 m1 m2 m3 empty deletes emptied groups =
     let none : length m0 ≡ 0 = ap length empty in
@@ -88,4 +92,5 @@ module _ (gs : List Buckets) (first second : List Rule) (m0 m1 m2 m3 m4 m5 m6 m7
       append_assoc ((GS ++ Barrier (4 + n) ∷ []) ++ A1) A2 last
       ∙ append_assoc (GS ++ Barrier (4 + n) ∷ []) A1 (A2 ++ last)
       ∙ append_assoc GS (Barrier (4 + n) ∷ []) (A1 ++ (A2 ++ last))
-      ∙ ap (λ l. GS ++ Barrier (4 + n) ∷ l) (sym (append_assoc A1 A2 last) ∙ ap (λ l. l ++ last) (sym (map-append Flow (adds_from (suc (4 + n)) 0 0 first) (adds_from (suc (4 + n) + a) 1 0 second)))))
+      ∙ ap (λ l. GS ++ Barrier (4 + n) ∷ l) (sym (append_assoc A1 A2 last)
+      ∙ ap (λ l. l ++ last) (sym (map-append Flow (adds_from (suc (4 + n)) 0 0 first) (adds_from (suc (4 + n) + a) 1 0 second)))))

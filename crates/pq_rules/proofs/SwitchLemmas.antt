@@ -1,5 +1,6 @@
 -- From ids and trees to the entries of both tables.
-use Rattle.std.proofs.Common.{◌≡◌, ℕ, ◌<◌, ◌≤◌, Bool, true, false, if◌then◌else◌, List, [], ◌∷◌, ◌++◌, Ok, Err, Result, length, map, refl, sym, ap, subst, ◌∙◌, arith}
+use Rattle.std.proofs.Common.{◌≡◌, ℕ, ◌<◌, ◌≤◌, Bool, true, false, if◌then◌else◌, List, [], ◌∷◌, ◌++◌, Ok, Err, Result, length, map, refl}
+use Rattle.std.proofs.Common.{sym, ap, subst, ◌∙◌, arith}
 use Rattle.std.specs.Prelude.{All, IfErr}
 use Rattle.std.specs.Result.{IsErrAnd}
 use Rattle.std.specs.List.{AllByRecursion, IsDistinct}
@@ -29,12 +30,14 @@ use Rattle.pq_rules.specs.Refusals.{FitTables, IsMany, IsRulesFault, many_copies
 use Rattle.pq_rules.specs.declared.fault.RulesFault.{RulesFault}
 use Rattle.pq_rules.specs.declared.fault.RulesFault.TheVariants.{TableFull, GroupFull, Memory}
 use Rattle.pq_rules.specs.Renewing.{AreFewPlaces, IsLeavingLeaf, few}
-use Rattle.pq_rules.proofs.GroupsLemmas.{IsShown, SoundEntries, groups_distinct, groups_few, groups_made, groups_shown, groups_sound, places_few, places_long, rules_placed}
+use Rattle.pq_rules.proofs.GroupsLemmas.{IsShown, SoundEntries, groups_distinct, groups_few, groups_made, groups_shown, groups_sound}
+use Rattle.pq_rules.proofs.GroupsLemmas.{places_few, places_long, rules_placed}
 use Rattle.pq_rules.specs.Tables.{AreArrivingWithin, IsArrivingId, IsLeavingId, arriving_trees, leaving_trees}
 
 module _ {L : Type 0} (ts : List (Tree L)) where
   -- what holds of the trees at ids holds at the ids
-  trees_at : {A : Type 0} (P : ℕ → Tree L → Type 0) (f : A → ℕ × ℕ) (ids : List A) → AllByRecursion (λ p. (f p).1 < length ts) ids → AllByRecursion (λ p. P p.0 p.1) (trees_with ts (map f ids))
+  trees_at : {A : Type 0} (P : ℕ → Tree L → Type 0) (f : A → ℕ × ℕ) (ids : List A) → AllByRecursion (λ p. (f p).1 < length ts) ids
+      → AllByRecursion (λ p. P p.0 p.1) (trees_with ts (map f ids))
       → AllByRecursion (λ p. HasAt (P (f p).0) ts (f p).1) ids
   trees_at P f [] within all = tt
   trees_at P f (p ∷ ps) within all =
@@ -69,18 +72,22 @@ module _ {L : Type 0} (ts : List (Tree L)) where
   leaves_at P default (m ∷ ms) (e ∷ es) found all =
       (((m.1, found.0.1), subst P (sym (ap (leaf_or default) found.0.1)) all.0), leaves_at P default ms es found.1 all.1)
 
-  pub found_leaves : (P : L → Type 0) (default : L) (ms : List (MatchFields × L)) (es : List (MatchFields × ℕ)) → AreFound ts ms es → AllByRecursion (λ m. P m.1) ms
+  pub found_leaves : (P : L → Type 0) (default : L) (ms : List (MatchFields × L)) (es : List (MatchFields × ℕ)) → AreFound ts ms es
+      → AllByRecursion (λ m. P m.1) ms
       → All (λ (e : MatchFields × ℕ). IsLeafAt ts e.1 × P (leaf_at default ts e.1)) es
-  found_leaves P default ms es found all = All-from_recursion (λ (e : MatchFields × ℕ). IsLeafAt ts e.1 × P (leaf_at default ts e.1)) es (leaves_at P default ms es found all)
+  found_leaves P default ms es found all = All-from_recursion (λ (e : MatchFields × ℕ). IsLeafAt ts e.1 × P (leaf_at default ts e.1)) es
+      (leaves_at P default ms es found all)
 
 -- the ids of sound trees
-pub arriving_sound : (ts : List (Tree (Option Arrive))) (ids : List (Key × ℕ)) → AreArrivingWithin ts ids → AreSoundArriving (arriving_trees ts ids) → All (IsArrivingId ts) ids
+pub arriving_sound : (ts : List (Tree (Option Arrive))) (ids : List (Key × ℕ)) → AreArrivingWithin ts ids
+    → AreSoundArriving (arriving_trees ts ids) → All (IsArrivingId ts) ids
 arriving_sound ts ids within sound =
     All-from_recursion (IsArrivingId ts) ids
     (trees_at ts IsSoundArriving (λ p. (key_word p.0, p.1)) ids (recursion_from_All (λ p. p.1 < length ts) ids within)
     (recursion_from_All (λ p. IsSoundArriving p.0 p.1) (arriving_trees ts ids) sound.each))
 
-pub leaving_sound : (ts : List (Tree (List Outgoing))) (ids : List (ℕ × ℕ)) → AreWithin ts ids → AreSoundLeaving (leaving_trees ts ids) → All (IsLeavingId ts) ids
+pub leaving_sound : (ts : List (Tree (List Outgoing))) (ids : List (ℕ × ℕ)) → AreWithin ts ids → AreSoundLeaving (leaving_trees ts ids)
+    → All (IsLeavingId ts) ids
 leaving_sound ts ids within sound =
     All-from_recursion (IsLeavingId ts) ids
     (trees_at ts IsSoundLeaving (λ p. (tag_word p.0, p.1)) ids (recursion_from_All (λ p. p.1 < length ts) ids within)
@@ -91,7 +98,8 @@ leaving_sound ts ids within sound =
 module _ {L : Type 0} (P : L → Type 0) where
   below_all : (t : Tree L) (m : MatchFields) → AllLeaves P t → AllByRecursion (λ e. P e.1) (matches_below m t)
   below_all (Tip l) m all = (all, tt)
-  below_all (Fork s y n) m all = all_append (λ e. P e.1) (matches_below (passing s m) y) (matches_below (failing s m) n) (below_all y (passing s m) all.0) (below_all n (failing s m) all.1)
+  below_all (Fork s y n) m all = all_append (λ e. P e.1) (matches_below (passing s m) y) (matches_below (failing s m) n)
+      (below_all y (passing s m) all.0) (below_all n (failing s m) all.1)
 
   table_all : (blank : L → Bool) (trees : List (ℕ × Tree L)) → AllByRecursion (λ p. AllLeaves P p.1) trees → AllByRecursion (λ e. P e.1) (table_of blank trees)
   table_all blank [] all = tt
@@ -108,12 +116,14 @@ weaker P Q (x ∷ xs) less all = (less x all.0, weaker P Q xs less all.1)
 pub arriving_leaves : (firsts : ArrivingTrees) → AreSoundArriving firsts → AllByRecursion (λ e. IsSoundArrival e.1) (table_of is_nothing firsts)
 arriving_leaves firsts sound =
     table_all IsSoundArrival is_nothing firsts
-    (weaker (λ p. IsSoundArriving p.0 p.1) (λ p. AllLeaves IsSoundArrival p.1) firsts (λ p h. h.leaves) (recursion_from_All (λ p. IsSoundArriving p.0 p.1) firsts sound.each))
+    (weaker (λ p. IsSoundArriving p.0 p.1) (λ p. AllLeaves IsSoundArrival p.1) firsts (λ p h. h.leaves)
+    (recursion_from_All (λ p. IsSoundArriving p.0 p.1) firsts sound.each))
 
 pub leaving_leaves : (seconds : LeavingTrees) → AreSoundLeaving seconds → AllByRecursion (λ e. All IsSoundCopy e.1) (leaving_entries seconds)
 leaving_leaves seconds sound =
     table_all (All IsSoundCopy) is_without seconds
-    (weaker (λ p. IsSoundLeaving p.0 p.1) (λ p. AllLeaves (All IsSoundCopy) p.1) seconds (λ p h. h.leaves) (recursion_from_All (λ p. IsSoundLeaving p.0 p.1) seconds sound.each))
+    (weaker (λ p. IsSoundLeaving p.0 p.1) (λ p. AllLeaves (All IsSoundCopy) p.1) seconds (λ p h. h.leaves)
+    (recursion_from_All (λ p. IsSoundLeaving p.0 p.1) seconds sound.each))
 
 -- Limits.
 
@@ -121,18 +131,21 @@ leaving_leaves seconds sound =
 pub count_within : (count n limit : ℕ) → count ≡ capped n → count ≤ limit → limit ≤ 16384 → n ≤ limit
 count_within count n limit is small few = omega (arith, is, small, few)
 
-pub tables_filled : (limit : ℕ) (firsts : ArrivingTrees) (seconds : LeavingTrees) → AreSoundArriving firsts → AreSoundLeaving seconds → limit ≤ 16384 → FitTables limit firsts seconds
+pub tables_filled : (limit : ℕ) (firsts : ArrivingTrees) (seconds : LeavingTrees) → AreSoundArriving firsts → AreSoundLeaving seconds
+    → limit ≤ 16384 → FitTables limit firsts seconds
     → AreFilled firsts seconds
 tables_filled limit firsts seconds arriving leaving few fit = record {
   arriving = arriving;
   leaving = leaving;
   first_few = let same = length-map (table_of is_nothing firsts) first_rule in let h = fit.arriving in omega (arith, same, h, few);
-  second_few = let same = length-map (leaving_entries seconds) (second_rule (groups_of (leaving_entries seconds))) in let h = fit.leaving in omega (arith, same, h, few);
+  second_few = let same = length-map (leaving_entries seconds) (second_rule (groups_of (leaving_entries seconds))) in let h = fit.leaving in
+      omega (arith, same, h, few);
 }
 
 -- Entries of table 1.
 
-pub resolved_sound : (ts : List (Tree (List Outgoing))) (es : List (MatchFields × ℕ)) → All (λ (e : MatchFields × ℕ). IsLeavingLeaf ts e.1) es → SoundEntries (resolved [] ts es)
+pub resolved_sound : (ts : List (Tree (List Outgoing))) (es : List (MatchFields × ℕ))
+    → All (λ (e : MatchFields × ℕ). IsLeavingLeaf ts e.1) es → SoundEntries (resolved [] ts es)
 resolved_sound ts es all = each es (recursion_from_All (λ (e : MatchFields × ℕ). IsLeavingLeaf ts e.1) es all)
   where
     each : (fs : List (MatchFields × ℕ)) → AllByRecursion (λ (e : MatchFields × ℕ). IsLeavingLeaf ts e.1) fs → SoundEntries (resolved [] ts fs)
@@ -140,7 +153,8 @@ resolved_sound ts es all = each es (recursion_from_All (λ (e : MatchFields × �
     each (f ∷ fs) all = (recursion_from_All IsSoundCopy (leaf_at [] ts f.1) all.0.1, each fs all.1)
 
 -- leaves of sound copies are leaves
-pub leaf_of : (ts : List (Tree (List Outgoing))) (es : List (MatchFields × ℕ)) → All (λ (e : MatchFields × ℕ). IsLeavingLeaf ts e.1) es → All (λ (e : MatchFields × ℕ). IsLeafAt ts e.1) es
+pub leaf_of : (ts : List (Tree (List Outgoing))) (es : List (MatchFields × ℕ)) → All (λ (e : MatchFields × ℕ). IsLeavingLeaf ts e.1) es
+    → All (λ (e : MatchFields × ℕ). IsLeafAt ts e.1) es
 leaf_of ts es all k d below = (all k d below).0
 
 -- what is known of the groups that were taken
@@ -174,7 +188,8 @@ are_grouped ts es gs ps leaves small taken places =
 
 -- Causes.
 
-pub many_cause : (datapath limit : ℕ) (firsts : ArrivingTrees) (seconds : LeavingTrees) (es : List (MatchFields × List Outgoing)) (fault : RulesFault) → FitTables limit firsts seconds
+pub many_cause : (datapath limit : ℕ) (firsts : ArrivingTrees) (seconds : LeavingTrees) (es : List (MatchFields × List Outgoing))
+    (fault : RulesFault) → FitTables limit firsts seconds
     → es ≡ leaving_entries seconds
     → IsMany datapath es fault → IsRulesFault datapath limit firsts seconds fault
 many_cause datapath limit firsts seconds es (TableFull s n count) fit is many = absurd many

@@ -39,7 +39,8 @@ IsTableFull limit first second table entries =
 
 -- why the trees of the switch give no tables
 abbrev pub IsRulesFault : ℕ → ℕ → ArrivingTrees → LeavingTrees → RulesFault → Type 0
-IsRulesFault datapath limit firsts seconds (TableFull switch table entries) = (switch ≡ datapath) × IsTableFull limit (arriving_count firsts) (leaving_count seconds) table entries
+IsRulesFault datapath limit firsts seconds (TableFull switch table entries) =
+    (switch ≡ datapath) × IsTableFull limit (arriving_count firsts) (leaving_count seconds) table entries
 IsRulesFault datapath limit firsts seconds (GroupFull switch copies) =
     (switch ≡ datapath) × FitTables limit firsts seconds × (many_copies (leaving_entries seconds) ≡ Some copies)
 IsRulesFault datapath limit firsts seconds Memory = Unit {0}

@@ -19,7 +19,16 @@ use Rattle.pq_rules.specs.Grouping.{IsLeafAt, leaf_at, placed_rules}
 
 -- the Add of an entry
 abbrev pub add_of : (xid table index : ℕ) → Rule → FlowValue
-add_of xid table index r = record { xid = xid; cookie = 0; table = table; command = AddFlow; priority = 65535 - index; matching = r.matching; actions = r.actions; goto = r.goto }
+add_of xid table index r = record {
+  xid = xid;
+  cookie = 0;
+  table = table;
+  command = AddFlow;
+  priority = 65535 - index;
+  matching = r.matching;
+  actions = r.actions;
+  goto = r.goto;
+}
 
 -- the ADD of a group
 abbrev pub group_of : (xid number : ℕ) → Buckets → GroupValue

@@ -28,7 +28,9 @@ lawful_push [] e lawful happens = (happens, tt)
 lawful_push (x ∷ xs) e lawful happens = (lawful.0, lawful_push xs e lawful.1 happens)
 
 -- one more event
-pub read_pushes : (text : List ℕ) (events : List Event) (rest : List ℕ) (e : Event) (left : List ℕ) → IsReadBefore text events rest → length events < event_limit → length left ≤ length rest → BeginsWith rest e left → IsEvent e → IsReadBefore text (events ++ e ∷ []) left
+pub read_pushes : (text : List ℕ) (events : List Event) (rest : List ℕ) (e : Event) (left : List ℕ) → IsReadBefore text events rest
+    → length events < event_limit → length left ≤ length rest → BeginsWith rest e left → IsEvent e
+    → IsReadBefore text (events ++ e ∷ []) left
 read_pushes text events rest e left before more shorter begins happens = record {
   few = omega (arith, more, length-append events (e ∷ []));
   within = omega (arith, shorter, before.within);
@@ -41,7 +43,8 @@ pub read_ends : (text : List ℕ) (events : List Event) (rest : List ℕ) → Is
 read_ends text events rest before empty = (subst (AreEvents text events) empty (ends_here text events rest before), before.few)
 
 -- the next line is no event
-pub read_stops : (text : List ℕ) (events : List Event) (rest : List ℕ) (place : ℕ) → IsReadBefore text events rest → rest ≢ [] → IsStuck rest → place ≡ length text - length rest → FirstFault text place
+pub read_stops : (text : List ℕ) (events : List Event) (rest : List ℕ) (place : ℕ) → IsReadBefore text events rest → rest ≢ []
+    → IsStuck rest → place ≡ length text - length rest → FirstFault text place
 read_stops text events rest place before more stuck is = record {
   events = events;
   rest = rest;
@@ -53,7 +56,8 @@ read_stops text events rest place before more stuck is = record {
 }
 
 -- the next line is one event too many
-pub read_overflows : (text : List ℕ) (events : List Event) (rest : List ℕ) (e : Event) (left : List ℕ) → IsReadBefore text events rest → length events ≡ event_limit → BeginsWith rest e left → IsTooLong text
+pub read_overflows : (text : List ℕ) (events : List Event) (rest : List ℕ) (e : Event) (left : List ℕ) → IsReadBefore text events rest
+    → length events ≡ event_limit → BeginsWith rest e left → IsTooLong text
 read_overflows text events rest e left before full begins = record {
   events = events ++ e ∷ [];
   rest = left;
@@ -103,7 +107,8 @@ one_fault text p q first second =
 
 -- no text has two of the three: events, a line that is none, too many events
 pub schedule_or_fault : (text : List ℕ) (xs : List Event) (p : ℕ) → IsScheduleText text xs → FirstFault text p → ⊥
-schedule_or_fault text xs p schedule fault = fault.more (sym (one_reading text xs fault.events [] fault.rest nothing_begins fault.fault schedule.0 fault.before).1)
+schedule_or_fault text xs p schedule fault =
+    fault.more (sym (one_reading text xs fault.events [] fault.rest nothing_begins fault.fault schedule.0 fault.before).1)
 
 pub schedule_or_full : (text : List ℕ) (xs : List Event) → IsScheduleText text xs → IsTooLong text → ⊥
 schedule_or_full text xs schedule full =

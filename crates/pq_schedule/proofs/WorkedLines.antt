@@ -7,10 +7,23 @@ use Rattle.pq_model.specs.declared.event.Event.TheVariants.{Inject, Hop, Lose}
 use Rattle.pq_schedule.specs.Lines.{event_of}
 
 -- a switch, a port, a VLAN number and a field
-inject-vlan : event_of (codes "inject 1 1 vlan=3 eth_type=2054") ≡ Some (Inject (record { packet = record zero_packet { switch = 1; port = 1; eth_type = 2054 }; vlan = Some 3 }))
+inject-vlan : event_of (codes "inject 1 1 vlan=3 eth_type=2054")
+    ≡ Some (Inject (record { packet = record zero_packet { switch = 1; port = 1; eth_type = 2054 }; vlan = Some 3 }))
 inject-vlan = refl
 
-inject-all : event_of (codes "inject 18446744073709551615 4294967040 eth_src=00:aB:00:00:01:ff ipv4_dst=10.0.1.255 tcp_dst=80 ipv6_dst=2001:db8:0:0:0:0:0:1") ≡ Some (Inject (record { packet = record zero_packet { switch = 18446744073709551615; port = 4294967040; eth_src = 0x00ab000001ff; ipv4_dst = 0x0a0001ff; tcp_dst = 80; ipv6_dst = 0x20010db8000000000000000000000001 }; vlan = None }))
+inject-all : event_of
+    (codes "inject 18446744073709551615 4294967040 eth_src=00:aB:00:00:01:ff ipv4_dst=10.0.1.255 tcp_dst=80 ipv6_dst=2001:db8:0:0:0:0:0:1")
+    ≡ Some (Inject (record {
+      packet = record zero_packet {
+        switch = 18446744073709551615;
+        port = 4294967040;
+        eth_src = 0x00ab000001ff;
+        ipv4_dst = 0x0a0001ff;
+        tcp_dst = 80;
+        ipv6_dst = 0x20010db8000000000000000000000001;
+      };
+      vlan = None;
+    }))
 inject-all = refl
 
 hop : event_of (codes "hop 0") ≡ Some (Hop 0)

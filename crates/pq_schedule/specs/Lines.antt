@@ -1,9 +1,11 @@
 -- The lines of a schedule: which event a line is.
-use Rattle.std.specs.Prelude.{ℕ, ◌-◌, ◌^◌, Bool, true, ◌&&◌, if◌then◌else◌, List, [], ◌∷◌, map, length, fold, find, nat_lt, bytes_eq, codes, option_map, option_and_then, Option, Some, None}
+use Rattle.std.specs.Prelude.{ℕ, ◌-◌, ◌^◌, Bool, true, ◌&&◌, if◌then◌else◌, List, [], ◌∷◌, map, length, fold, find, nat_lt, bytes_eq, codes}
+use Rattle.std.specs.Prelude.{option_map, option_and_then, Option, Some, None}
 use Rattle.std.specs.Str.{byte}
 use Rattle.pq_term.specs.Numbers.{decimal_of}
 use Rattle.pq_term.specs.Groups.{parts, before_separator, behind_separator}
-use Rattle.pq_fields.specs.declared.field.Field.TheVariants.{EthType, IpProto, EthSrc, EthDst, Ipv4Src, Ipv4Dst, TcpSrc, TcpDst, UdpSrc, UdpDst, Ipv6Src, Ipv6Dst}
+use Rattle.pq_fields.specs.declared.field.Field.TheVariants.{EthType, IpProto, EthSrc, EthDst, Ipv4Src, Ipv4Dst, TcpSrc, TcpDst, UdpSrc}
+use Rattle.pq_fields.specs.declared.field.Field.TheVariants.{UdpDst, Ipv6Src, Ipv6Dst}
 use Rattle.pq_fields.specs.Packet.{rank, with_number, zero_packet}
 use Rattle.pq_model.specs.Tagged.{TaggedPacket}
 use Rattle.pq_model.specs.declared.event.Event.{Event}

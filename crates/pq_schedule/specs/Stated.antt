@@ -12,7 +12,8 @@ abbrev pub stated_under : Partial → Option Key → Option (List ℕ) → Optio
 stated_under x None value = None
 stated_under x (Some key) None = None
 stated_under x (Some key) (Some value) =
-    if nat_le x.next (place_of key) then option_map (λ p. record { packet = p; next = place_of key + 1 }) (option_map (λ n. with_key key n x.packet) (key_number key value))
+    if nat_le x.next (place_of key) then option_map (λ p. record { packet = p; next = place_of key + 1 })
+    (option_map (λ n. with_key key n x.packet) (key_number key value))
     else None
 
 -- the packet with what one more word states

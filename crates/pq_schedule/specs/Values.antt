@@ -1,5 +1,6 @@
 -- How the numbers of fields are written: in schedules, and of packets that are printed.
-use Rattle.std.specs.Prelude.{ℕ, ◌-◌, ◌/◌, ◌%◌, ◌^◌, Bool, false, not, ◌&&◌, ◌||◌, if◌then◌else◌, List, [], ◌∷◌, map, length, ◌==◌, codes, decimal, Option, None}
+use Rattle.std.specs.Prelude.{ℕ, ◌-◌, ◌/◌, ◌%◌, ◌^◌, Bool, false, not, ◌&&◌, ◌||◌, if◌then◌else◌, List, [], ◌∷◌, map, length, ◌==◌, codes}
+use Rattle.std.specs.Prelude.{decimal, Option, None}
 use Rattle.std.specs.Fmt.{digits, digit_glyph}
 use Rattle.std.specs.Char.{is_ascii_uppercase}
 use Rattle.std.specs.List.{list_all, list_any, join_by}
@@ -8,7 +9,8 @@ use Rattle.pq_term.specs.Numbers.{decimal_of}
 use Rattle.pq_term.specs.Groups.{parts}
 use Rattle.pq_term.specs.Addresses.{mac_of, ipv4_of, ipv6_of}
 use Rattle.pq_fields.specs.declared.field.Field.{Field}
-use Rattle.pq_fields.specs.declared.field.Field.TheVariants.{Switch, Port, EthType, IpProto, EthSrc, EthDst, Ipv4Src, Ipv4Dst, TcpSrc, TcpDst, UdpSrc, UdpDst, Ipv6Src, Ipv6Dst}
+use Rattle.pq_fields.specs.declared.field.Field.TheVariants.{Switch, Port, EthType, IpProto, EthSrc, EthDst, Ipv4Src, Ipv4Dst, TcpSrc}
+use Rattle.pq_fields.specs.declared.field.Field.TheVariants.{TcpDst, UdpSrc, UdpDst, Ipv6Src, Ipv6Dst}
 use Rattle.pq_fields.specs.Packet.{width_of}
 
 -- how a number is written: by decimal digits without leading zeros, or as an address

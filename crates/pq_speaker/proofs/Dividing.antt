@@ -1,5 +1,6 @@
 -- How bytes are divided.
-use Rattle.std.proofs.Common.{◌≡◌, ◌≢◌, ◌⊎◌, ℕ, ◌+◌, ◌<◌, ◌≤◌, Bool, true, false, eqb, leb, List, [], ◌∷◌, ◌++◌, length, take, drop, refl, sym, ap, subst, ◌∙◌, inl, inr, append_assoc, append-nil, length-append, arith}
+use Rattle.std.proofs.Common.{◌≡◌, ◌≢◌, ◌⊎◌, ℕ, ◌+◌, ◌<◌, ◌≤◌, Bool, true, false, eqb, leb, List, [], ◌∷◌, ◌++◌, length, take, drop, refl}
+use Rattle.std.proofs.Common.{sym, ap, subst, ◌∙◌, inl, inr, append_assoc, append-nil, length-append, arith}
 use Rattle.std.specs.Int.{w16, w32, from_be_bytes}
 use Rattle.std.proofs.lemmas.List.{get_or_append_left, take-append-le, take-append-drop, drop-append-le, length-drop, length-take-le}
 use Rattle.std.proofs.lemmas.Bool.{lt-leb, ne_eqb, eqb-true, leb-true, and_parts, and_left, and_right, and_from, le-leb, eq-eqb, cases_lt}
@@ -117,7 +118,8 @@ small-uncut bytes small = uncut-short bytes (λ long. inl small)
 pub less-uncut : (bytes : List ℕ) → length bytes < (header_of bytes).length → divided [] bytes ≡ uncut bytes
 less-uncut bytes less = uncut-short bytes (λ long. inr less)
 
-pub whole-front : (bytes : List ℕ) → 8 ≤ (header_of bytes).length → (header_of bytes).length ≤ length bytes → is_whole (take (header_of bytes).length bytes) ≡ true
+pub whole-front : (bytes : List ℕ) → 8 ≤ (header_of bytes).length → (header_of bytes).length ≤ length bytes
+    → is_whole (take (header_of bytes).length bytes) ≡ true
 whole-front bytes long there =
     let n = (header_of bytes).length in
     let m = take n bytes in
@@ -135,7 +137,8 @@ rest-uncut before (b ∷ bytes) none =
   where
     by : (w : Bool) → is_whole (before ++ b ∷ []) ≡ w
         → divided [] (divided [] bytes).rest ≡ uncut (divided [] bytes).rest
-        → (divided [] (before ++ b ∷ []) ≡ uncut (before ++ b ∷ []) → divided [] (divided (before ++ b ∷ []) bytes).rest ≡ uncut (divided (before ++ b ∷ []) bytes).rest)
+        → (divided [] (before ++ b ∷ []) ≡ uncut (before ++ b ∷ [])
+        → divided [] (divided (before ++ b ∷ []) bytes).rest ≡ uncut (divided (before ++ b ∷ []) bytes).rest)
         → divided [] (divided before (b ∷ bytes)).rest ≡ uncut (divided before (b ∷ bytes)).rest
     by true e empty later = rw e empty
     by false e empty later = rw e (later (divided-waiting before (b ∷ []) none ∙ rw e refl))

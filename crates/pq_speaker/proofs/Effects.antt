@@ -10,7 +10,9 @@ use Rattle.pq_speaker.specs.declared.talk.Talk.{Talk}
 use Rattle.pq_speaker.specs.declared.talk.Talk.TheVariants.{Asking, Installing, Installed}
 use Rattle.pq_speaker.specs.declared.talk.Reason.TheVariants.{BadLength, BadVersion, OtherSwitch}
 use Rattle.pq_speaker.specs.Division.{header_of}
-use Rattle.pq_speaker.specs.Rules.{Session, Effect, barrier_reply, echo_request, effect, ends_with_barrier, error, fails, features_reply, greeted, has_bad_length, has_failed, hello, identified, is_asking, is_before_installed, is_greeting, is_installing, is_some_barrier_of, leads_to, refused, spoken, version_spoken}
+use Rattle.pq_speaker.specs.Rules.{Session, Effect, barrier_reply, echo_request, effect, ends_with_barrier, error, fails, features_reply}
+use Rattle.pq_speaker.specs.Rules.{greeted, has_bad_length, has_failed, hello, identified, is_asking, is_before_installed, is_greeting}
+use Rattle.pq_speaker.specs.Rules.{is_installing, is_some_barrier_of, leads_to, refused, spoken, version_spoken}
 use Rattle.pq_speaker.specs.World.{installed_by}
 
 abbrev pub installs : Session → Effect → List Message

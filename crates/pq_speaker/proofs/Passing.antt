@@ -27,7 +27,8 @@ passes-first s sent talk m d =
 
 pub passed-step : (s : Session) (sent : List ℕ) (talk : Talk) (bytes : List ℕ) (used size : ℕ) → is_whole (take size (drop used bytes)) ≡ true →
     passed s sent talk (drop used bytes)
-    ≡ passed s (sent ++ replies_bytes s.messages (effect s talk (take size (drop used bytes))).replies) (effect s talk (take size (drop used bytes))).talk (drop (used + size) bytes)
+    ≡ passed s (sent ++ replies_bytes s.messages (effect s talk (take size (drop used bytes))).replies)
+    (effect s talk (take size (drop used bytes))).talk (drop (used + size) bytes)
 passed-step s sent talk bytes used size whole =
     let m = take size (drop used bytes) in
     ap (passed s sent talk) (sym (take-append-drop size (drop used bytes)))

@@ -57,7 +57,8 @@ bad s talk rest (b ∷ bytes) going long wrong =
     first = rw (going, again) (ap (λ (h : Header). fails (BadLength h.length)) same)
 
     by : (w : Bool) → is_whole (rest ++ b ∷ []) ≡ w
-        → (has_bad_length talk (header_of (rest ++ b ∷ [])) ≡ true → heard_of s talk (divided (rest ++ b ∷ []) bytes) ≡ over s (BadLength (header_of (rest ++ b ∷ [])).length))
+        → (has_bad_length talk (header_of (rest ++ b ∷ [])) ≡ true
+        → heard_of s talk (divided (rest ++ b ∷ []) bytes) ≡ over s (BadLength (header_of (rest ++ b ∷ [])).length))
         → heard_of s talk (divided rest (b ∷ bytes)) ≡ over s (BadLength (header_of rest).length)
     by true e later =
         rw e (ap (λ (x : Effect). preceded x.replies (heard_of s x.talk (divided [] bytes))) first
@@ -73,7 +74,8 @@ going s talk rest bytes on = by (leb 8 (length rest) && has_bad_length talk (hea
     by true e =
         let parts = and_parts (leb 8 (length rest)) (has_bad_length talk (header_of rest)) e in
         let sees : foreseen talk rest ≡ Failed (BadLength (header_of rest).length) = rw (on, e) refl in
-        rw sees (bad s talk rest bytes on (leb-true 8 (length rest) parts.0) parts.1 ∙ sym (failed-hears s (BadLength (header_of rest).length) (divided [] bytes)))
+        rw sees (bad s talk rest bytes on (leb-true 8 (length rest) parts.0) parts.1
+        ∙ sym (failed-hears s (BadLength (header_of rest).length) (divided [] bytes)))
     by false e = rw (on, e, on) refl
 
 -- what waits is heard as if its header hadn't been looked at

@@ -1,5 +1,6 @@
 -- How far a session is, and what is on its way then: an answer to the last barrier means that nothing is left to process.
-use Rattle.std.proofs.Common.{◌≡◌, ◌⊎◌, ℕ, suc, ◌<◌, ◌^◌, Bool, true, false, ◌&&◌, List, [], ◌∷◌, ◌++◌, sym, ap, subst, ◌∙◌, inl, inr, append_assoc, append-nil, arith}
+use Rattle.std.proofs.Common.{◌≡◌, ◌⊎◌, ℕ, suc, ◌<◌, ◌^◌, Bool, true, false, ◌&&◌, List, [], ◌∷◌, ◌++◌, sym, ap, subst, ◌∙◌, inl, inr}
+use Rattle.std.proofs.Common.{append_assoc, append-nil, arith}
 use Rattle.std.specs.Prelude.{All, ◌==◌}
 use Rattle.std.specs.List.{AllByRecursion, list_any}
 use Rattle.std.proofs.lemmas.Bool.{and_from, both_ways, eq-eqb, or_parts}
@@ -123,7 +124,11 @@ others-each last (m ∷ ms) back lawful own =
     ((parts.0, xid-fits m (lawful 0 m (omega arith))), others-each last ms back (λ k d l. lawful (suc k) d (omega (arith, l))) parts.1)
 
 pub session-of : (s : Session) → All IsLawfulMessage s.messages → (e : EndsWithOwnBarrier s.messages) → IsSession s e.xid
-session-of s lawful e = record { front = e.front; messages = e.ended; each = others-each e.xid e.front (Barrier e.xid ∷ []) (subst (All IsLawfulMessage) e.ended lawful) e.own }
+session-of s lawful e = record {
+  front = e.front;
+  messages = e.ended;
+  each = others-each e.xid e.front (Barrier e.xid ∷ []) (subst (All IsLawfulMessage) e.ended lawful) e.own;
+}
 
 -- Hearing.
 
@@ -165,5 +170,6 @@ steps s last talk coming done (m ∷ ms) pipe of stage =
     let first = effect s talk m in
     let rest = effects s first.talk ms in
     subst (λ l. Stage s last rest.talk l done pipe)
-    (append_assoc coming (installs s first) (installs s rest) ∙ ap (λ l. coming ++ l) (sym (flat_map-append (installed_by s.messages) first.replies rest.replies)))
+    (append_assoc coming (installs s first) (installs s rest)
+    ∙ ap (λ l. coming ++ l) (sym (flat_map-append (installed_by s.messages) first.replies rest.replies)))
     (steps s last first.talk (coming ++ installs s first) done ms pipe of (step s last talk coming done m (ms ++ pipe) first of (does s talk m) stage))

@@ -1,5 +1,6 @@
 -- Messages that the switch takes.
-use Rattle.std.proofs.Common.{◌≡◌, ◌⊎◌, ℕ, zero, suc, Bool, true, false, not, ltb, ◌&&◌, List, [], ◌∷◌, ◌++◌, length, take, drop, refl, sym, ap, subst, ◌∙◌, inl, inr, arith}
+use Rattle.std.proofs.Common.{◌≡◌, ◌⊎◌, ℕ, zero, suc, Bool, true, false, not, ltb, ◌&&◌, List, [], ◌∷◌, ◌++◌, length, take, drop, refl, sym}
+use Rattle.std.proofs.Common.{ap, subst, ◌∙◌, inl, inr, arith}
 use Rattle.std.specs.List.{list_any}
 use Rattle.std.specs.declared.option.Option.TheVariants.{None, Some}
 use Rattle.std.proofs.lemmas.Bool.{cases_Bool, and_cases, both_ways, ltb-false, or_parts}
@@ -40,7 +41,11 @@ taken-after front (m ∷ back) t e = by (list_any is_barrier front) (is_barrier 
     taken = record { message = m; others = front ++ back }
 
     first : (is_barrier m && ltb 0 (length front)) ≡ false → is_barrier m ≡ true → front ≡ []
-    first e is = elim (and_cases (is_barrier m) (ltb 0 (length front)) e) [ inl not ↦ absurd (both_ways (is_barrier m) not is) | inr none ↦ none_first front none ]
+    first e is = elim (and_cases (is_barrier m) (ltb 0 (length front)) e) [
+      | inl not ↦ absurd (both_ways (is_barrier m) not is)
+      | inr none ↦
+          none_first front none
+    ]
 
     cut : list_any is_barrier front ≡ false → (is_barrier m && ltb 0 (length front)) ≡ false → IsCut (front ++ m ∷ back) taken
     cut free may = record { front = front; back = back; all = refl; others = refl; free = free; first = first may }

@@ -1,5 +1,6 @@
 -- A speaker and its switch: what each event keeps, and what Installed means.
-use Rattle.std.proofs.Common.{◌≡◌, ◌⊎◌, ℕ, ◌<◌, ◌^◌, Bool, true, false, not, ◌&&◌, ◌||◌, List, [], ◌∷◌, ◌++◌, length, take, drop, leb, refl, sym, ap, subst, ◌∙◌, inl, inr, append_assoc, append-nil}
+use Rattle.std.proofs.Common.{◌≡◌, ◌⊎◌, ℕ, ◌<◌, ◌^◌, Bool, true, false, not, ◌&&◌, ◌||◌, List, [], ◌∷◌, ◌++◌, length, take, drop, leb, refl}
+use Rattle.std.proofs.Common.{sym, ap, subst, ◌∙◌, inl, inr, append_assoc, append-nil}
 use Rattle.std.specs.Prelude.{◌==◌}
 use Rattle.std.specs.List.{AllByRecursion}
 use Rattle.std.specs.declared.option.Option.{Option}
@@ -20,7 +21,9 @@ use Rattle.pq_speaker.specs.declared.talk.Talk.TheVariants.{Greeting, Asking, In
 use Rattle.pq_speaker.specs.Division.{Division, divided, header_of, is_whole, uncut, with_first}
 use Rattle.pq_speaker.specs.Rules.{Session, Effect, barrier_reply, has_bad_length, has_failed}
 use Rattle.pq_speaker.specs.Speaking.{effects, foreseen, kept}
-use Rattle.pq_speaker.specs.World.{Event, InstalledMeansProcessed, RenewalsAreInstalled, Taken, World, answer_to, hears, is_barrier, is_own, message_taken, next, processed, processed_in, processes, run, sends_own, start, taken_at, Take, Send, Hear}
+use Rattle.pq_speaker.specs.World.{Event, InstalledMeansProcessed, RenewalsAreInstalled, Taken, World, answer_to, hears, is_barrier, is_own}
+use Rattle.pq_speaker.specs.World.{message_taken, next, processed, processed_in, processes, run, sends_own, start, taken_at, Take, Send}
+use Rattle.pq_speaker.specs.World.{Hear}
 use Rattle.pq_speaker.proofs.Dividing.{divided-append, divided-whole, joined}
 use Rattle.pq_speaker.proofs.Effects.{installs}
 use Rattle.pq_speaker.proofs.Pieces.{effects-failed}
@@ -53,7 +56,8 @@ quiet-more : (last : ℕ) (ms ns : List (List ℕ)) → Quiet last ms → Quiet 
 quiet-more last ms ns q r = list_any-append (is_reply last) ms ns ∙ (λ i. q i || r i)
 
 -- messages that don't answer the last barrier change nothing
-stage-more : (s : Session) (last : ℕ) (talk : Talk) (coming done : List Message) (ms ns all : List (List ℕ)) → Stage s last talk coming done ms → Quiet last ns →
+stage-more : (s : Session) (last : ℕ) (talk : Talk) (coming done : List Message) (ms ns all : List (List ℕ))
+    → Stage s last talk coming done ms → Quiet last ns →
     (has_failed talk ≡ false → all ≡ ms ++ ns) → Stage s last talk coming done all
 stage-more s last Greeting coming done ms ns all (c, d, q) r e = (c, d, subst (Quiet last) (sym (e refl)) (quiet-more last ms ns q r))
 stage-more s last Asking coming done ms ns all (c, d, q) r e = (c, d, subst (Quiet last) (sym (e refl)) (quiet-more last ms ns q r))
@@ -68,7 +72,8 @@ stage-more s last (Failed x) coming done ms ns all h r e = tt
 own-quiet : (last : ℕ) (m : List ℕ) → ((header_of m).kind == barrier_reply) ≡ false → Quiet last (m ∷ [])
 own-quiet last m e = rw (and_left ((header_of m).kind == barrier_reply) ((header_of m).xid == last) e) refl
 
-holds-send : (s : Session) (last : ℕ) (before : Tables) (w : World) (done : List Message) (m : List ℕ) → Holds s last before w done → Holds s last before (sends_own w m) done
+holds-send : (s : Session) (last : ℕ) (before : Tables) (w : World) (done : List Message) (m : List ℕ) → Holds s last before w done
+    → Holds s last before (sends_own w m) done
 holds-send s last before w done m h = by (is_own m) refl
   where
     more : is_own m ≡ true → Holds s last before (record w { unheard = w.unheard ++ m }) done
@@ -206,14 +211,16 @@ nothing-taken coming t none cut = by cut.front (sym none ∙ cut.all)
     by [] e = cc
     by (f ∷ front) e = cc
 
-taken-ordered : (s : Session) (coming done : List Message) (t : Taken) → IsCut coming t → IsOrdered s coming done → IsOrdered s t.others (done ++ t.message ∷ [])
+taken-ordered : (s : Session) (coming done : List Message) (t : Taken) → IsCut coming t → IsOrdered s coming done
+    → IsOrdered s t.others (done ++ t.message ∷ [])
 taken-ordered s coming done t cut ordered order lawful =
     subst (IsLawfulOrder s.messages) (sym (append_assoc done (t.message ∷ []) order))
     (ordered (t.message ∷ order)
     (subst (λ l. IsLawfulOrder l (t.message ∷ order)) (sym cut.all)
     (taken-order t.message cut.front cut.back order cut.free cut.first (subst (λ l. IsLawfulOrder l order) cut.others lawful))))
 
-taken-coming : (last : ℕ) (coming : List Message) (ms all : List (List ℕ)) (t : Taken) → IsCut coming t → IsComing last coming ms → all ≡ ms ++ answers t.message →
+taken-coming : (last : ℕ) (coming : List Message) (ms all : List (List ℕ)) (t : Taken) → IsCut coming t → IsComing last coming ms
+    → all ≡ ms ++ answers t.message →
     (t.others ≡ []) ⊎ IsComing last t.others all
 taken-coming last coming ms all t cut c e =
     elim (split-last cut.front cut.back c.others t.message (Barrier last) (sym cut.all ∙ c.is)) [
@@ -224,11 +231,14 @@ taken-coming last coming ms all t cut c e =
             others = cut.front ++ h.0;
             is = cut.others ∙ ap (λ l. cut.front ++ l) h.2 ∙ sym (append_assoc cut.front h.0 (Barrier last ∷ []));
             each = all-rest (IsOther last) t.message cut.front h.0 each;
-            quiet = subst (Quiet last) (sym e) (quiet-more last ms (answers t.message) c.quiet (answers-quiet last t.message (all-at (IsOther last) t.message cut.front h.0 each)));
+            quiet = subst (Quiet last) (sym e)
+                (quiet-more last ms (answers t.message) c.quiet
+                (answers-quiet last t.message (all-at (IsOther last) t.message cut.front h.0 each)));
           })
     ]
 
-taken-stage : (s : Session) (last : ℕ) (talk : Talk) (coming done : List Message) (ms all : List (List ℕ)) (t : Taken) → IsCut coming t → Stage s last talk coming done ms →
+taken-stage : (s : Session) (last : ℕ) (talk : Talk) (coming done : List Message) (ms all : List (List ℕ)) (t : Taken) → IsCut coming t
+    → Stage s last talk coming done ms →
     (has_failed talk ≡ false → all ≡ ms ++ answers t.message) → Stage s last talk t.others (done ++ t.message ∷ []) all
 taken-stage s last Greeting coming done ms all t cut (none, d, q) e = absurd (nothing-taken coming t none cut)
 taken-stage s last Asking coming done ms all t cut (none, d, q) e = absurd (nothing-taken coming t none cut)
@@ -242,7 +252,8 @@ holds-taken : (s : Session) (last : ℕ) (before : Tables) (w : World) (done : L
 holds-taken s last before w done t cut h = record {
   session = h.session;
   whole = λ on. (answered w.speaker.waiting w.unheard t.message (h.whole on)).1;
-  stage = taken-stage s last w.speaker.talk w.coming done (pipe w).messages _ t cut h.stage (λ on. (answered w.speaker.waiting w.unheard t.message (h.whole on)).0);
+  stage = taken-stage s last w.speaker.talk w.coming done (pipe w).messages _ t cut h.stage
+      (λ on. (answered w.speaker.waiting w.unheard t.message (h.whole on)).0);
   tables = ap (λ x. applies x t.message) h.tables ∙ sym (applies_all-append before done (t.message ∷ []));
 }
 
@@ -260,7 +271,8 @@ holds-next : (s : Session) (last : ℕ) (before : Tables) (w : World) (done : Li
     Holds s last before (next w e) (done ++ processed_in w e)
 holds-next s last before w done (Take place) of h = holds-take s last before w done place h
 holds-next s last before w done (Send m) of h = subst (Holds s last before (sends_own w m)) (sym (append-nil done)) (holds-send s last before w done m h)
-holds-next s last before w done (Hear count) of h = subst (Holds s last before (hears w count)) (sym (append-nil done)) (holds-hear s last before w done count of h)
+holds-next s last before w done (Hear count) of h = subst (Holds s last before (hears w count)) (sym (append-nil done))
+    (holds-hear s last before w done count of h)
 
 holds-run : (s : Session) (last : ℕ) (before : Tables) (w : World) (done : List Message) (events : List Event) → IsSession s last → Holds s last before w done →
     Holds s last before (run w events) (done ++ processed w events)

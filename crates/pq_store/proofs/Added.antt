@@ -13,7 +13,8 @@ use Rattle.pq_store.proofs.Parts.{one_place}
 
 module _ {L : Type 0} where
   -- each tree was there before the insertion, or is the cell's
-  old_or_own : (eq : Cell L → Cell L → Bool) (cs : List (Cell L)) (c : Cell L) (stand : CanStand (trees cs) c) (k : ℕ) (t : Tree L) → slice_get (trees (insert_key eq cs c)) k ≡ Some t → (slice_get (trees cs) k ≡ Some t) ⊎ (t ≡ stand.tree)
+  old_or_own : (eq : Cell L → Cell L → Bool) (cs : List (Cell L)) (c : Cell L) (stand : CanStand (trees cs) c) (k : ℕ) (t : Tree L)
+      → slice_get (trees (insert_key eq cs c)) k ≡ Some t → (slice_get (trees cs) k ≡ Some t) ⊎ (t ≡ stand.tree)
   old_or_own eq cs c stand k t = by (list_any (eq c) cs)
     where
       by : (there : Bool) → slice_get (trees (if there then cs else cs ++ c ∷ [])) k ≡ Some t → (slice_get (trees cs) k ≡ Some t) ⊎ (t ≡ stand.tree)
@@ -25,7 +26,8 @@ module _ {L : Type 0} where
           ]
 
   -- an insertion adds no tree but that of the id at which the cell's tree is
-  pub adds_own : (eq : Cell L → Cell L → Bool) (cs new : List (Cell L)) (c : Cell L) (id : ℕ) → CanStand (trees cs) c → IsArena new → new ≡ insert_key eq cs c → slice_get (trees new) id ≡ tree_of (trees cs) c → AddsOnly (trees cs) (trees new) id
+  pub adds_own : (eq : Cell L → Cell L → Bool) (cs new : List (Cell L)) (c : Cell L) (id : ℕ) → CanStand (trees cs) c → IsArena new
+      → new ≡ insert_key eq cs c → slice_get (trees new) id ≡ tree_of (trees cs) c → AddsOnly (trees cs) (trees new) id
   adds_own eq cs new c id stand arena inserted at_id k t at =
       elim (old_or_own eq cs c stand k t (subst (λ (ds : List (Cell L)). slice_get (trees ds) k ≡ Some t) inserted at)) [
         | inl old ↦ inl old

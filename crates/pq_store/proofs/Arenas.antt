@@ -1,5 +1,6 @@
 -- The trees that the cells of a store stand for.
-use Rattle.std.proofs.Common.{◌≡◌, ℕ, zero, suc, ◌+◌, ◌<◌, ◌≤◌, List, [], ◌∷◌, ◌++◌, length, Option, None, Some, Bool, true, false, ◌==◌, if◌then◌else◌, fold, inl, inr, refl, sym, ap, subst, ◌∙◌, arith}
+use Rattle.std.proofs.Common.{◌≡◌, ℕ, zero, suc, ◌+◌, ◌<◌, ◌≤◌, List, [], ◌∷◌, ◌++◌, length, Option, None, Some, Bool, true, false, ◌==◌}
+use Rattle.std.proofs.Common.{if◌then◌else◌, fold, inl, inr, refl, sym, ap, subst, ◌∙◌, arith}
 use Rattle.std.proofs.lemmas.Grind.{fold-append}
 use Rattle.std.proofs.Math.ListN.{length-append}
 use Rattle.std.proofs.lemmas.Bool.{true≢false}
@@ -46,7 +47,8 @@ module _ {L : Type 0} where
       by (Some y) (Some n) y_is n_is e = record { yes_tree = y; no_tree = n; yes_is = y_is; no_is = n_is; tree_is = cc }
 
   -- a branch whose sides stand for trees stands for their fork
-  pub of_sides : (ts : List (Tree L)) (b : Branch) (y n : Tree L) → slice_get ts b.yes ≡ Some y → slice_get ts b.no ≡ Some n → tree_of ts (cell.Branch b) ≡ Some (Fork b.test y n)
+  pub of_sides : (ts : List (Tree L)) (b : Branch) (y n : Tree L) → slice_get ts b.yes ≡ Some y → slice_get ts b.no ≡ Some n
+      → tree_of ts (cell.Branch b) ≡ Some (Fork b.test y n)
   of_sides ts b y n y_is n_is = (λ i. fork_of b.test (y_is i) (n_is i))
 
   -- a cell stands for one tree while trees are added
@@ -113,7 +115,8 @@ module _ {L : Type 0} where
       let s = sides_of ts b t h in (slice_get_within ts b.yes s.yes_tree s.yes_is, slice_get_within ts b.no s.no_tree s.no_is)
 
   -- where there are as many trees as cells, the first cell stands for one
-  puts_one : (ts : List (Tree L)) (c : Cell L) (cs : List (Cell L)) → length (fold put_cell ts (c ∷ cs)) ≡ length ts + length (c ∷ cs) → (t : Tree L) × (tree_of ts c ≡ Some t)
+  puts_one : (ts : List (Tree L)) (c : Cell L) (cs : List (Cell L)) → length (fold put_cell ts (c ∷ cs)) ≡ length ts + length (c ∷ cs)
+      → (t : Tree L) × (tree_of ts c ≡ Some t)
   puts_one ts c cs grown = elim (put_or_not ts c) [
     | inl p ↦ p
     | inr e ↦ absurd (omega (arith, length_trees (put_cell ts c) cs, ap length e))
@@ -145,10 +148,12 @@ module _ {L : Type 0} where
 
   -- each cell of a store stands for the tree at its place
   pub stands : (cs : List (Cell L)) → IsArena cs → (k : ℕ) (c : Cell L) → slice_get cs k ≡ Some c → StandsAt (trees cs) k c
-  stands cs arena k c h = let place : length {A = Tree L} [] + k ≡ k = omega arith in subst (λ j. StandsAt (trees cs) j c) place (stand_after [] cs (omega (arith, arena.grown)) k c h)
+  stands cs arena k c h = let place : length {A = Tree L} [] + k ≡ k = omega arith in
+      subst (λ j. StandsAt (trees cs) j c) place (stand_after [] cs (omega (arith, arena.grown)) k c h)
 
   -- and each tree of a store has a cell
-  pub cell_at : (cs : List (Cell L)) → IsArena cs → (k : ℕ) (t : Tree L) → slice_get (trees cs) k ≡ Some t → (c : Cell L) × (slice_get cs k ≡ Some c) × StandsAt (trees cs) k c × (tree_of (trees cs) c ≡ Some t)
+  pub cell_at : (cs : List (Cell L)) → IsArena cs → (k : ℕ) (t : Tree L) → slice_get (trees cs) k ≡ Some t
+      → (c : Cell L) × (slice_get cs k ≡ Some c) × StandsAt (trees cs) k c × (tree_of (trees cs) c ≡ Some t)
   cell_at cs arena k t h =
       let within : k < length (trees cs) = slice_get_within (trees cs) k t h in
       let found = at_place cs k (omega (arith, within, arena.grown)) in
@@ -193,7 +198,8 @@ module _ {L : Type 0} where
   past_place ts (Bit f i) t one behind = one
 
   -- what stands behind a field's numbers in a fork has one place, where the fork and what stands behind them in its no side do
-  rest_place : (ts : List (Tree L)) (f : Field) (s : Test) (y n : Tree L) → HasOnePlace ts (Fork s y n) → HasOnePlace ts (rest f n) → HasOnePlace ts (rest f (Fork s y n))
+  rest_place : (ts : List (Tree L)) (f : Field) (s : Test) (y n : Tree L) → HasOnePlace ts (Fork s y n) → HasOnePlace ts (rest f n)
+      → HasOnePlace ts (rest f (Fork s y n))
   rest_place ts f (Equal g v) y n one behind = by (rank f == rank g)
     where
       by : (b : Bool) → HasOnePlace ts (if b then rest f n else Fork (Equal g v) y n)
@@ -280,7 +286,8 @@ module _ {L : Type 0} where
       knows : (k : ℕ) (d : Cell L) → slice_get (cs ++ c ∷ []) k ≡ Some d → KnowsPast (trees cs ++ stand.tree ∷ []) d
       knows k d h = elim (older_or_last cs c k d h) [
         | inl e ↦ (let s = stands cs arena k d e in knows_still (trees cs) (trees cs ++ stand.tree ∷ []) d s.tree s.is keeps (arena.pasts k d e))
-        | inr e ↦ subst (KnowsPast (trees cs ++ stand.tree ∷ [])) (sym e.1) (knows_still (trees cs) (trees cs ++ stand.tree ∷ []) c stand.tree stand.is keeps stand.past)
+        | inr e ↦ subst (KnowsPast (trees cs ++ stand.tree ∷ [])) (sym e.1)
+            (knows_still (trees cs) (trees cs ++ stand.tree ∷ []) c stand.tree stand.is keeps stand.past)
       ]
 
       distinct : (i j : ℕ) (d : Cell L) → slice_get (cs ++ c ∷ []) i ≡ Some d → slice_get (cs ++ c ∷ []) j ≡ Some d → i ≡ j
@@ -314,13 +321,16 @@ module _ {L : Type 0} where
       )
 
   -- so after a refusal too
-  pub after_insert : {A E : Type 0} (r : Result A E) (eq : Cell L → Cell L → Bool) (cs new : List (Cell L)) (c : Cell L) → eq c c ≡ true → IsArena cs → CanStand (trees cs) c
+  pub after_insert : {A E : Type 0} (r : Result A E) (eq : Cell L → Cell L → Bool) (cs new : List (Cell L)) (c : Cell L) → eq c c ≡ true
+      → IsArena cs → CanStand (trees cs) c
       → IfOk r (λ p. new ≡ insert_key eq cs c) → OnErr r (new ≡ cs) → IsArena new × Keeps (trees cs) (trees new)
-  after_insert (Ok p) eq cs new c itself arena stand ok err = subst (λ ds. IsArena ds × Keeps (trees cs) (trees ds)) (sym ok) (inserted eq cs c itself arena stand)
+  after_insert (Ok p) eq cs new c itself arena stand ok err = subst (λ ds. IsArena ds × Keeps (trees cs) (trees ds)) (sym ok)
+      (inserted eq cs c itself arena stand)
   after_insert (Err e) eq cs new c itself arena stand ok err = subst (λ ds. IsArena ds × Keeps (trees cs) (trees ds)) (sym err) (arena, λ k t h. h)
 
   -- and a cell that is the inserted one stands for its tree
-  pub tree_at : (cs new : List (Cell L)) (c d : Cell L) (k : ℕ) → CanStand (trees cs) c → IsArena new → Keeps (trees cs) (trees new) → slice_get new k ≡ Some d → c ≡ d → slice_get (trees new) k ≡ tree_of (trees cs) c
+  pub tree_at : (cs new : List (Cell L)) (c d : Cell L) (k : ℕ) → CanStand (trees cs) c → IsArena new → Keeps (trees cs) (trees new)
+      → slice_get new k ≡ Some d → c ≡ d → slice_get (trees new) k ≡ tree_of (trees cs) c
   tree_at cs new c d k stand arena keeps at same =
       let s = stands new arena k c (at ∙ ap Some (sym same)) in
       s.at ∙ (sym s.is ∙ (kept_tree (trees cs) (trees new) c stand.tree keeps stand.is ∙ sym stand.is))

@@ -71,7 +71,8 @@ no_alike f (Bit g i) k p q alike (Bit h j) other = by ((rank g == rank h) && (i 
 
 -- the points that lack a field stay such where they gain none of the numbers in its prerequisites
 abbrev pub StayLacking : Field → (Point → Type 0) → Type 0
-StayLacking f Lacks = (p q : Point) → ((g : Field) (v : ℕ) → rank g < rank f → IsKey v → answer (Equal g v) q ≡ true → answer (Equal g v) p ≡ true) → Lacks p → Lacks q
+StayLacking f Lacks = (p q : Point) → ((g : Field) (v : ℕ) → rank g < rank f → IsKey v → answer (Equal g v) q ≡ true
+    → answer (Equal g v) p ≡ true) → Lacks p → Lacks q
 
 module _ (f : Field) (Lacks : Point → Type 0) (stay : StayLacking f Lacks) where
   -- points alike but for the field lack it both
@@ -143,9 +144,11 @@ module _ {L : Type 0} where
     Guarded passed (Tip l) = Unit {0}
     Guarded passed (Fork s y n) = (rank f ≡ rank (field_of s) → NoneLacks f Lacks stay passed) × Guarded (s ∷ passed) y × Guarded passed n
 
-    module _ (passed : List Test) (s : Test) (y n : Tree L) (d : IsDiagram (Fork s y n)) (ahead : AreAhead passed (Fork s y n)) (same : IgnoresIn passed (Fork s y n)) where
+    module _ (passed : List Test) (s : Test) (y n : Tree L) (d : IsDiagram (Fork s y n)) (ahead : AreAhead passed (Fork s y n))
+        (same : IgnoresIn passed (Fork s y n)) where
       -- what is asked of the field leads to one side
-      equal_sides : rank f ≡ rank (field_of s) → (x : Point) → InRange x → AllPass passed x → Lacks x → (p : Point) → InRange p → leaf_at y p ≡ leaf_at (past s n) p
+      equal_sides : rank f ≡ rank (field_of s) → (x : Point) → InRange x → AllPass passed x → Lacks x → (p : Point) → InRange p
+          → leaf_at y p ≡ leaf_at (past s n) p
       equal_sides own x x_in pass lacks p p_in =
           let lawful = d.lawful.0 in
           let no_d = no_diagram s y n d in

@@ -4,7 +4,8 @@ use Rattle.std.specs.Prelude.{◌==◌, ◌&&◌, ◌||◌, if◌then◌else◌}
 use Rattle.std.proofs.Math.Bool.{or-true}
 use Rattle.std.proofs.lemmas.Bool.Decides.{eqb_tells}
 use Rattle.pq_fields.specs.declared.field.Field.{Field}
-use Rattle.pq_fields.specs.declared.field.Field.TheVariants.{Switch, Port, EthType, IpProto, EthSrc, EthDst, Ipv4Src, Ipv4Dst, TcpSrc, TcpDst, UdpSrc, UdpDst, Ipv6Src, Ipv6Dst}
+use Rattle.pq_fields.specs.declared.field.Field.TheVariants.{Switch, Port, EthType, IpProto, EthSrc, EthDst, Ipv4Src, Ipv4Dst, TcpSrc}
+use Rattle.pq_fields.specs.declared.field.Field.TheVariants.{TcpDst, UdpSrc, UdpDst, Ipv6Src, Ipv6Dst}
 use Rattle.pq_fields.specs.Packet.{Fit, Numbers, has_field, number_in, is_ip, is_ipv4, is_ipv6, rank, width_of, with_number}
 use Rattle.pq_fields.proofs.Fitting.{number_fits}
 use Rattle.pq_store.specs.declared.test.Test.{Test}
@@ -50,7 +51,8 @@ module _ {L : Type 0} where
       same s s_is = elim (eqb_tells (rank (field_of s)) (rank f)) [
         | inl own ↦
             passes_number s (with_number f m (packet_of p)) (packet_of q)
-            (subst (λ g. number_in g (with_number f m (packet_of p)) ≡ number_in g (packet_of q)) (rank_injective f (field_of s) (sym own.1)) (number_with f m (packet_of p)))
+            (subst (λ g. number_in g (with_number f m (packet_of p)) ≡ number_in g (packet_of q))
+            (rank_injective f (field_of s) (sym own.1)) (number_with f m (packet_of p)))
         | inr other ↦
             passes_number s (with_number f m (packet_of p)) (packet_of p) (number_with_other f (field_of s) m (packet_of p) other.1)
             ∙ (passes_packet_of s s_is p ∙ (alike s (λ e. other.1 (sym e)) ∙ sym (passes_packet_of s s_is q)))
@@ -99,7 +101,8 @@ present_follows f x y follows = by f follows
     ip f follows later = or_follows (is_ipv4 y) (is_ipv6 y) (is_ipv4 x) (is_ipv6 x) (ipv4 f follows later) (ipv6 f follows later)
 
     over : (f : Field) (v : ℕ) → FollowsKeys f x y → 3 < rank f → IsKey v → (is_ip y && (y.ip_proto == v)) ≡ true → (is_ip x && (x.ip_proto == v)) ≡ true
-    over f v follows later key = and_follows (is_ip y) (y.ip_proto == v) (is_ip x) (x.ip_proto == v) (ip f follows (omega arith)) (follows.protocols v key later)
+    over f v follows later key = and_follows (is_ip y) (y.ip_proto == v) (is_ip x) (x.ip_proto == v) (ip f follows (omega arith))
+        (follows.protocols v key later)
 
     by : (f : Field) → FollowsKeys f x y → has_field f y ≡ true → has_field f x ≡ true
     by Switch follows is = refl
@@ -157,11 +160,14 @@ prerequisites_in_range x z fit z_in g whole = by ((rank g == rank EthType) || (r
     by false = z_in g whole
 
 -- it passes the tests of these fields that the packet passes, and the others that the point passes
-pass_prerequisites : (passed : List Test) (x : Numbers) (z : Point) → PassesAll (prerequisites passed) x → AllPass passed z → AllPass passed (with_prerequisites x z)
+pass_prerequisites : (passed : List Test) (x : Numbers) (z : Point) → PassesAll (prerequisites passed) x → AllPass passed z
+    → AllPass passed (with_prerequisites x z)
 pass_prerequisites [] x z pass z_pass = tt
-pass_prerequisites (Equal g v ∷ rs) x z pass z_pass = by (λ more. pass_prerequisites rs x z more z_pass.1) ((rank g == rank EthType) || (rank g == rank IpProto)) pass
+pass_prerequisites (Equal g v ∷ rs) x z pass z_pass =
+    by (λ more. pass_prerequisites rs x z more z_pass.1) ((rank g == rank EthType) || (rank g == rank IpProto)) pass
   where
-    by : (PassesAll (prerequisites rs) x → AllPass rs (with_prerequisites x z)) → (b : Bool) → PassesAll (if b then Equal g v ∷ prerequisites rs else prerequisites rs) x
+    by : (PassesAll (prerequisites rs) x → AllPass rs (with_prerequisites x z)) → (b : Bool)
+        → PassesAll (if b then Equal g v ∷ prerequisites rs else prerequisites rs) x
         → (((if b then number_in g x else z.number g) == v) ≡ true) × AllPass rs (with_prerequisites x z)
     by more true pass = (pass.0, more pass.1)
     by more false pass = (z_pass.0, more pass)
@@ -175,12 +181,14 @@ prerequisites_lack f x z lacks = lacking_follows f x (packet_of (with_prerequisi
 }) lacks
 
 -- tests that some point passes, and none that lacks the field, make the field present by those of fields in prerequisites
-made_present : (f : Field) (passed : List Test) (z : Point) → InRange z → AllPass passed z → ((x : Point) → InRange x → AllPass passed x → Lacking f x → ⊥) → MakePresent (prerequisites passed) f
+made_present : (f : Field) (passed : List Test) (z : Point) → InRange z → AllPass passed z
+    → ((x : Point) → InRange x → AllPass passed x → Lacking f x → ⊥) → MakePresent (prerequisites passed) f
 made_present f passed z z_in z_pass none x fit pass = by (has_field f x) refl
   where
     by : (b : Bool) → has_field f x ≡ b → has_field f x ≡ true
     by true is = is
-    by false is = absurd (none (with_prerequisites x z) (prerequisites_in_range x z fit z_in) (pass_prerequisites passed x z pass z_pass) (prerequisites_lack f x z is))
+    by false is = absurd (none (with_prerequisites x z) (prerequisites_in_range x z fit z_in) (pass_prerequisites passed x z pass z_pass)
+        (prerequisites_lack f x z is))
 
 -- so each test of the field stands below its prerequisites
 stands_below : {L : Type 0} (f : Field) (passed : List Test) (t : Tree L) (z : Point) → IsDiagram t → AreAhead passed t → InRange z → AllPass passed z

@@ -31,7 +31,8 @@ module _ {L : Type 0} where
   join_first q s y n r (inr fork) root side = subst (IsBefore q) (sym fork.1) root
 
   -- it has the value of the side that the test chooses
-  pub join_value : (s : Test) (y n r : Tree L) (x : Numbers) → IsJoin s y n r → IsBefore s n → Ascends n → value r x ≡ (if passes s x then value y x else value n x)
+  pub join_value : (s : Test) (y n r : Tree L) (x : Numbers) → IsJoin s y n r → IsBefore s n → Ascends n
+      → value r x ≡ (if passes s x then value y x else value n x)
   join_value s y n r x (inl same) first up = ap (λ t. value t x) same.1 ∙ by (passes s x) refl
     where
       by : (b : Bool) → passes s x ≡ b → value n x ≡ (if b then value y x else value n x)

@@ -23,7 +23,8 @@ use Rattle.pq_lists.proofs.Places.{at_place}
 use Rattle.pq_store.proofs.Order.{rank_injective, before_side}
 
 -- a packet with the number fails each test of a later number of the field
-differs : (f g : Field) (v w : ℕ) (x : Numbers) → rank f ≡ rank g → Precedes (Equal f v) (Equal g w) → passes (Equal f v) x ≡ true → passes (Equal g w) x ≡ false
+differs : (f g : Field) (v w : ℕ) (x : Numbers) → rank f ≡ rank g → Precedes (Equal f v) (Equal g w) → passes (Equal f v) x ≡ true
+    → passes (Equal g w) x ≡ false
 differs f g v w x same first pass = elim (eqb_tells (number_in f x) v) [
   | inl is ↦ ne_eqb (number_in g x) w (λ e. later first (sym is.1 ∙ (ap (λ h. number_in h x) (rank_injective f g same) ∙ e)))
   | inr other ↦ absurd (true≢false (sym pass ∙ other.0))
@@ -35,7 +36,8 @@ differs f g v w x same first pass = elim (eqb_tells (number_in f x) v) [
 
 module _ {L : Type 0} where
   -- a packet with a number reaches behind the later tests of the field what it reaches through them
-  rest_value : (f : Field) (v : ℕ) (t : Tree L) (x : Numbers) → IsBefore (Equal f v) t → Ascends t → passes (Equal f v) x ≡ true → value (rest f t) x ≡ value t x
+  rest_value : (f : Field) (v : ℕ) (t : Tree L) (x : Numbers) → IsBefore (Equal f v) t → Ascends t → passes (Equal f v) x ≡ true
+      → value (rest f t) x ≡ value t x
   rest_value f v (Tip l) x first ascends pass = refl
   rest_value f v (Fork (Equal g w) y n) x first ascends pass = elim (eqb_tells (rank f) (rank g)) [
     | inl same ↦ rw (same.0, differs f g v w x same.1 first pass) (rest_value f v n x (before_side (Equal f v) (Equal g w) n first ascends.1) ascends.3 pass)
@@ -63,7 +65,8 @@ module _ {L : Type 0} where
   rest_behind ts f (Bit g i) y n r k r_is k_is = k_is
 
   -- what a branch keeps stands behind the numbers of the field with which it begins
-  pub branch_past : (cs : List (Cell L)) → IsArena cs → (f : Field) (v k : ℕ) (b : Branch) → slice_get cs k ≡ Some (cell.Branch b) → IsPastAt (trees cs) (Equal f v) k (behind f b k)
+  pub branch_past : (cs : List (Cell L)) → IsArena cs → (f : Field) (v k : ℕ) (b : Branch) → slice_get cs k ≡ Some (cell.Branch b)
+      → IsPastAt (trees cs) (Equal f v) k (behind f b k)
   branch_past cs arena f v k b h t t_is =
       let s = stands cs arena k (cell.Branch b) h in
       let p = sides_of (trees cs) b s.tree s.is in
@@ -77,7 +80,8 @@ module _ {L : Type 0} where
       let t = at_place ts k within in slice_get_within ts r (past s t.0) (is t.0 t.1)
 
   -- a branch shows its sides
-  pub branch_shows : (cs : List (Cell L)) → IsArena cs → (k : ℕ) (b : Branch) → slice_get cs k ≡ Some (cell.Branch b) → ShowsBranch (trees cs) k b.test b.yes b.no
+  pub branch_shows : (cs : List (Cell L)) → IsArena cs → (k : ℕ) (b : Branch) → slice_get cs k ≡ Some (cell.Branch b)
+      → ShowsBranch (trees cs) k b.test b.yes b.no
   branch_shows cs arena k b h =
       let s = stands cs arena k (cell.Branch b) h in
       let p = sides_of (trees cs) b s.tree s.is in
@@ -122,26 +126,30 @@ module _ {L : Type 0} where
   value_there ts k t x h = ap (option_map (λ u. value u x)) h
 
   -- of a packet that passes the test of a branch the yes side says what the branch says
-  pub yes_value : (ts : List (Tree L)) (k i j : ℕ) (s : Test) (x : Numbers) (b : Bool) (v : Option L) → ShowsBranch ts k s i j → b ≡ passes s x → b ≡ true → value_at ts k x ≡ v → value_at ts i x ≡ v
+  pub yes_value : (ts : List (Tree L)) (k i j : ℕ) (s : Test) (x : Numbers) (b : Bool) (v : Option L) → ShowsBranch ts k s i j
+      → b ≡ passes s x → b ≡ true → value_at ts k x ≡ v → value_at ts i x ≡ v
   yes_value ts k i j s x b v shows asked pass is =
       value_there ts i shows.yes_tree x shows.yes_is ∙ (ap (λ c. Some (if c then value shows.yes_tree x else value shows.no_tree x)) (sym pass ∙ asked)
       ∙ (sym (value_there ts k (Fork s shows.yes_tree shows.no_tree) x shows.is) ∙ is))
 
   -- and of one that fails it the no side does
-  pub no_value : (ts : List (Tree L)) (k i j : ℕ) (s : Test) (x : Numbers) (b : Bool) (v : Option L) → ShowsBranch ts k s i j → b ≡ passes s x → b ≡ false → value_at ts k x ≡ v → value_at ts j x ≡ v
+  pub no_value : (ts : List (Tree L)) (k i j : ℕ) (s : Test) (x : Numbers) (b : Bool) (v : Option L) → ShowsBranch ts k s i j
+      → b ≡ passes s x → b ≡ false → value_at ts k x ≡ v → value_at ts j x ≡ v
   no_value ts k i j s x b v shows asked fail is =
       value_there ts j shows.no_tree x shows.no_is ∙ (ap (λ c. Some (if c then value shows.yes_tree x else value shows.no_tree x)) (sym fail ∙ asked)
       ∙ (sym (value_there ts k (Fork s shows.yes_tree shows.no_tree) x shows.is) ∙ is))
 
   -- and it has the value of both
-  pub equal_value : (ts : List (Tree L)) (s : Test) (i j : ℕ) → AreDiagrams ts → AreJoinable ts s i j → i < length ts → j < length ts → IsPastAt ts s j i → TellsBoth ts s i j ts j
+  pub equal_value : (ts : List (Tree L)) (s : Test) (i j : ℕ) → AreDiagrams ts → AreJoinable ts s i j → i < length ts → j < length ts
+      → IsPastAt ts s j i → TellsBoth ts s i j ts j
   equal_value ts s i j diagrams may within_i within_j is x = by (passes s x) refl
     where
       by : (b : Bool) → passes s x ≡ b → value_at ts j x ≡ (if b then value_at ts i x else value_at ts j x)
       by true pass =
           let y = at_place ts i within_i in
           let n = at_place ts j within_j in
-          value_there ts j n.0 x n.1 ∙ (ap Some (sym (past_value s n.0 x (may y.0 n.0 y.1 n.1).before_no (diagrams j n.0 n.1).ascends pass)) ∙ sym (value_there ts i (past s n.0) x (is n.0 n.1)))
+          value_there ts j n.0 x n.1 ∙ (ap Some (sym (past_value s n.0 x (may y.0 n.0 y.1 n.1).before_no (diagrams j n.0 n.1).ascends pass))
+          ∙ sym (value_there ts i (past s n.0) x (is n.0 n.1)))
       by false fail = refl
 
   -- the sides of a test differ where the place of the first is not that of what the second says past it
@@ -150,7 +158,8 @@ module _ {L : Type 0} where
   sides_differ cs arena s i j r is other y n y_is n_is equal = other (one_place cs arena y i r y_is (is n n_is ∙ ap Some (sym equal)))
 
   -- a branch with such sides may stand
-  pub branch_stands : (cs : List (Cell L)) → IsArena cs → (b : Branch) → AreJoinable (trees cs) b.test b.yes b.no → b.yes < length (trees cs) → b.no < length (trees cs)
+  pub branch_stands : (cs : List (Cell L)) → IsArena cs → (b : Branch) → AreJoinable (trees cs) b.test b.yes b.no
+      → b.yes < length (trees cs) → b.no < length (trees cs)
       → IsPastAt (trees cs) b.test b.no b.past → (b.yes ≡ b.past → ⊥) → CanStand (trees cs) (cell.Branch b)
   branch_stands cs arena b may within_yes within_no is other =
       let y = at_place (trees cs) b.yes within_yes in
@@ -164,7 +173,8 @@ module _ {L : Type 0} where
       }
 
   -- it joins its sides
-  pub branch_join : (cs : List (Cell L)) → IsArena cs → (b : Branch) (new : List (Tree L)) (k : ℕ) → IsPastAt (trees cs) b.test b.no b.past → (b.yes ≡ b.past → ⊥)
+  pub branch_join : (cs : List (Cell L)) → IsArena cs → (b : Branch) (new : List (Tree L)) (k : ℕ) → IsPastAt (trees cs) b.test b.no b.past
+      → (b.yes ≡ b.past → ⊥)
       → slice_get new k ≡ tree_of (trees cs) (cell.Branch b) → JoinsAt (trees cs) b.test b.yes b.no new k
   branch_join cs arena b new k is other at y n y_is n_is =
       (Fork b.test y n, at ∙ of_sides (trees cs) b y n y_is n_is, inr (sides_differ cs arena b.test b.yes b.no b.past is other y n y_is n_is, refl))
@@ -176,7 +186,8 @@ module _ {L : Type 0} where
   side_value ts i j y n x y_is n_is false = sym (value_there ts j n x n_is)
 
   -- and has the value of both
-  pub branch_value : (ts new : List (Tree L)) (b : Branch) (k : ℕ) → b.yes < length ts → b.no < length ts → slice_get new k ≡ tree_of ts (cell.Branch b) → TellsBoth ts b.test b.yes b.no new k
+  pub branch_value : (ts new : List (Tree L)) (b : Branch) (k : ℕ) → b.yes < length ts → b.no < length ts
+      → slice_get new k ≡ tree_of ts (cell.Branch b) → TellsBoth ts b.test b.yes b.no new k
   branch_value ts new b k within_yes within_no at x =
       let y = at_place ts b.yes within_yes in
       let n = at_place ts b.no within_no in

@@ -1,5 +1,6 @@
 -- What is found of the leaves under a root, and how it grows.
-use Rattle.std.proofs.Common.{◌≡◌, ℕ, ◌<◌, inl, inr, Bool, true, false, if◌then◌else◌, List, [], ◌∷◌, ◌++◌, Some, length, get_or, set, refl, sym, ap, subst, ◌∙◌, true≢false, length-append, arith}
+use Rattle.std.proofs.Common.{◌≡◌, ℕ, ◌<◌, inl, inr, Bool, true, false, if◌then◌else◌, List, [], ◌∷◌, ◌++◌, Some, length, get_or, set, refl}
+use Rattle.std.proofs.Common.{sym, ap, subst, ◌∙◌, true≢false, length-append, arith}
 use Rattle.std.proofs.Math.ListN.{get_or-append}
 use Rattle.std.specs.Prelude.{slice_get}
 use Rattle.std.specs.List.{Any}
@@ -42,14 +43,16 @@ module _ {L : Type 0} where
   found_same ts found t u x same h = any_weaker (λ e. Hits ts u x e.leaf) (λ e. Hits ts t x e.leaf) (λ e hit. hit ∙ ap (λ l. Some (Tip l)) (sym same)) found h
 
   -- what is found under both sides is found under their test
-  pub fork_found : (ts : List (Tree L)) (found : List Least) (s : Test) (y n : Tree L) → AreFound ts found y → AreFound ts found n → AreFound ts found (Fork s y n)
+  pub fork_found : (ts : List (Tree L)) (found : List Least) (s : Test) (y n : Tree L) → AreFound ts found y → AreFound ts found n
+      → AreFound ts found (Fork s y n)
   fork_found ts found s y n in_yes in_no x fit = elim (cases_Bool (passes s x)) [
     | inl h ↦ found_same ts found (Fork s y n) y x (ap (λ b. if b then value y x else value n x) h) (in_yes x fit)
     | inr h ↦ found_same ts found (Fork s y n) n x (ap (λ b. if b then value y x else value n x) h) (in_no x fit)
   ]
 
   -- a tree may be marked whose leaves are found
-  pub sound_marked : (ts : List (Tree L)) (root : Tree L) (found : List Least) (seen : List Bool) (k : ℕ) (t : Tree L) → k < length seen → slice_get ts k ≡ Some t → AreFound ts found t → IsSound ts root found seen → IsSound ts root found (set seen k true)
+  pub sound_marked : (ts : List (Tree L)) (root : Tree L) (found : List Least) (seen : List Bool) (k : ℕ) (t : Tree L) → k < length seen
+      → slice_get ts k ≡ Some t → AreFound ts found t → IsSound ts root found seen → IsSound ts root found (set seen k true)
   sound_marked ts root found seen k t within is all sound = record {
     each = sound.each;
     ascending = sound.ascending;
@@ -64,7 +67,10 @@ module _ {L : Type 0} where
       one_some h = cc
 
   -- a leaf that isn't marked is found by the packet before which all is found
-  pub leaf_searched : (ts : List (Tree L)) (root : Tree L) (found : List Least) (seen : List Bool) (k : ℕ) (l : L) (p : Numbers) → k < length seen → slice_get ts k ≡ Some (Tip l) → ((i j : ℕ) (m : L) → slice_get ts i ≡ Some (Tip m) → slice_get ts j ≡ Some (Tip m) → i ≡ j) → get_or seen k false ≡ false → Fit p → IsSound ts root found seen → IsReady ts root found p → Leads root (Tip l) p → IsSearched ts root (Tip l) (λ x. Reaching (Tip l) x p) found (found ++ record { packet = p; leaf = k } ∷ []) (set seen k true)
+  pub leaf_searched : (ts : List (Tree L)) (root : Tree L) (found : List Least) (seen : List Bool) (k : ℕ) (l : L) (p : Numbers)
+      → k < length seen → slice_get ts k ≡ Some (Tip l) → ((i j : ℕ) (m : L) → slice_get ts i ≡ Some (Tip m) → slice_get ts j ≡ Some (Tip m)
+      → i ≡ j) → get_or seen k false ≡ false → Fit p → IsSound ts root found seen → IsReady ts root found p → Leads root (Tip l) p
+      → IsSearched ts root (Tip l) (λ x. Reaching (Tip l) x p) found (found ++ record { packet = p; leaf = k } ∷ []) (set seen k true)
   leaf_searched ts root found seen k l p within is one fresh fit sound ready leads = record {
     more = entry ∷ [];
     grown = refl;
@@ -77,7 +83,9 @@ module _ {L : Type 0} where
         | inl same ↦ subst (λ v. AreFound ts (found ++ entry ∷ []) v) (one_some (sym is ∙ ap (slice_get ts) (sym same) ∙ at)) all
         | inr other ↦ λ x x_fit. found_more ts found (entry ∷ []) u x (sound.settled j u (sym (get_or-set_other seen k j true false other) ∙ seen_j) at x x_fit)
       ];
-      marked = All-push (λ e. IsSeen (set seen k true) e.leaf) found entry (All-weaker (λ e. IsSeen seen e.leaf) (λ e. IsSeen (set seen k true) e.leaf) (λ e. seen_set seen k e.leaf within) found sound.marked) (get_or-set_same seen k true false within);
+      marked = All-push (λ e. IsSeen (set seen k true) e.leaf) found entry
+          (All-weaker (λ e. IsSeen seen e.leaf) (λ e. IsSeen (set seen k true) e.leaf)
+          (λ e. seen_set seen k e.leaf within) found sound.marked) (get_or-set_same seen k true false within);
     };
   }
     where

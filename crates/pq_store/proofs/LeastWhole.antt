@@ -47,7 +47,9 @@ module _ {L : Type 0} where
     }
 
     -- from the first packet, with nothing marked and nothing found
-    pub all_least : (old new : List Least) (before after : List Bool) (p : Numbers) → p ≡ zero_packet → old ≡ [] → ((j : ℕ) → get_or before j false ≡ false) → ((t : Tree L) → slice_get ts k ≡ Some t → Visits ts t p old before new after) → AreLeast ts k new
+    pub all_least : (old new : List Least) (before after : List Bool) (p : Numbers) → p ≡ zero_packet → old ≡ []
+        → ((j : ℕ) → get_or before j false ≡ false) → ((t : Tree L) → slice_get ts k ≡ Some t → Visits ts t p old before new after)
+        → AreLeast ts k new
     all_least old new before after p is_zero is_empty unmarked visit =
         let a : IsSearched ts t t (λ x. Reaching t x zero_packet) [] new after =
         subst (λ found. Visits ts t zero_packet found before new after) is_empty (subst (λ q. Visits ts t q old before new after) is_zero (visit t at)) t

@@ -1,5 +1,6 @@
 -- Which places are kept: those of the roots and of what stands under them.
-use Rattle.std.proofs.Common.{ℕ, ◌⊎◌, inl, inr, ◌+◌, ◌≤◌, ◌<◌, ◌≡◌, ◌∙◌, Bool, true, false, List, [], ◌++◌, length, get_or, take, drop, set, Some, sym, ap, arith, subst, length-set, get_or-set_same, get_or-set_other}
+use Rattle.std.proofs.Common.{ℕ, ◌⊎◌, inl, inr, ◌+◌, ◌≤◌, ◌<◌, ◌≡◌, ◌∙◌, Bool, true, false, List, [], ◌++◌, length, get_or, take, drop, set}
+use Rattle.std.proofs.Common.{Some, sym, ap, arith, subst, length-set, get_or-set_same, get_or-set_other}
 use Rattle.std.specs.Prelude.{slice_get, All}
 use Rattle.std.specs.List.{Contains}
 use Rattle.std.proofs.lemmas.Bool.{cases_lt}
@@ -39,7 +40,8 @@ pub record MarksRoots (roots : List ℕ) (i : ℕ) (kept : List Bool) : Type 0 w
   pub only : (k : ℕ) → IsMarked kept k → Contains roots k
 
 -- one more root is marked
-pub marks_root : (roots : List ℕ) (i root : ℕ) (kept : List Bool) → i < length roots → root ≡ get_or roots i root → root < length kept → MarksRoots roots i kept → MarksRoots roots (i + 1) (set kept root true)
+pub marks_root : (roots : List ℕ) (i root : ℕ) (kept : List Bool) → i < length roots → root ≡ get_or roots i root → root < length kept
+    → MarksRoots roots i kept → MarksRoots roots (i + 1) (set kept root true)
 marks_root roots i root kept here is within marks = record {
   ends =
       All-more (IsMarked (set kept root true)) roots i root here
@@ -60,7 +62,8 @@ written_back n xs ys long whole =
 
 module _ {L : Type 0} where
   -- the roots are marked, and no branch yet seen
-  pub marks_roots : (ts : List (Tree L)) (roots : List ℕ) (kept : List Bool) → length kept ≡ length ts → MarksRoots roots (length roots) kept → Marks ts roots (length ts) kept
+  pub marks_roots : (ts : List (Tree L)) (roots : List ℕ) (kept : List Bool) → length kept ≡ length ts
+      → MarksRoots roots (length roots) kept → Marks ts roots (length ts) kept
   marks_roots ts roots kept each marks = record {
     each = each;
     ends = subst (All (IsMarked kept)) (take_all (length roots) roots (omega arith)) marks.ends;
@@ -71,7 +74,9 @@ module _ {L : Type 0} where
   }
 
   -- a place that is unmarked or shows no branch has no sides to mark
-  pub marks_past : (ts : List (Tree L)) (roots : List ℕ) (place : ℕ) (kept : List Bool) → (IsMarked kept place → (test : Test) (i j : ℕ) → ShowsBranch ts place test i j → ⊥) → Marks ts roots (place + 1) kept → Marks ts roots place kept
+  pub marks_past : (ts : List (Tree L)) (roots : List ℕ) (place : ℕ) (kept : List Bool)
+      → (IsMarked kept place → (test : Test) (i j : ℕ) → ShowsBranch ts place test i j → ⊥) → Marks ts roots (place + 1) kept
+      → Marks ts roots place kept
   marks_past ts roots place kept none marks = record {
     each = marks.each;
     ends = marks.ends;
@@ -83,7 +88,9 @@ module _ {L : Type 0} where
   }
 
   -- the sides of a marked branch are marked
-  pub marks_branch : (ts : List (Tree L)) → IsCanonical ts → (roots : List ℕ) (place : ℕ) (kept : List Bool) (test : Test) (i j : ℕ) → ShowsBranch ts place test i j → IsMarked kept place → Marks ts roots (place + 1) kept → Marks ts roots place (set (set kept i true) j true)
+  pub marks_branch : (ts : List (Tree L)) → IsCanonical ts → (roots : List ℕ) (place : ℕ) (kept : List Bool) (test : Test) (i j : ℕ)
+      → ShowsBranch ts place test i j → IsMarked kept place → Marks ts roots (place + 1) kept
+      → Marks ts roots place (set (set kept i true) j true)
   marks_branch ts canonical roots place kept test i j shows marked marks = record {
     each = length-set (set kept i true) j true ∙ length-set kept i true ∙ marks.each;
     ends = All-weaker (IsMarked kept) (IsMarked both) keeps roots marks.ends;

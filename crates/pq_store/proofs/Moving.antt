@@ -49,7 +49,9 @@ zip_weaker P Q h (x ∷ xs) (y ∷ ys) pairs = (h x y pairs.0, zip_weaker P Q h 
 
 module _ {L : Type 0} where
   -- a kept place moves to an id that has its tree
-  pub moves_one : (ts : List (Tree L)) (kept : List Bool) (moved : List (Option ℕ)) (old new : List (Tree L)) (id : ℕ) → IsMarked kept (length moved) → length moved < length ts → slice_get new id ≡ slice_get ts (length moved) → Keeps old new → AddsOnly old new id → Moves ts kept moved old → Moves ts kept (moved ++ Some id ∷ []) new
+  pub moves_one : (ts : List (Tree L)) (kept : List Bool) (moved : List (Option ℕ)) (old new : List (Tree L)) (id : ℕ)
+      → IsMarked kept (length moved) → length moved < length ts → slice_get new id ≡ slice_get ts (length moved) → Keeps old new
+      → AddsOnly old new id → Moves ts kept moved old → Moves ts kept (moved ++ Some id ∷ []) new
   moves_one ts kept moved old new id marked within is keeps adds moves = record {
     same = λ k to moves_to. same k to (moves_cases moved (Some id) k to moves_to);
     each = λ k h is_kept.
@@ -76,27 +78,32 @@ module _ {L : Type 0} where
       same k to (inr e) = let same_id : id ≡ to = cc (e.1) in rw (e.0, sym same_id) is
 
   -- the sides of a diagram may be joined where they moved
-  pub joinable_moved : (new : List (Tree L)) (test : Test) (i j : ℕ) (y n : Tree L) → IsDiagram (Fork test y n) → slice_get new i ≡ Some y → slice_get new j ≡ Some n → (a b : Tree L) → slice_get new i ≡ Some a → slice_get new j ≡ Some b → IsJoinable test a b
+  pub joinable_moved : (new : List (Tree L)) (test : Test) (i j : ℕ) (y n : Tree L) → IsDiagram (Fork test y n) → slice_get new i ≡ Some y
+      → slice_get new j ≡ Some n → (a b : Tree L) → slice_get new i ≡ Some a → slice_get new j ≡ Some b → IsJoinable test a b
   joinable_moved new test i j y n diagram yes_is no_is a b at_i at_j =
       let yes_same : y ≡ a = cc (yes_is, at_i) in
       let no_same : n ≡ b = cc (no_is, at_j) in
       subst (λ (t : Tree L). IsJoinable test t b) yes_same (subst (λ (t : Tree L). IsJoinable test y t) no_same (joinable_sides test y n diagram))
 
   -- joined again they give the diagram
-  pub joined_again : (old new : List (Tree L)) (test : Test) (i j id : ℕ) (y n : Tree L) → IsDiagram (Fork test y n) → slice_get old i ≡ Some y → slice_get old j ≡ Some n → JoinsAt old test i j new id → slice_get new id ≡ Some (Fork test y n)
+  pub joined_again : (old new : List (Tree L)) (test : Test) (i j id : ℕ) (y n : Tree L) → IsDiagram (Fork test y n)
+      → slice_get old i ≡ Some y → slice_get old j ≡ Some n → JoinsAt old test i j new id → slice_get new id ≡ Some (Fork test y n)
   joined_again old new test i j id y n diagram yes_is no_is joins =
       let found : (joined : Tree L) × (slice_get new id ≡ Some joined) × IsJoin test y n joined = joins y n yes_is no_is in
       elim found.2 [ inl equal ↦ absurd (diagram.reduced.0 equal.0) | inr fork ↦ found.1 ∙ ap Some fork.1 ]
 
   -- each root has moved
-  pub roots_moved : (ts : List (Tree L)) (roots : List ℕ) (kept : List Bool) (moved : List (Option ℕ)) (new : List (Tree L)) → Marks ts roots 0 kept → Moves ts kept moved new → length moved ≡ length kept → All (λ root. (id : ℕ) × MovesTo moved root id) roots
+  pub roots_moved : (ts : List (Tree L)) (roots : List ℕ) (kept : List Bool) (moved : List (Option ℕ)) (new : List (Tree L))
+      → Marks ts roots 0 kept → Moves ts kept moved new → length moved ≡ length kept → All (λ root. (id : ℕ) × MovesTo moved root id) roots
   roots_moved ts roots kept moved new marks moves whole =
       All-weaker (IsMarked kept) (λ root. (id : ℕ) × MovesTo moved root id)
-      (λ root marked. let h : root < length kept = marked_within kept root marked in let within : root < length moved = omega arith in moves.each root within marked)
+      (λ root marked. let h : root < length kept = marked_within kept root marked in let within : root < length moved = omega arith in
+      moves.each root within marked)
       roots marks.ends
 
   -- trees of kept places, with the ids of the roots, are a compaction
-  pub compaction : (ts : List (Tree L)) (roots : List ℕ) (kept : List Bool) (moved : List (Option ℕ)) (new : List (Tree L)) (ids : List ℕ) → Marks ts roots 0 kept → Moves ts kept moved new → AllZip (MovesTo moved) roots ids → IsCompaction ts roots new ids
+  pub compaction : (ts : List (Tree L)) (roots : List ℕ) (kept : List Bool) (moved : List (Option ℕ)) (new : List (Tree L)) (ids : List ℕ)
+      → Marks ts roots 0 kept → Moves ts kept moved new → AllZip (MovesTo moved) roots ids → IsCompaction ts roots new ids
   compaction ts roots kept moved new ids marks moves zipped = record { same = same; under = λ k t at. under t (moves.only k t at) }
     where
       same : AllZip (λ root id. slice_get new id ≡ slice_get ts root) roots ids

@@ -31,7 +31,8 @@ module _ {L : Type 0} where
   part_no s y n (Fork r a b) (inr (inr part)) = inr (inr (part_no s y n b part))
 
   -- what stands under a root still does with a tree that stands wherever it stands
-  under_part : (ts : List (Tree L)) (roots : List ℕ) (t u : Tree L) → ((whole : Tree L) → IsPartOf u whole → IsPartOf t whole) → StandsUnder ts roots u → StandsUnder ts roots t
+  under_part : (ts : List (Tree L)) (roots : List ℕ) (t u : Tree L) → ((whole : Tree L) → IsPartOf u whole → IsPartOf t whole)
+      → StandsUnder ts roots u → StandsUnder ts roots t
   under_part ts roots t u wherever under =
       (under.0, under.1, under.2, under.3, (under.4.0, under.4.1, wherever under.4.0 under.4.2))
 

@@ -1,5 +1,6 @@
 -- What a diagram says past a test that precedes it.
-use Rattle.std.proofs.Common.{◌≡◌, ℕ, suc, ◌+◌, ◌^◌, ◌<◌, ◌≤◌, true, false, List, [], ◌∷◌, ◌++◌, length, length-append, refl, sym, ◌∙◌, ap, subst, inl, inr, eq-eqb, eqb-true, ne_eqb, arith}
+use Rattle.std.proofs.Common.{◌≡◌, ℕ, suc, ◌+◌, ◌^◌, ◌<◌, ◌≤◌, true, false, List, [], ◌∷◌, ◌++◌, length, length-append, refl, sym, ◌∙◌, ap}
+use Rattle.std.proofs.Common.{subst, inl, inr, eq-eqb, eqb-true, ne_eqb, arith}
 use Rattle.std.specs.Prelude.{◌==◌, if◌then◌else◌}
 use Rattle.std.proofs.Math.Nat.{le-max_right}
 use Rattle.std.proofs.lemmas.Bool.Decides.{eqb_tells}
@@ -133,8 +134,11 @@ module _ {L : Type 0} where
   free_number (Equal f v) t u more has_room =
       let found = fresh (2 ^ width_of f) (v ∷ more ++ (asked f t ++ asked f u))
       (omega (arith, length-append more (asked f t ++ asked f u), length-append (asked f t) (asked f u), asked_few f t, asked_few f u)) in
-      let none = none_right found.0 more (asked f t ++ asked f u) found.2.1 in
-      (found.0, (found.1, found.2.0, none_left found.0 (asked f t) (asked f u) none, none_right found.0 (asked f t) (asked f u) none), none_left found.0 more (asked f t ++ asked f u) found.2.1)
+      let none = none_right found.0 more (asked f t ++ asked f u) found.2.1 in (
+        found.0,
+        (found.1, found.2.0, none_left found.0 (asked f t) (asked f u) none, none_right found.0 (asked f t) (asked f u) none),
+        none_left found.0 more (asked f t ++ asked f u) found.2.1,
+      )
   free_number (Bit f i) t u more has_room =
       let found = fresh (suc (length more)) more (omega arith) in
       (found.0, tt, found.2)

@@ -1,6 +1,7 @@
 -- The first packets with a bit clear and with it set.
 use Rattle.std.proofs.Common.{◌≡◌, ℕ, ◌+◌, ◌-◌, ◌*◌, ◌/◌, ◌%◌, ◌^◌, ◌<◌, ◌≤◌, ◌⊎◌, inl, inr, true, false, ◌==◌, sym, ap, subst, ◌∙◌, arith}
-use Rattle.std.proofs.Math.Nat.{div-div-eq-div-mul, mul-mod_right, mod-add-div, mul-div_cancel_left, mul-add-mod_self_left, lt_of_mul-lt-mul_left, mul-le-mul_left, lt-mul-div-succ}
+use Rattle.std.proofs.Math.Nat.{div-div-eq-div-mul, mul-mod_right, mod-add-div, mul-div_cancel_left, mul-add-mod_self_left}
+use Rattle.std.proofs.Math.Nat.{lt_of_mul-lt-mul_left, mul-le-mul_left, lt-mul-div-succ}
 use Rattle.std.proofs.lemmas.Nat.{pow-add, pow_pos, div-mul-add}
 use Rattle.pq_fields.specs.declared.field.Field.{Field}
 use Rattle.pq_fields.specs.Packet.{Numbers, number_in, bit_in, width_of, with_number}
@@ -104,24 +105,42 @@ module _ (f : Field) (i : ℕ) (p : Numbers) (within : i < width_of f) (first : 
   -- with the bit set it is so too
   pub set_first : Begins f (2 ^ (width_of f - 1 - i)) bit_set
   unfolding half
-  set_first = (clear_with f (number_in f p + 2 ^ (width_of f - 1 - i)) p first.0, ap (λ m. m % half) set_number ∙ whole_half_more (number_in f p) half some whole)
+  set_first = (
+    clear_with f (number_in f p + 2 ^ (width_of f - 1 - i)) p first.0,
+    ap (λ m. m % half) set_number
+        ∙ whole_half_more (number_in f p) half some whole,
+  )
 
   -- packets that share the half share the span
   widened : (x q : Numbers) → Shares f half x q → Shares f (2 ^ (width_of f - i)) x q
-  widened x q same = (same.0, subst (λ m. number_in f x / m ≡ number_in f q / m) (sym doubled) (sym (div-div-eq-div-mul (number_in f x) half 2) ∙ ap (λ m. m / 2) same.1 ∙ div-div-eq-div-mul (number_in f q) half 2))
+  widened x q same = (
+    same.0,
+    subst (λ m. number_in f x / m ≡ number_in f q / m) (sym doubled)
+        (sym (div-div-eq-div-mul (number_in f x) half 2) ∙ ap (λ m. m / 2) same.1 ∙ div-div-eq-div-mul (number_in f q) half 2),
+  )
 
   -- packets that share the half with it share the span, and have the bit clear
   pub clear_shares : (x : Numbers) → Shares f (2 ^ (width_of f - 1 - i)) x p → Shares f (2 ^ (width_of f - i)) x p × (bit_in f i x ≡ false)
   unfolding half
-  clear_shares x same = (widened x p same, ap (λ m. m % 2 == 1) (same.1 ∙ in_halves (number_in f p) half some whole) ∙ ap (λ m. m == 1) (mul-mod_right 2 (number_in f p / (half * 2))))
+  clear_shares x same = (
+    widened x p same,
+    ap (λ m. m % 2 == 1) (same.1 ∙ in_halves (number_in f p) half some whole)
+        ∙ ap (λ m. m == 1) (mul-mod_right 2 (number_in f p / (half * 2))),
+  )
 
   -- with the bit set they have it set
   pub set_shares : (x : Numbers) → Shares f (2 ^ (width_of f - 1 - i)) x bit_set → Shares f (2 ^ (width_of f - i)) x p × (bit_in f i x ≡ true)
   unfolding half
   set_shares x same =
       let wide = widened x bit_set same in
-      let odd : number_in f x / half % 2 ≡ 1 = ap (λ m. m % 2) (same.1 ∙ ap (λ m. m / half) set_number ∙ one_half_more (number_in f p) half some whole) ∙ mul-add-mod_self_left 2 (number_in f p / (half * 2)) 1 in (
-        (agrees_back f (number_in f p + half) x p wide.0, wide.1 ∙ ap (λ m. m / 2 ^ (width_of f - i)) set_number ∙ ap (λ m. (number_in f p + half) / m) doubled ∙ same_double (number_in f p) half some whole ∙ ap (λ m. number_in f p / m) (sym doubled)),
+      let odd : number_in f x / half % 2 ≡ 1 = ap (λ m. m % 2) (same.1 ∙ ap (λ m. m / half) set_number
+      ∙ one_half_more (number_in f p) half some whole) ∙ mul-add-mod_self_left 2 (number_in f p / (half * 2)) 1 in (
+        (
+          agrees_back f (number_in f p + half) x p wide.0,
+          wide.1 ∙ ap (λ m. m / 2 ^ (width_of f - i)) set_number
+              ∙ ap (λ m. (number_in f p + half) / m) doubled ∙ same_double (number_in f p) half some whole
+              ∙ ap (λ m. number_in f p / m) (sym doubled),
+        ),
         ap (λ m. m == 1) odd,
       )
 
@@ -135,7 +154,8 @@ module _ (f : Field) (i : ℕ) (p : Numbers) (within : i < width_of f) (first : 
 
   -- what stands before the packet stands before it with the bit set
   pub earlier_set : (x : Numbers) → precedes x p ≡ true → precedes x bit_set ≡ true
-  earlier_set x before = precedes_more f (number_in f p) (number_in f p + 2 ^ (width_of f - 1 - i)) x p (omega arith) (subst (λ q. precedes x q ≡ true) (sym (with_own f p)) before)
+  earlier_set x before = precedes_more f (number_in f p) (number_in f p + 2 ^ (width_of f - 1 - i)) x p (omega arith)
+      (subst (λ q. precedes x q ≡ true) (sym (with_own f p)) before)
 
   -- so does what shares the half with the bit clear
   pub shared_set : (x : Numbers) → Shares f (2 ^ (width_of f - 1 - i)) x p → precedes x bit_set ≡ true

@@ -1,10 +1,12 @@
 -- The numbers of a packet, one field changed, and the order of packets.
-use Rattle.std.proofs.Common.{◌≡◌, ℕ, zero, suc, ◌<◌, ◌≤◌, ◌⊎◌, inl, inr, true, false, ◌==◌, ◌&&◌, ◌||◌, List, [], ◌∷◌, length, get_or, set, refl, sym, ap, subst, ◌∙◌, true≢false, lt_trans, lt_of_lt_of_le, arith}
+use Rattle.std.proofs.Common.{◌≡◌, ℕ, zero, suc, ◌<◌, ◌≤◌, ◌⊎◌, inl, inr, true, false, ◌==◌, ◌&&◌, ◌||◌, List, [], ◌∷◌, length, get_or, set}
+use Rattle.std.proofs.Common.{refl, sym, ap, subst, ◌∙◌, true≢false, lt_trans, lt_of_lt_of_le, arith}
 use Rattle.std.proofs.lemmas.List.{get_or-set_same, get_or-set_other}
 use Rattle.std.proofs.lemmas.Bool.{cases_order, cases_lt}
 use Rattle.std.proofs.lemmas.Bool.Decides.{nat_tests, leb_tells, eqb_tells}
 use Rattle.pq_fields.specs.declared.field.Field.{Field}
-use Rattle.pq_fields.specs.declared.field.Field.TheVariants.{Switch, Port, EthType, IpProto, EthSrc, EthDst, Ipv4Src, Ipv4Dst, TcpSrc, TcpDst, UdpSrc, UdpDst, Ipv6Src, Ipv6Dst}
+use Rattle.pq_fields.specs.declared.field.Field.TheVariants.{Switch, Port, EthType, IpProto, EthSrc, EthDst, Ipv4Src, Ipv4Dst, TcpSrc}
+use Rattle.pq_fields.specs.declared.field.Field.TheVariants.{TcpDst, UdpSrc, UdpDst, Ipv6Src, Ipv6Dst}
 use Rattle.pq_fields.specs.Packet.{Numbers, numbers, number_in, with_number, rank, width_of, is_wide, is_before, zero_packet}
 use Rattle.pq_store.specs.Least.{precedes}
 use Rattle.pq_store.specs.Search.{Agrees, IsClear}
@@ -98,11 +100,13 @@ ranked (suc (suc (suc (suc (suc (suc (suc (suc (suc (suc (suc (suc (suc (suc k))
 
 -- the changed field has the new number
 pub number_with : (f : Field) (n : ℕ) (x : Numbers) → number_in f (with_number f n x) ≡ n
-number_with f n x = sym (number_at f (with_number f n x)) ∙ ap (λ ns. get_or ns (rank f) 0) (numbers_with f n x) ∙ get_or-set_same (numbers x) (rank f) n 0 (rank_below f)
+number_with f n x = sym (number_at f (with_number f n x)) ∙ ap (λ ns. get_or ns (rank f) 0) (numbers_with f n x)
+    ∙ get_or-set_same (numbers x) (rank f) n 0 (rank_below f)
 
 -- the other fields keep theirs
 pub number_with_other : (f g : Field) (n : ℕ) (x : Numbers) → (rank g ≡ rank f → ⊥) → number_in g (with_number f n x) ≡ number_in g x
-number_with_other f g n x other = sym (number_at g (with_number f n x)) ∙ ap (λ ns. get_or ns (rank g) 0) (numbers_with f n x) ∙ get_or-set_other (numbers x) (rank f) (rank g) n 0 other ∙ number_at g x
+number_with_other f g n x other = sym (number_at g (with_number f n x)) ∙ ap (λ ns. get_or ns (rank g) 0) (numbers_with f n x)
+    ∙ get_or-set_other (numbers x) (rank f) (rank g) n 0 other ∙ number_at g x
 
 -- the packet whose numbers are 0 has 0 in each field
 pub zero_number : (f : Field) → number_in f zero_packet ≡ 0
@@ -126,17 +130,20 @@ below_zero : {n : ℕ} → n < 0 → ⊥
 below_zero h = omega arith
 
 -- one list stands before another where it is below it at a place and equal before
-before_at : (xs ys : List ℕ) (k : ℕ) → k < length xs → k < length ys → ((j : ℕ) → j < k → get_or xs j 0 ≡ get_or ys j 0) → get_or xs k 0 < get_or ys k 0 → is_before xs ys ≡ true
+before_at : (xs ys : List ℕ) (k : ℕ) → k < length xs → k < length ys → ((j : ℕ) → j < k → get_or xs j 0 ≡ get_or ys j 0)
+    → get_or xs k 0 < get_or ys k 0 → is_before xs ys ≡ true
 before_at [] ys k in_xs in_ys same less = absurd (omega arith)
 before_at (x ∷ xs) [] k in_xs in_ys same less = absurd (omega arith)
-before_at (x ∷ xs) (y ∷ ys) zero in_xs in_ys same less = elim (leb_tells (suc x) y) [ inl e ↦ ap (λ b. b || ((x == y) && is_before xs ys)) e.0 | inr e ↦ absurd (omega arith) ]
+before_at (x ∷ xs) (y ∷ ys) zero in_xs in_ys same less =
+    elim (leb_tells (suc x) y) [ inl e ↦ ap (λ b. b || ((x == y) && is_before xs ys)) e.0 | inr e ↦ absurd (omega arith) ]
 before_at (x ∷ xs) (y ∷ ys) (suc k) in_xs in_ys same less =
     let first : x ≡ y = same 0 (omega arith) in
     let later = before_at xs ys k (omega arith) (omega arith) (λ j h. same (suc j) (omega arith)) less in
     grind (arith, nat_tests)
 
 -- a list that stands before another as long is below it at a place and equal before
-differs_at : (xs ys : List ℕ) → length xs ≡ length ys → is_before xs ys ≡ true → (k : ℕ) × (k < length xs) × ((j : ℕ) → j < k → get_or xs j 0 ≡ get_or ys j 0) × (get_or xs k 0 < get_or ys k 0)
+differs_at : (xs ys : List ℕ) → length xs ≡ length ys → is_before xs ys ≡ true
+    → (k : ℕ) × (k < length xs) × ((j : ℕ) → j < k → get_or xs j 0 ≡ get_or ys j 0) × (get_or xs k 0 < get_or ys k 0)
 differs_at [] [] long before = absurd (true≢false (sym before))
 differs_at [] (y ∷ ys) long before = absurd (omega arith)
 differs_at (x ∷ xs) [] long before = absurd (true≢false (sym before))
@@ -144,8 +151,16 @@ differs_at (x ∷ xs) (y ∷ ys) long before = elim (leb_tells (suc x) y) [
   | inl less ↦ (0, omega arith, λ j h. absurd (omega arith), less.1)
   | inr more ↦ elim (eqb_tells x y) [
     | inl same ↦
-        let later = differs_at xs ys (omega arith) (rw (more.0, same.0) at before) in
-        (suc later.0, omega arith, λ j. elim j as (λ j. j < suc later.0 → get_or (x ∷ xs) j 0 ≡ get_or (y ∷ ys) j 0) [ zero ↦ λ h. same.1 | suc i ↦ λ h. later.2 i (omega arith) ], later.3)
+        let later = differs_at xs ys (omega arith) (rw (more.0, same.0) at before) in (
+          suc later.0,
+          omega arith,
+          λ j. elim j as (λ j. j < suc later.0 → get_or (x ∷ xs) j 0 ≡ get_or (y ∷ ys) j 0) [
+            | zero ↦
+                λ h. same.1
+            | suc i ↦ λ h. later.2 i (omega arith)
+          ],
+          later.3,
+        )
     | inr other ↦ absurd (true≢false (sym (rw (more.0, other.0) at before)))
   ]
 ]
@@ -154,7 +169,9 @@ differs_at (x ∷ xs) (y ∷ ys) long before = elim (leb_tells (suc x) y) [
 pub precedes_at : (f : Field) (x p : Numbers) → Agrees f x p → number_in f x < number_in f p → precedes x p ≡ true
 precedes_at f x p same less =
     before_at (numbers x) (numbers p) (rank f) (rank_below f) (rank_below f)
-    (λ j h. let g = ranked j (lt_trans h (rank_below f)) in subst (λ j. get_or (numbers x) j 0 ≡ get_or (numbers p) j 0) g.1 (number_at g.0 x ∙ same g.0 (subst (λ j. j < rank f) (sym g.1) h) ∙ sym (number_at g.0 p)))
+    (λ j h. let g = ranked j (lt_trans h (rank_below f)) in
+    subst (λ j. get_or (numbers x) j 0 ≡ get_or (numbers p) j 0) g.1 (number_at g.0 x ∙ same g.0 (subst (λ j. j < rank f) (sym g.1) h)
+    ∙ sym (number_at g.0 p)))
     (subst (λ a. a < get_or (numbers p) (rank f) 0) (sym (number_at f x)) (subst (λ b. number_in f x < b) (sym (number_at f p)) less))
 
 -- a packet that stands before another is below it in a field and agrees before
@@ -163,7 +180,8 @@ differs_in x p before =
     let d = differs_at (numbers x) (numbers p) refl before in
     let f = ranked d.0 d.1 in
     let same : (j : ℕ) → j < rank f.0 → get_or (numbers x) j 0 ≡ get_or (numbers p) j 0 = λ j h. d.2 j (subst (λ k. j < k) f.1 h) in
-    let less : get_or (numbers x) (rank f.0) 0 < get_or (numbers p) (rank f.0) 0 = subst (λ k. get_or (numbers x) k 0 < get_or (numbers p) k 0) (sym f.1) d.3 in (
+    let less : get_or (numbers x) (rank f.0) 0 < get_or (numbers p) (rank f.0) 0 =
+    subst (λ k. get_or (numbers x) k 0 < get_or (numbers p) k 0) (sym f.1) d.3 in (
       f.0,
       λ g h. sym (number_at g x) ∙ same (rank g) h ∙ number_at g p,
       subst (λ a. a < number_in f.0 p) (number_at f.0 x) (subst (λ b. get_or (numbers x) (rank f.0) 0 < b) (number_at f.0 p) less),
@@ -186,11 +204,13 @@ pub precedes_with : (f : Field) (n : ℕ) (x p : Numbers) → Agrees f x p → n
 precedes_with f n x p same less = precedes_at f x (with_number f n p) (agrees_with f n x p same) (subst (λ m. number_in f x < m) (sym (number_with f n p)) less)
 
 -- what stands before a clear packet with this number either stands before it with a lower one, or agrees and has a number between
-pub precedes_between : (f : Field) (a b : ℕ) (x p : Numbers) → IsClear f p → precedes x (with_number f b p) ≡ true → (precedes x (with_number f a p) ≡ true) ⊎ (Agrees f x p × (a ≤ number_in f x) × (number_in f x < b))
+pub precedes_between : (f : Field) (a b : ℕ) (x p : Numbers) → IsClear f p → precedes x (with_number f b p) ≡ true
+    → (precedes x (with_number f a p) ≡ true) ⊎ (Agrees f x p × (a ≤ number_in f x) × (number_in f x < b))
 precedes_between f a b x p clear before = elim (cases_order (rank d.0) (rank f)) [
   | inl same ↦ at_field (subst (λ g. Agrees g x (with_number f b p) × (number_in g x < number_in g (with_number f b p))) (rank_injective d.0 f same) (d.1, d.2))
   | inr other ↦ elim other [
-    | inl less ↦ inl (precedes_at d.0 x (with_number f a p) (λ h k. d.1 h k ∙ kept h (λ e. omega arith)) (subst (λ n. number_in d.0 x < n) (kept d.0 (λ e. omega arith)) d.2))
+    | inl less ↦ inl (precedes_at d.0 x (with_number f a p) (λ h k. d.1 h k ∙ kept h (λ e. omega arith))
+        (subst (λ n. number_in d.0 x < n) (kept d.0 (λ e. omega arith)) d.2))
     | inr more ↦ absurd (below_zero (subst (λ n. number_in d.0 x < n) (clear_with f b p clear d.0 more) d.2))
   ]
 ]
@@ -201,7 +221,8 @@ precedes_between f a b x p clear before = elim (cases_order (rank d.0) (rank f))
     kept : (g : Field) → (rank g ≡ rank f → ⊥) → number_in g (with_number f b p) ≡ number_in g (with_number f a p)
     kept g other = number_with_other f g b p other ∙ sym (number_with_other f g a p other)
 
-    at_field : Agrees f x (with_number f b p) × (number_in f x < number_in f (with_number f b p)) → (precedes x (with_number f a p) ≡ true) ⊎ (Agrees f x p × (a ≤ number_in f x) × (number_in f x < b))
+    at_field : Agrees f x (with_number f b p) × (number_in f x < number_in f (with_number f b p))
+        → (precedes x (with_number f a p) ≡ true) ⊎ (Agrees f x p × (a ≤ number_in f x) × (number_in f x < b))
     at_field h = elim (cases_lt (number_in f x) a) [
       | inl less ↦ inl (precedes_with f a x p (agrees_back f b x p h.0) less)
       | inr more ↦ inr (agrees_back f b x p h.0, more, subst (λ n. number_in f x < n) (number_with f b p) h.1)
@@ -212,10 +233,12 @@ pub precedes_more : (f : Field) (a b : ℕ) (x p : Numbers) → a ≤ b → prec
 precedes_more f a b x p more before = elim (cases_order (rank d.0) (rank f)) [
   | inl same ↦ at_field (subst (λ g. Agrees g x (with_number f a p) × (number_in g x < number_in g (with_number f a p))) (rank_injective d.0 f same) (d.1, d.2))
   | inr other ↦ elim other [
-    | inl less ↦ precedes_at d.0 x (with_number f b p) (λ h k. d.1 h k ∙ kept h (λ e. omega arith)) (subst (λ n. number_in d.0 x < n) (kept d.0 (λ e. omega arith)) d.2)
+    | inl less ↦ precedes_at d.0 x (with_number f b p) (λ h k. d.1 h k ∙ kept h (λ e. omega arith))
+        (subst (λ n. number_in d.0 x < n) (kept d.0 (λ e. omega arith)) d.2)
     | inr later ↦ elim (cases_order a b) [
       | inl same ↦ subst (λ n. precedes x (with_number f n p) ≡ true) same before
-      | inr rises ↦ precedes_with f b x p (λ g h. d.1 g (lt_trans h later) ∙ number_with_other f g a p (λ e. omega arith)) (subst (λ n. n < b) (sym (d.1 f later ∙ number_with f a p)) (elim rises [ inl h ↦ h | inr h ↦ absurd (omega arith) ]))
+      | inr rises ↦ precedes_with f b x p (λ g h. d.1 g (lt_trans h later) ∙ number_with_other f g a p (λ e. omega arith))
+          (subst (λ n. n < b) (sym (d.1 f later ∙ number_with f a p)) (elim rises [ inl h ↦ h | inr h ↦ absurd (omega arith) ]))
     ]
   ]
 ]

@@ -1,5 +1,6 @@
 -- The packets that reach a tree share what was asked before it.
-use Rattle.std.proofs.Common.{◌≡◌, ℕ, suc, ◌+◌, ◌-◌, ◌*◌, ◌/◌, ◌%◌, ◌^◌, ◌<◌, ◌≤◌, ◌⊎◌, inl, inr, false, ◌==◌, refl, sym, ap, subst, ◌∙◌, lt_trans, lt_irrefl, arith}
+use Rattle.std.proofs.Common.{◌≡◌, ℕ, suc, ◌+◌, ◌-◌, ◌*◌, ◌/◌, ◌%◌, ◌^◌, ◌<◌, ◌≤◌, ◌⊎◌, inl, inr, false, ◌==◌, refl, sym, ap, subst, ◌∙◌}
+use Rattle.std.proofs.Common.{lt_trans, lt_irrefl, arith}
 use Rattle.std.proofs.Math.Nat.{div-div-eq-div-mul, mul-mod_right, zero-mod, mod-add-div}
 use Rattle.std.proofs.lemmas.Nat.{pow-add}
 use Rattle.std.proofs.lemmas.Bool.Decides.{eqb_tells}
@@ -41,7 +42,8 @@ module _ {L : Type 0} where
   -- the first packet of a span is the first before such a tree
   pub first_inside : (f : Field) (span : ℕ) (t : Tree L) (p : Numbers) → Inside f span t → Begins f span p → IsFirst t p
   first_inside f span (Tip l) p inside first = tt
-  first_inside f span (Fork t y n) p (inl later) first = (λ g h. first.0 g (lt_trans later h), ap (λ m. m % span_of t) (first.0 (field_of t) later) ∙ zero-mod (span_of t))
+  first_inside f span (Fork t y n) p (inl later) first =
+      (λ g h. first.0 g (lt_trans later h), ap (λ m. m % span_of t) (first.0 (field_of t) later) ∙ zero-mod (span_of t))
   first_inside f span (Fork t y n) p (inr (is, k, e)) first =
       let moved : Begins (field_of t) span p = subst (λ g. Begins g span p) is first in
       (moved.0, mod_factor (number_in (field_of t) p) (span_of t) k (ap (λ m. number_in (field_of t) p % m) (sym e) ∙ moved.1))
@@ -83,20 +85,27 @@ module _ {L : Type 0} where
   pub rest_inside : (f : Field) (from : ℕ) (t : Tree L) → AsksFrom f from t → AllLawful t → Ascends t → Inside f 1 (rest f t)
   rest_inside f from (Tip l) asks lawful ascends = tt
   rest_inside f from (Fork (Equal g v) y n) asks lawful ascends = elim (eqb_tells (rank f) (rank g)) [
-    | inl e ↦ rw e.0 (rest_inside f (suc v) n (subst (λ h. AsksFrom h (suc v) n) (sym (rank_injective f g e.1)) (no_of_number g v n lawful.0 lawful.2 ascends.1)) lawful.2 ascends.3)
+    | inl e ↦ rw e.0 (rest_inside f (suc v) n
+        (subst (λ h. AsksFrom h (suc v) n) (sym (rank_injective f g e.1)) (no_of_number g v n lawful.0 lawful.2 ascends.1)) lawful.2
+        ascends.3)
     | inr e ↦ rw e.0 (elim asks [ inl later ↦ inl later | inr same ↦ absurd (e.1 same.0) ])
   ]
   rest_inside f from (Fork (Bit g j) y n) asks lawful ascends = inl asks
 
   -- a packet with a lower number reaches what stands behind the field's numbers
-  pub value_rest : (f : Field) (from : ℕ) (t : Tree L) (x : Numbers) → AsksFrom f from t → AllLawful t → Ascends t → number_in f x < from → value t x ≡ value (rest f t) x
+  pub value_rest : (f : Field) (from : ℕ) (t : Tree L) (x : Numbers) → AsksFrom f from t → AllLawful t → Ascends t → number_in f x < from
+      → value t x ≡ value (rest f t) x
   value_rest f from (Tip l) x asks lawful ascends less = refl
   value_rest f from (Fork (Equal g v) y n) x asks lawful ascends less = elim (eqb_tells (rank f) (rank g)) [
     | inl e ↦
         let is : f ≡ g = rank_injective f g e.1 in
         let below : number_in f x < v = elim asks [ inl later ↦ absurd (omega arith) | inr same ↦ omega arith ] in
-        let differs : (number_in g x == v) ≡ false = elim (eqb_tells (number_in g x) v) [ inl h ↦ absurd (lt_irrefl _ (subst (λ m. m < v) (ap (λ h. number_in h x) is ∙ h.1) below)) | inr h ↦ h.0 ] in
-        rw (e.0, differs) (value_rest f (suc v) n x (subst (λ h. AsksFrom h (suc v) n) (sym is) (no_of_number g v n lawful.0 lawful.2 ascends.1)) lawful.2 ascends.3 (omega arith))
+        let differs : (number_in g x == v) ≡ false = elim (eqb_tells (number_in g x) v) [
+          | inl h ↦ absurd (lt_irrefl _ (subst (λ m. m < v) (ap (λ h. number_in h x) is ∙ h.1) below))
+          | inr h ↦ h.0
+        ] in
+        rw (e.0, differs) (value_rest f (suc v) n x
+        (subst (λ h. AsksFrom h (suc v) n) (sym is) (no_of_number g v n lawful.0 lawful.2 ascends.1)) lawful.2 ascends.3 (omega arith))
     | inr e ↦ rw e.0 refl
   ]
   value_rest f from (Fork (Bit g j) y n) x asks lawful ascends less = refl

@@ -96,27 +96,32 @@ module _ {L : Type 0} where
           ∙ sym (hit s m p is e.ascends.1 other.ascends)
 
   -- no fork agrees with a diagram behind its test
-  none_alone : (k : ℕ) → AreOneBelow L k → (s : Test) (y n u : Tree L) → size (Fork s y n) + size u < suc k → IsDiagram (Fork s y n) → IsDiagram u → IsBefore s u → Agree (Fork s y n) u → ⊥
+  none_alone : (k : ℕ) → AreOneBelow L k → (s : Test) (y n u : Tree L) → size (Fork s y n) + size u < suc k → IsDiagram (Fork s y n)
+      → IsDiagram u → IsBefore s u → Agree (Fork s y n) u → ⊥
   none_alone k one s y n u small d e first agree =
       let own = no_diagram s y n d in
       d.reduced.0 (one y (past s n) (omega (arith, past_size s n)) (yes_diagram s y n d) (past_diagram s n own) (alone_sides s y n u d e first agree))
 
   -- forks of one test that agree are one
-  same_fork : (k : ℕ) → AreOneBelow L k → (s : Test) (y n z m : Tree L) → size (Fork s y n) + size (Fork s z m) < suc k → IsDiagram (Fork s y n) → IsDiagram (Fork s z m) → Agree (Fork s y n) (Fork s z m) → Fork s y n ≡ Fork s z m
+  same_fork : (k : ℕ) → AreOneBelow L k → (s : Test) (y n z m : Tree L) → size (Fork s y n) + size (Fork s z m) < suc k
+      → IsDiagram (Fork s y n) → IsDiagram (Fork s z m) → Agree (Fork s y n) (Fork s z m) → Fork s y n ≡ Fork s z m
   same_fork k one s y n z m small d e agree =
       ap₂ (Fork s)
       (one y z (omega arith) (yes_diagram s y n d) (yes_diagram s z m e) (yes_sides s y n z m d e agree))
       (one n m (omega arith) (no_diagram s y n d) (no_diagram s z m e) (no_sides s y n z m d e agree))
 
   -- forks of equal tests that agree are one
-  same_root : (k : ℕ) → AreOneBelow L k → (s t : Test) → s ≡ t → (y n z m : Tree L) → size (Fork s y n) + size (Fork t z m) < suc k → IsDiagram (Fork s y n) → IsDiagram (Fork t z m) → Agree (Fork s y n) (Fork t z m) → Fork s y n ≡ Fork t z m
-  same_root k one s t is y n z m = subst (λ r. size (Fork s y n) + size (Fork r z m) < suc k → IsDiagram (Fork s y n) → IsDiagram (Fork r z m) → Agree (Fork s y n) (Fork r z m) → Fork s y n ≡ Fork r z m) is (same_fork k one s y n z m)
+  same_root : (k : ℕ) → AreOneBelow L k → (s t : Test) → s ≡ t → (y n z m : Tree L) → size (Fork s y n) + size (Fork t z m) < suc k
+      → IsDiagram (Fork s y n) → IsDiagram (Fork t z m) → Agree (Fork s y n) (Fork t z m) → Fork s y n ≡ Fork t z m
+  same_root k one s t is y n z m = subst (λ r. size (Fork s y n) + size (Fork r z m) < suc k → IsDiagram (Fork s y n)
+      → IsDiagram (Fork r z m) → Agree (Fork s y n) (Fork r z m) → Fork s y n ≡ Fork r z m) is (same_fork k one s y n z m)
 
   same_below : (k : ℕ) → AreOneBelow L k
   same_below zero t u small d e agree = absurd (omega arith)
   same_below (suc k) (Tip l) (Tip m) small d e agree = ap Tip (agree zero_point zero_in_range)
   same_below (suc k) (Fork s y n) (Tip m) small d e agree = absurd (none_alone k (same_below k) s y n (Tip m) small d e tt agree)
-  same_below (suc k) (Tip l) (Fork t z m) small d e agree = absurd (none_alone k (same_below k) t z m (Tip l) (omega arith) e d tt (λ p range. sym (agree p range)))
+  same_below (suc k) (Tip l) (Fork t z m) small d e agree =
+      absurd (none_alone k (same_below k) t z m (Tip l) (omega arith) e d tt (λ p range. sym (agree p range)))
   same_below (suc k) (Fork s y n) (Fork t z m) small d e agree = elim (compared s t d.lawful.0 e.lawful.0) [
     | inl first ↦ absurd (none_alone k (same_below k) s y n (Fork t z m) small d e first agree)
     | inr other ↦ elim other [

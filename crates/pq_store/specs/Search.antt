@@ -1,5 +1,6 @@
 -- The search for least packets: parts of all packets that begin alike, and what is found of them so far.
-use Rattle.std.specs.Prelude.{ℕ, ◌+◌, ◌-◌, ◌/◌, ◌%◌, ◌^◌, ◌≤◌, ◌<◌, ◌≡◌, ◌⊎◌, ◌==◌, Bool, true, false, List, ◌++◌, Option, Some, None, slice_get, slice_index_or, IfSome}
+use Rattle.std.specs.Prelude.{ℕ, ◌+◌, ◌-◌, ◌/◌, ◌%◌, ◌^◌, ◌≤◌, ◌<◌, ◌≡◌, ◌⊎◌, ◌==◌, Bool, true, false, List, ◌++◌, Option, Some, None}
+use Rattle.std.specs.Prelude.{slice_get, slice_index_or, IfSome}
 use Rattle.std.specs.List.{All, Any, AllPairs}
 use Rattle.pq_fields.specs.declared.field.Field.{Field}
 use Rattle.pq_fields.specs.Packet.{Numbers, Fit, number_in, rank, width_of, with_number}
@@ -118,7 +119,8 @@ module _ {L : Type 0} where
 
   -- a visit of a tree
   abbrev pub Visits : List (Tree L) → Tree L → Numbers → List Least → List Bool → List Least → List Bool → Type 0
-  Visits ts t p old before new after = (root : Tree L) → IsSound ts root old before → IsReady ts root old p → Leads root t p → IsSearched ts root t (λ x. Reaching t x p) old new after
+  Visits ts t p old before new after = (root : Tree L) → IsSound ts root old before → IsReady ts root old p → Leads root t p
+      → IsSearched ts root t (λ x. Reaching t x p) old new after
 
   -- the number that what stands behind the field's numbers may be reached by, or that it was visited
   abbrev pub IsGap : List (Tree L) → Tree L → List Least → Option ℕ → ℕ → Type 0
@@ -127,7 +129,9 @@ module _ {L : Type 0} where
 
   -- a visit of a tree whose numbers of a field go on from one
   abbrev pub VisitsFrom : List (Tree L) → Tree L → Field → Option ℕ → Numbers → List Least → List Bool → List Least → List Bool → Type 0
-  VisitsFrom ts t f gap p old before new after = (root : Tree L) (from : ℕ) → AsksFrom f from t → IsGap ts (rest f t) old gap from → IsSound ts root old before → IsReady ts root old (with_number f from p) → LeadsFrom root t f from p → IsSearched ts root t (λ x. Agrees f x p) old new after
+  VisitsFrom ts t f gap p old before new after = (root : Tree L) (from : ℕ) → AsksFrom f from t → IsGap ts (rest f t) old gap from
+      → IsSound ts root old before → IsReady ts root old (with_number f from p) → LeadsFrom root t f from p
+      → IsSearched ts root t (λ x. Agrees f x p) old new after
 
   -- so many numbers were tested before, and there is room for those below
   abbrev pub HasGapRoom : Field → Option ℕ → Tree L → Type 0

@@ -1,5 +1,6 @@
 -- A leaf put into a tree, and into one of two halves.
-use Rattle.std.proofs.Common.{ℕ, zero, suc, ◌+◌, ◌^◌, ◌/◌, ◌<◌, ◌≤◌, ◌≡◌, List, [], ◌∷◌, ◌++◌, take, drop, length, length-append, get_or, inl, inr, refl, sym, ap, subst, arith}
+use Rattle.std.proofs.Common.{ℕ, zero, suc, ◌+◌, ◌^◌, ◌/◌, ◌<◌, ◌≤◌, ◌≡◌, List, [], ◌∷◌, ◌++◌, take, drop, length, length-append, get_or}
+use Rattle.std.proofs.Common.{inl, inr, refl, sym, ap, subst, arith}
 use Rattle.std.specs.Prelude.{◌⊎◌, slice_set}
 use Rattle.std.proofs.Math.Nat.{pow-le-pow_right}
 use Rattle.std.proofs.lemmas.List.{append-nil, drop_all, length-drop, length-take, take-append-drop}
@@ -9,7 +10,8 @@ use Rattle.pq_policy.specs.Policy.{PolicyTree}
 use Rattle.pq_store.specs.Store.{Keeps}
 use Rattle.pq_store.specs.Tree.{Tree}
 use Rattle.pq_meaning.specs.Parts.{FitAsParts}
-use Rattle.pq_sum.specs.Sum.{AreChanged, AreCounted, AreHalves, IsChange, IsChanged, IsCounted, IsReplacement, IsSumTree, MayChange, MayChangeHalf, MayJoin, UnitesParts, replaced}
+use Rattle.pq_sum.specs.Sum.{AreChanged, AreCounted, AreHalves, IsChange, IsChanged, IsCounted, IsReplacement, IsSumTree, MayChange}
+use Rattle.pq_sum.specs.Sum.{MayChangeHalf, MayJoin, UnitesParts, replaced}
 use Rattle.pq_sum.proofs.Replaced.{drop_before, drop_behind, take_before, take_behind}
 use Rattle.pq_sum.proofs.Trees.{cells_of, double, halves_of, parts_of, root_of, some_cell, some_slots, tree_still}
 use Rattle.pq_sum.proofs.Unions.{halves_fit}
@@ -74,7 +76,8 @@ one_cell T ts (suc h) cells ps one tree =
 
 -- with the leaf in its slot it is the tree of the new part
 pub changed_slot : (T : Topology) (ts : Trees) (cells new_cells : List ℕ) (slot leaf h : ℕ) (ps new : List PolicyTree)
-    → length cells ≡ 1 → new_cells ≡ leaf ∷ [] → IsSumTree T ts h cells ps → IsChange T ts (2 ^ h) ps slot leaf new → IsSumTree T ts h new_cells (replaced slot new ps)
+    → length cells ≡ 1 → new_cells ≡ leaf ∷ [] → IsSumTree T ts h cells ps → IsChange T ts (2 ^ h) ps slot leaf new
+    → IsSumTree T ts h new_cells (replaced slot new ps)
 changed_slot T ts cells new_cells slot leaf zero ps new one is tree change = record {
   root = leaf;
   is = is;
@@ -105,7 +108,8 @@ pub half_may_change : (ts : Trees) (cells front back : List ℕ) (slot leaf : �
     → MayChange ts cells slot leaf → MayChangeHalf ts front back slot leaf
 half_may_change ts cells front back slot leaf more is_front is_back may = by may.height may.tree may.change
   where
-    by : (h : ℕ) → IsSumTree may.topology ts h cells may.parts → IsChange may.topology ts (2 ^ h) may.parts slot leaf may.new → MayChangeHalf ts front back slot leaf
+    by : (h : ℕ) → IsSumTree may.topology ts h cells may.parts → IsChange may.topology ts (2 ^ h) may.parts slot leaf may.new
+        → MayChangeHalf ts front back slot leaf
     by zero tree change = absurd (more (ap (λ l. length l) tree.is))
     by (suc h) tree change = record {
       topology = may.topology;
@@ -192,7 +196,8 @@ module _ (T : Topology) (ts : Trees) (h : ℕ) (front back : List ℕ) (ps new :
     pub first_may_change : MayChange ts front slot leaf
     first_may_change = record { topology = T; height = h; parts = take (2 ^ h) ps; new = new; tree = halves.first; change = first_change }
 
-    pub first_changed : (now : Trees) (new_front : List ℕ) → Keeps ts now → IsChanged ts front slot leaf now new_front → AreHalves T now h new_front back (replaced slot new ps)
+    pub first_changed : (now : Trees) (new_front : List ℕ) → Keeps ts now → IsChanged ts front slot leaf now new_front
+        → AreHalves T now h new_front back (replaced slot new ps)
     first_changed now new_front keeps changed = record {
       first = subst (IsSumTree T now h new_front) (sym first_is) (changed T h (take (2 ^ h) ps) new halves.first first_change);
       behind = subst (IsSumTree T now h back) (sym behind_stays) (tree_still T ts now keeps h back (drop (2 ^ h) ps) halves.behind);
@@ -233,7 +238,8 @@ module _ (T : Topology) (ts : Trees) (h : ℕ) (front back : List ℕ) (ps new :
     pub second_may_change : MayChange ts back d leaf
     second_may_change = record { topology = T; height = h; parts = drop (2 ^ h) ps; new = new; tree = halves.behind; change = second_change }
 
-    pub second_changed : (now : Trees) (new_back : List ℕ) → Keeps ts now → IsChanged ts back d leaf now new_back → AreHalves T now h front new_back (replaced slot new ps)
+    pub second_changed : (now : Trees) (new_back : List ℕ) → Keeps ts now → IsChanged ts back d leaf now new_back
+        → AreHalves T now h front new_back (replaced slot new ps)
     second_changed now new_back keeps changed = record {
       first = subst (IsSumTree T now h front) (sym first_stays) (tree_still T ts now keeps h front (take (2 ^ h) ps) halves.first);
       behind = subst (IsSumTree T now h new_back) (sym behind_is) (changed T h (drop (2 ^ h) ps) new halves.behind second_change);
@@ -258,17 +264,20 @@ module _ (T : Topology) (old mid now : Trees) (cells front back new_front new_ba
     (is_front : front ≡ take (length (drop 1 cells) / 2) (drop 1 cells)) (is_back : back ≡ drop (length (drop 1 cells) / 2) (drop 1 cells))
     (more : length cells ≡ 1 → ⊥) where
   -- it is changed where its halves are and their roots come together
-  pub whole_changed : (new_cells : List ℕ) (root x y : ℕ) → x ≡ get_or new_front 0 x → y ≡ get_or new_back 0 y → Keeps mid now → AreChanged old front back slot leaf mid new_front new_back
+  pub whole_changed : (new_cells : List ℕ) (root x y : ℕ) → x ≡ get_or new_front 0 x → y ≡ get_or new_back 0 y → Keeps mid now
+      → AreChanged old front back slot leaf mid new_front new_back
       → ((ps qs : List PolicyTree) → UnitesParts T mid ps x → UnitesParts T mid qs y → UnitesParts T now (ps ++ qs) root)
       → new_cells ≡ root ∷ (new_front ++ new_back)
-      → (h : ℕ) (ps new : List PolicyTree) → IsSumTree T old h cells ps → IsChange T old (2 ^ h) ps slot leaf new → IsSumTree T now h new_cells (replaced slot new ps)
+      → (h : ℕ) (ps new : List PolicyTree) → IsSumTree T old h cells ps → IsChange T old (2 ^ h) ps slot leaf new
+      → IsSumTree T now h new_cells (replaced slot new ps)
   whole_changed new_cells root x y at_x at_y keeps changed joined is zero ps new tree change = absurd (more (ap (λ l. length l) tree.is))
   whole_changed new_cells root x y at_x at_y keeps changed joined is (suc h) ps new tree change =
       let halves = halves_of T old h cells ps tree front back is_front is_back in
       let both = changed T h ps new halves change in
       let r = replaced slot new ps in
       tree_of T mid now h new_front new_back new_cells r root keeps both
-      (joined (take (2 ^ h) r) (drop (2 ^ h) r) (root_of T mid h new_front (take (2 ^ h) r) x at_x both.first) (root_of T mid h new_back (drop (2 ^ h) r) y at_y both.behind)) is
+      (joined (take (2 ^ h) r) (drop (2 ^ h) r) (root_of T mid h new_front (take (2 ^ h) r) x at_x both.first)
+      (root_of T mid h new_back (drop (2 ^ h) r) y at_y both.behind)) is
 
   module _ (before between after : ℕ) (counted : AreCounted old front back slot leaf before between) where
     -- it takes the steps of its halves
@@ -280,7 +289,8 @@ module _ (T : Topology) (old mid now : Trees) (cells front back new_front new_ba
         elim (at_most k h) [ inl le ↦ steps.1 k le few_before few_after | inr gt ↦ let most = steps.0 in omega (arith, most, gt) ]
 
     -- and one more, but for none where nothing is in the second half
-    pub whole_counted : (y : ℕ) → y ≡ get_or new_back 0 y → AreChanged old front back slot leaf mid new_front new_back → after ≤ between + 1 → (UnitesParts T mid [] y → after ≡ between)
+    pub whole_counted : (y : ℕ) → y ≡ get_or new_back 0 y → AreChanged old front back slot leaf mid new_front new_back → after ≤ between + 1
+        → (UnitesParts T mid [] y → after ≡ between)
         → (h : ℕ) (ps new : List PolicyTree) → IsSumTree T old h cells ps → IsChange T old (2 ^ h) ps slot leaf new
         → (k : ℕ) → length ps ≤ 2 ^ k → length (replaced slot new ps) ≤ 2 ^ k → after ≤ before + k
     whole_counted y at_y changed step none zero ps new tree change k few_before few_after = absurd (more (ap (λ l. length l) tree.is))
@@ -292,7 +302,8 @@ module _ (T : Topology) (old mid now : Trees) (cells front back new_front new_ba
           | inl le ↦
               let wide = wider k h le in
               let empty : drop (2 ^ h) r ≡ [] = drop_all (2 ^ h) r (omega (arith, wide, few_after)) in
-              let still = none (subst (λ qs. UnitesParts T mid qs y) empty (root_of T mid h new_back (drop (2 ^ h) r) y at_y (changed T h ps new halves change).behind)) in
+              let still = none (subst (λ qs. UnitesParts T mid qs y) empty
+              (root_of T mid h new_back (drop (2 ^ h) r) y at_y (changed T h ps new halves change).behind)) in
               let most = steps.1 k le few_before few_after in
               omega (arith, still, most)
           | inr gt ↦ let most = steps.0 in omega (arith, most, gt, step)

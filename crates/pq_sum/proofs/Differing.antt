@@ -1,5 +1,6 @@
 -- Slots that differ.
-use Rattle.std.proofs.Common.{ℕ, zero, suc, ◌+◌, ◌<◌, ◌≡◌, ◌≢◌, ◌∙◌, Bool, true, false, cond, List, [], ◌∷◌, ◌++◌, take, drop, length, get_or, map, inl, inr, refl, sym, ap, subst, Some, arith}
+use Rattle.std.proofs.Common.{ℕ, zero, suc, ◌+◌, ◌<◌, ◌≡◌, ◌≢◌, ◌∙◌, Bool, true, false, cond, List, [], ◌∷◌, ◌++◌, take, drop, length}
+use Rattle.std.proofs.Common.{get_or, map, inl, inr, refl, sym, ap, subst, Some, arith}
 use Rattle.std.specs.Prelude.{nat_eq, slice_get, slice_set}
 use Rattle.std.specs.List.{AllByRecursion, IsDistinct, list_any, range_with_len, remove}
 use Rattle.std.proofs.lemmas.Bool.Decides.{eqb_tells}

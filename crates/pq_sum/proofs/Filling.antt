@@ -1,5 +1,6 @@
 -- Leaves put into an empty tree.
-use Rattle.std.proofs.Common.{ℕ, zero, suc, ◌+◌, ◌*◌, ◌^◌, ◌/◌, ◌-◌, ◌<◌, ◌≤◌, ◌≡◌, ◌∙◌, List, [], ◌∷◌, ◌++◌, take, drop, length, get_or, min, replicate, refl, sym, ap, subst, arith}
+use Rattle.std.proofs.Common.{ℕ, zero, suc, ◌+◌, ◌*◌, ◌^◌, ◌/◌, ◌-◌, ◌<◌, ◌≤◌, ◌≡◌, ◌∙◌, List, [], ◌∷◌, ◌++◌, take, drop, length, get_or}
+use Rattle.std.proofs.Common.{min, replicate, refl, sym, ap, subst, arith}
 use Rattle.std.specs.List.{AllZip}
 use Rattle.std.proofs.lemmas.List.{drop_min, length-drop, length-take, replicate-append-replicate, take_min}
 use Rattle.pq_fields.specs.Writes.{Written}
@@ -59,7 +60,8 @@ pub filled_slot : (T : Topology) (ts : Trees) (h : ℕ) (cells new_cells nodes :
     → IsSumTree T ts h new_cells ps
 filled_slot T ts zero cells new_cells nodes ps x one some at is empty each few = by ps nodes some at each few
   where
-    by : (qs : List PolicyTree) (ns : List ℕ) → 1 ≤ length ns → x ≡ get_or ns 0 x → AreParts T ts qs ns → length qs ≤ 2 ^ zero → IsSumTree T ts zero new_cells qs
+    by : (qs : List PolicyTree) (ns : List ℕ) → 1 ≤ length ns → x ≡ get_or ns 0 x → AreParts T ts qs ns → length qs ≤ 2 ^ zero
+        → IsSumTree T ts zero new_cells qs
     by qs [] long first all short = absurd (omega arith)
     by [] (n ∷ ns) long first all short = absurd all
     by (q ∷ []) (n ∷ ns) long first all short = record { root = x; is = is; total = subst (UnitesParts T ts (q ∷ [])) (sym first) all.0; few = omega arith }
@@ -161,7 +163,8 @@ both_filled : (T : Topology) (old mid now : Trees) (h : ℕ) (front back first b
     → Keeps old mid → Keeps mid now → IsFilled old front first mid new_front → IsFilled mid back behind now new_back
     → AreToFill T old h front back first behind ps → AreHalves T now h new_front new_back ps
 both_filled T old mid now h front back first behind new_front new_back ps keeps_old keeps_mid fills_first fills_second fill = record {
-  first = tree_still T mid now keeps_mid h new_front (take (2 ^ h) ps) (fills_first T h (take (2 ^ h) ps) fill.empty_front fill.each_first fill.few_first fill.fits.0);
+  first = tree_still T mid now keeps_mid h new_front (take (2 ^ h) ps)
+      (fills_first T h (take (2 ^ h) ps) fill.empty_front fill.each_first fill.few_first fill.fits.0);
   behind = fills_second T h (drop (2 ^ h) ps) (tree_still T old mid keeps_old h back [] fill.empty_back)
       (parts_still T old mid keeps_old (drop (2 ^ h) ps) behind fill.each_behind) fill.few_behind fill.fits.1;
 }
@@ -172,11 +175,13 @@ module _ (old mid now : Trees) (front back first behind new_front new_back : Lis
   pub filled_may_join : MayFillHalves old front back first behind → (x y : ℕ) → x ≡ get_or new_front 0 x → y ≡ get_or new_back 0 y → MayJoin now x y
   filled_may_join may x y at_x at_y =
       roots_may_join may.topology now may.height new_front new_back may.parts x y at_x at_y
-      (both_filled may.topology old mid now may.height front back first behind new_front new_back may.parts keeps_old keeps_mid fills_first fills_second may.fill) may.fits
+      (both_filled may.topology old mid now may.height front back first behind new_front new_back may.parts keeps_old keeps_mid fills_first
+      fills_second may.fill) may.fits
 
   pub filled_front : MayFillHalves old front back first behind → 0 < length new_front
   filled_front may =
-      let both = both_filled may.topology old mid now may.height front back first behind new_front new_back may.parts keeps_old keeps_mid fills_first fills_second may.fill in
+      let both = both_filled may.topology old mid now may.height front back first behind new_front new_back may.parts keeps_old keeps_mid
+      fills_first fills_second may.fill in
       let some = some_cell may.topology now may.height new_front (take (2 ^ may.height) may.parts) both.first in
       omega (arith, some)
 
@@ -193,7 +198,8 @@ module _ (old mid now : Trees) (front back first behind new_front new_back : Lis
       let fill = to_fill T old h cells front back nodes first behind ps n is_front is_back cut is_first is_behind empty each few fits in
       let both = both_filled T old mid now h front back first behind new_front new_back ps keeps_old keeps_mid fills_first fills_second fill in
       tree_of T now last h new_front new_back new_cells ps root keeps both
-      (joined T (take (2 ^ h) ps) (drop (2 ^ h) ps) (root_of T now h new_front (take (2 ^ h) ps) x at_x both.first) (root_of T now h new_back (drop (2 ^ h) ps) y at_y both.behind)) is
+      (joined T (take (2 ^ h) ps) (drop (2 ^ h) ps) (root_of T now h new_front (take (2 ^ h) ps) x at_x both.first)
+      (root_of T now h new_back (drop (2 ^ h) ps) y at_y both.behind)) is
 
 -- Cells that all give nothing are an empty tree.
 pub none_filled : (T : Topology) (ts : Trees) (none : ℕ) → GivesNone ts none → (h n : ℕ) → n + 1 ≡ 2 * 2 ^ h → IsSumTree T ts h (replicate n none) []

@@ -54,7 +54,8 @@ module _ (T : Topology) (old now : Trees) where
       by (i ∷ []) one = record { root = i; is = refl; total = unites_moved ps tree.root i one.0 tree.total; few = tree.few }
       by (i ∷ j ∷ is) more = absurd more.1
   tree_moved (suc h) cells ids ps all tree =
-      by (λ front moved. tree_moved h tree.front front (take (2 ^ h) ps) moved tree.first) (λ back moved. tree_moved h tree.back back (drop (2 ^ h) ps) moved tree.behind)
+      by (λ front moved. tree_moved h tree.front front (take (2 ^ h) ps) moved tree.first)
+      (λ back moved. tree_moved h tree.back back (drop (2 ^ h) ps) moved tree.behind)
       ids (subst (λ l. Moved old now l ids) tree.is all)
     where
       by : ((front : List ℕ) → Moved old now tree.front front → IsSumTree T now h front (take (2 ^ h) ps))
@@ -86,14 +87,20 @@ cells_within T ts (suc h) cells ps tree =
 
 -- A part put into a slot.
 
-module _ (T : Topology) (ts mid : Trees) (keeps : Keeps ts mid) (cells : List ℕ) (slot node : ℕ) (ps : List PolicyTree) (p : PolicyTree) (put : IsPuttable T ts cells slot node ps p) where
+module _ (T : Topology) (ts mid : Trees) (keeps : Keeps ts mid) (cells : List ℕ) (slot node : ℕ) (ps : List PolicyTree) (p : PolicyTree)
+    (put : IsPuttable T ts cells slot node ps p) where
   pub put_sum : IsSumTree T mid 10 cells ps
   put_sum = tree_still T ts mid keeps 10 cells ps put.sum
 
   pub put_change : IsChange T mid (2 ^ 10) ps slot node (p ∷ [])
   put_change = record {
     gives = has_still (IsUnionOfParts T (p ∷ [])) ts mid node keeps put.gives;
-    replaces = record { few = omega arith; within = put.within; room = put.room; last = λ none. absurd (let no = ap (λ l. length l) none in omega (arith, no)) };
+    replaces = record {
+      few = omega arith;
+      within = put.within;
+      room = put.room;
+      last = λ none. absurd (let no = ap (λ l. length l) none in omega (arith, no));
+    };
     fits = put.fits;
   }
 
@@ -121,5 +128,6 @@ module _ {X : Type 0} (xs : List X) (slot last : ℕ) (all : length xs ≡ suc l
   pub removed_before : slot < last → replaced slot (drop last xs) (replaced last [] xs) ≡ removed slot xs
   removed_before before =
       ap (λ l. replaced slot (drop last xs) l) without_last
-      ∙ (sym (take_before last slot (drop last xs) xs before (omega (arith, one_last)) (omega (arith, all, before)) (λ none. absurd (let no = ap (λ l. length l) none in omega (arith, no, one_last))))
+      ∙ (sym (take_before last slot (drop last xs) xs before (omega (arith, one_last)) (omega (arith, all, before))
+      (λ none. absurd (let no = ap (λ l. length l) none in omega (arith, no, one_last))))
       ∙ sym (ap (λ n. take n (replaced slot (drop n xs) xs)) last_is))

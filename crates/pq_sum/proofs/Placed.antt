@@ -108,7 +108,8 @@ module _ {X : Type 0} (slotted placed : List X) (slots : List ℕ) (are : ArePla
   pub all_slotted : (P : X → Type 0) → All P placed → All P slotted
   all_slotted P each k d within =
       let place = item_placed k (get_or slotted k d) (slice_get-get_or slotted k d within) in
-      subst P (get_or_from_slice_get placed place.0 (get_or slotted k d) d place.1) (each place.0 d (slice_get_within placed place.0 (get_or slotted k d) place.1))
+      subst P (get_or_from_slice_get placed place.0 (get_or slotted k d) d place.1)
+      (each place.0 d (slice_get_within placed place.0 (get_or slotted k d) place.1))
 
   pub any_placed : (P : X → Type 0) → Any P slotted → Any P placed
   any_placed P (k, x, within, at, holds) =
@@ -144,7 +145,8 @@ module _ {X : Type 0} (slotted placed : List X) (slots : List ℕ) (are : ArePla
         }
 
     -- an item taken out
-    pub placed_taken : (last : ℕ) → length slotted ≡ suc last → ArePlaced (removed slot slotted) (replaced place [] placed) (map (renamed last slot) (remove slots place))
+    pub placed_taken : (last : ℕ) → length slotted ≡ suc last
+        → ArePlaced (removed slot slotted) (replaced place [] placed) (map (renamed last slot) (remove slots place))
     placed_taken last all =
         let below = slot_within in
         let inside = place_within in
@@ -179,9 +181,11 @@ module _ {X : Type 0} (slotted placed : List X) (slots : List ℕ) (are : ArePla
       let same = are.all in
       let first = put_last slotted n x (same ∙ sym is) in
       let second = put_last placed n x (sym is) in
-      subst (λ l. ArePlaced l (replaced n (x ∷ []) placed) (slots ++ n ∷ [])) (sym first) (subst (λ l. ArePlaced (slotted ++ x ∷ []) l (slots ++ n ∷ [])) (sym second) record {
+      subst (λ l. ArePlaced l (replaced n (x ∷ []) placed) (slots ++ n ∷ [])) (sym first)
+      (subst (λ l. ArePlaced (slotted ++ x ∷ []) l (slots ++ n ∷ [])) (sym second) record {
         all = let left = length-append slotted (x ∷ []) in let right = length-append placed (x ∷ []) in omega (arith, same, left, right);
-        each = zip_more Stands (λ y s. slice_get (slotted ++ x ∷ []) s ≡ Some y) (λ y s there. before slotted s y there) placed slots x n are.each (behind slotted n (same ∙ sym is));
+        each = zip_more Stands (λ y s. slice_get (slotted ++ x ∷ []) s ≡ Some y)
+            (λ y s there. before slotted s y there) placed slots x n are.each (behind slotted n (same ∙ sym is));
         differ = differ_more slots n (λ i s at. let below = slots_below i s at in omega (arith, below, same, is)) are.differ;
       })
     where

@@ -28,8 +28,11 @@ fits_replaced T ps slot last fits = room_for (λ ns (topology, within).
     let P = IsPolicyWithin ns in
     let at_slot = all_halves P (take slot ps) (drop slot ps) (subst (λ l. All P l) (sym (take-append-drop slot ps)) within) in
     let behind = all_halves P (take (suc slot) ps) (drop (suc slot) ps) (subst (λ l. All P l) (sym (take-append-drop (suc slot) ps)) within) in
-    let at_last = all_halves P (take last ps) (drop last ps) (subst (λ l. All P l) (sym (take-append-drop last ps)) within) in
-    (topology, All-append P (take slot ps) (drop last ps ++ drop (suc slot) ps) at_slot.0 (All-append P (drop last ps) (drop (suc slot) ps) at_last.1 behind.1))) fits
+    let at_last = all_halves P (take last ps) (drop last ps) (subst (λ l. All P l) (sym (take-append-drop last ps)) within) in (
+      topology,
+      All-append P (take slot ps) (drop last ps ++ drop (suc slot) ps) at_slot.0
+          (All-append P (drop last ps) (drop (suc slot) ps) at_last.1 behind.1),
+    )) fits
 
 module _ (T : Topology) (ts mid : Trees) (keeps : Keeps ts mid) (cells : List ℕ) (slot last none : ℕ) (ps : List PolicyTree)
     (remove : IsRemovable T ts cells slot last ps) (gives_none : GivesNone mid none) where
@@ -101,7 +104,8 @@ module _ (ts mid : Trees) (keeps : Keeps ts mid) (cells : List ℕ) (slot last n
     within = let all = may.remove.all in omega (arith, all);
   }
 
-  module _ (now : Trees) (still : Keeps mid now) (new_cells : List ℕ) (moved : ℕ) (leaf : IsLeaf cells last moved) (changed : IsChanged mid cells last none now new_cells) where
+  module _ (now : Trees) (still : Keeps mid now) (new_cells : List ℕ) (moved : ℕ) (leaf : IsLeaf cells last moved)
+      (changed : IsChanged mid cells last none now new_cells) where
     pub may_move_last : slot < last → MayRemove ts cells slot last → MayChange now new_cells slot moved
     may_move_last before may = record {
       topology = may.topology;
@@ -118,13 +122,16 @@ module _ (ts mid : Trees) (keeps : Keeps ts mid) (cells : List ℕ) (slot last n
       pub taken_last : slot ≡ last → IsSumTree T now 10 new_cells (removed slot ps)
       taken_last same =
           subst (IsSumTree T now 10 new_cells) (removed_last ps slot last remove.all same)
-          (changed T 10 ps [] (last_tree T ts mid keeps cells slot last none ps remove gives_none) (last_change T ts mid keeps cells slot last none ps remove gives_none))
+          (changed T 10 ps [] (last_tree T ts mid keeps cells slot last none ps remove gives_none)
+          (last_change T ts mid keeps cells slot last none ps remove gives_none))
 
-      pub moved_last : slot < last → (end : Trees) (end_cells : List ℕ) → IsChanged now new_cells slot moved end end_cells → IsSumTree T end 10 end_cells (removed slot ps)
+      pub moved_last : slot < last → (end : Trees) (end_cells : List ℕ) → IsChanged now new_cells slot moved end end_cells
+          → IsSumTree T end 10 end_cells (removed slot ps)
       moved_last before end end_cells changed_again =
           subst (IsSumTree T end 10 end_cells) (removed_before ps slot last remove.all before)
           (changed_again T 10 (replaced last [] ps) (drop last ps)
-          (changed T 10 ps [] (last_tree T ts mid keeps cells slot last none ps remove gives_none) (last_change T ts mid keeps cells slot last none ps remove gives_none))
+          (changed T 10 ps [] (last_tree T ts mid keeps cells slot last none ps remove gives_none)
+          (last_change T ts mid keeps cells slot last none ps remove gives_none))
           (moved_change T ts mid keeps cells slot last none ps remove gives_none now still moved leaf before))
 
   -- The steps.
@@ -139,13 +146,16 @@ module _ (ts mid : Trees) (keeps : Keeps ts mid) (cells : List ℕ) (slot last n
 
     pub last_counted : (before after : ℕ) → IsCounted mid cells last none before after → after ≤ before + k
     last_counted before after counted =
-        counted T 10 ps [] (last_tree T ts mid keeps cells slot last none ps remove gives_none) (last_change T ts mid keeps cells slot last none ps remove gives_none) k few short
+        counted T 10 ps [] (last_tree T ts mid keeps cells slot last none ps remove gives_none)
+        (last_change T ts mid keeps cells slot last none ps remove gives_none) k few short
 
-    pub moved_counted : (now : Trees) → Keeps mid now → (new_cells : List ℕ) (moved : ℕ) → IsLeaf cells last moved → IsChanged mid cells last none now new_cells → slot < last
+    pub moved_counted : (now : Trees) → Keeps mid now → (new_cells : List ℕ) (moved : ℕ) → IsLeaf cells last moved
+        → IsChanged mid cells last none now new_cells → slot < last
         → (before between after : ℕ) → IsCounted mid cells last none before between → IsCounted now new_cells slot moved between after → after ≤ before + 2 * k
     moved_counted now still new_cells moved leaf changed far before between after counted counted_again =
         let first = last_counted before between counted in
-        let tree = changed T 10 ps [] (last_tree T ts mid keeps cells slot last none ps remove gives_none) (last_change T ts mid keeps cells slot last none ps remove gives_none) in
+        let tree = changed T 10 ps [] (last_tree T ts mid keeps cells slot last none ps remove gives_none)
+        (last_change T ts mid keeps cells slot last none ps remove gives_none) in
         let change = moved_change T ts mid keeps cells slot last none ps remove gives_none now still moved leaf far in
         let same = ap (λ l. length l) (removed_before ps slot last remove.all far) in
         let less = length-take (length ps - 1) (replaced slot (drop (length ps - 1) ps) ps) in

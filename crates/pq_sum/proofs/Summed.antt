@@ -20,7 +20,8 @@ use Rattle.pq_sum.specs.Places.{ArePlaced, IsSlotFor, Sum, renamed}
 use Rattle.pq_sum.specs.Calls.{HasPartAt, IsOpenedAt, IsPartAt, IsSameSum, IsSumIn, IsTotal}
 use Rattle.pq_sum.specs.Calls.{CountsPutAt, CountsRemovalAt, IsPuttableAt, IsPutAt, IsRemovableAt, IsRemovedAt, MayPutAt, MayRemoveAt}
 use Rattle.pq_sum.proofs.Moving.{cells_within, tree_moved}
-use Rattle.pq_sum.proofs.Placed.{all_slotted, any_placed, any_slotted, placed_in_turn, placed_more, placed_put, placed_taken, same_item, slot_within, slots_length}
+use Rattle.pq_sum.proofs.Placed.{all_slotted, any_placed, any_slotted, placed_in_turn, placed_more, placed_put, placed_taken, same_item}
+use Rattle.pq_sum.proofs.Placed.{slot_within, slots_length}
 use Rattle.pq_sum.proofs.Trees.{parts_of, root_of}
 
 abbrev Trees : Type 0
@@ -51,7 +52,8 @@ pub is_opened_at : (old now : Trees) (nodes cells slots : List ℕ) → slots �
 is_opened_at old now nodes cells slots are opened T ps each few fits = record {
   slotted = ps;
   sum = opened T ps each few fits;
-  placed = subst (ArePlaced ps ps) (sym (are ∙ ap (λ n. range_with_len 0 n) (AllZip-long (λ p id. UnitesParts T old (p ∷ []) id) ps nodes each))) (placed_in_turn ps);
+  placed = subst (ArePlaced ps ps)
+      (sym (are ∙ ap (λ n. range_with_len 0 n) (AllZip-long (λ p id. UnitesParts T old (p ∷ []) id) ps nodes each))) (placed_in_turn ps);
 }
 
 -- Its parts, and their union.
@@ -118,7 +120,8 @@ module _ (old : Trees) (s : Sum) (place node slot : ℕ) (slots : List ℕ) (for
               let room = put.room in
               record {
                 placed = subst (λ n. ArePlaced (replaced n (p ∷ []) is.slotted) (replaced place (p ∷ []) ps) slots) (sym same)
-                    (subst (λ l. ArePlaced (replaced place (p ∷ []) is.slotted) (replaced place (p ∷ []) ps) l) (sym next.0) (placed_more is.slotted ps s.slots is.placed place last p));
+                    (subst (λ l. ArePlaced (replaced place (p ∷ []) is.slotted) (replaced place (p ∷ []) ps) l) (sym next.0)
+                    (placed_more is.slotted ps s.slots is.placed place last p));
                 within = omega (arith, same, last, all);
                 room = omega (arith, same, room);
               }
@@ -127,7 +130,8 @@ module _ (old : Trees) (s : Sum) (place node slot : ℕ) (slots : List ℕ) (for
               let below = slot_within is.slotted ps s.slots is.placed place slot held.1 in
               let few : length is.slotted ≤ 1024 = parts_of T old 10 s.cells is.slotted is.sum in
               record {
-                placed = subst (λ l. ArePlaced (replaced slot (p ∷ []) is.slotted) (replaced place (p ∷ []) ps) l) (sym held.0) (placed_put is.slotted ps s.slots is.placed place slot held.1 p);
+                placed = subst (λ l. ArePlaced (replaced slot (p ∷ []) is.slotted) (replaced place (p ∷ []) ps) l) (sym held.0)
+                    (placed_put is.slotted ps s.slots is.placed place slot held.1 p);
                 within = omega (arith, below);
                 room = omega (arith, below, few);
               }
@@ -150,7 +154,8 @@ module _ (old : Trees) (s : Sum) (place node slot : ℕ) (slots : List ℕ) (for
     put = puttable may.topology may.parts may.part may.put;
   }
 
-  pub is_put_at : (now : Trees) (cells : List ℕ) → IsPut old s.cells slot node now cells → IsPutAt old s place node now (record { cells = cells; slots = slots })
+  pub is_put_at : (now : Trees) (cells : List ℕ) → IsPut old s.cells slot node now cells
+      → IsPutAt old s place node now (record { cells = cells; slots = slots })
   is_put_at now cells is_put T ps p put = record {
     slotted = replaced slot (p ∷ []) put.summed.slotted;
     sum = is_put T put.summed.slotted p (puttable T ps p put);
@@ -190,7 +195,8 @@ module _ (old : Trees) (s : Sum) (place slot last : ℕ) (slot_is : slot ≡ get
     removable = record {
       sum = may.summed.sum;
       all = slotted_all;
-      within = let all = slotted_all in let below = slot_within may.summed.slotted ps s.slots may.summed.placed place slot slot_there in omega (arith, all, below);
+      within = let all = slotted_all in let below = slot_within may.summed.slotted ps s.slots may.summed.placed place slot slot_there in
+          omega (arith, all, below);
       fits = fits_slotted T may.summed.slotted ps s.slots may.summed.placed may.fits;
     }
 

@@ -1,5 +1,6 @@
 -- Trees of sums, and their halves.
-use Rattle.std.proofs.Common.{ℕ, zero, suc, ◌+◌, ◌*◌, ◌^◌, ◌/◌, ◌≤◌, ◌≡◌, ◌∙◌, List, [], ◌∷◌, ◌++◌, take, drop, length, length-append, get_or, refl, sym, ap, subst, arith}
+use Rattle.std.proofs.Common.{ℕ, zero, suc, ◌+◌, ◌*◌, ◌^◌, ◌/◌, ◌≤◌, ◌≡◌, ◌∙◌, List, [], ◌∷◌, ◌++◌, take, drop, length, length-append}
+use Rattle.std.proofs.Common.{get_or, refl, sym, ap, subst, arith}
 use Rattle.std.proofs.lemmas.List.{length-drop}
 use Rattle.std.proofs.Math.Nat.{pow-succ'}
 use Rattle.std.proofs.Math.Seq.{take-append_seam}
@@ -54,7 +55,8 @@ module _ (T : Topology) (ts : List (Tree (List Written))) where
   root_of (suc h) cells ps root at tree = subst (UnitesParts T ts ps) (sym (at ∙ ap (λ l. get_or l 0 root) tree.is)) tree.total
 
 -- it stays where its diagrams do
-pub tree_still : (T : Topology) (old new : List (Tree (List Written))) → Keeps old new → (h : ℕ) (cells : List ℕ) (ps : List PolicyTree) → IsSumTree T old h cells ps → IsSumTree T new h cells ps
+pub tree_still : (T : Topology) (old new : List (Tree (List Written))) → Keeps old new → (h : ℕ) (cells : List ℕ) (ps : List PolicyTree)
+    → IsSumTree T old h cells ps → IsSumTree T new h cells ps
 tree_still T old new keeps zero cells ps tree = record {
   root = tree.root;
   is = tree.is;
@@ -95,7 +97,8 @@ module _ (T : Topology) (ts : List (Tree (List Written))) (h : ℕ) (cells : Lis
       drop_seam [] = refl
       drop_seam (x ∷ xs) = drop_seam xs
 
-  pub halves_of : (front back : List ℕ) → front ≡ take (length (drop 1 cells) / 2) (drop 1 cells) → back ≡ drop (length (drop 1 cells) / 2) (drop 1 cells) → AreHalves T ts h front back ps
+  pub halves_of : (front back : List ℕ) → front ≡ take (length (drop 1 cells) / 2) (drop 1 cells)
+      → back ≡ drop (length (drop 1 cells) / 2) (drop 1 cells) → AreHalves T ts h front back ps
   halves_of front back is_front is_back = record {
     first = subst (λ l. IsSumTree T ts h l (take (2 ^ h) ps)) (sym (is_front ∙ front_is)) tree.first;
     behind = subst (λ l. IsSumTree T ts h l (drop (2 ^ h) ps)) (sym (is_back ∙ back_is)) tree.behind;

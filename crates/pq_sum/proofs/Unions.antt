@@ -52,7 +52,8 @@ union_with_none t idle_free = record {
   writes = λ f n written. inl written;
 }
 
-module _ (T : Topology) (ts : List (Tree (List Written))) (ps qs : List PolicyTree) (i j : ℕ) (front : UnitesParts T ts ps i) (back : UnitesParts T ts qs j) where
+module _ (T : Topology) (ts : List (Tree (List Written))) (ps qs : List PolicyTree) (i j : ℕ) (front : UnitesParts T ts ps i)
+    (back : UnitesParts T ts qs j) where
   pub front_within : i < length ts
   front_within = has_within (IsUnionOfParts T ps) ts i front
 

@@ -42,7 +42,8 @@ pub record IsSlot (T : Topology) (ts : List (Tree (List Written))) (cells : List
   pub few : length ps ≤ 1
 
 -- a tree of two such trees, the first of which has the first parts, as many as it has slots
-pub record IsFork (T : Topology) (ts : List (Tree (List Written))) (IsHalf : List ℕ → List PolicyTree → Type 0) (slots : ℕ) (cells : List ℕ) (ps : List PolicyTree) : Type 0 where
+pub record IsFork (T : Topology) (ts : List (Tree (List Written))) (IsHalf : List ℕ → List PolicyTree → Type 0) (slots : ℕ) (cells : List ℕ)
+    (ps : List PolicyTree) : Type 0 where
   pub root : ℕ
   pub front : List ℕ
   pub back : List ℕ
@@ -148,4 +149,5 @@ pub record HasLeaf (cells : List ℕ) (slot : ℕ) : Type 0 where
 -- the diagram is that of the part in the slot
 abbrev pub IsLeaf : List ℕ → ℕ → ℕ → Type 0
 IsLeaf cells slot id =
-    (T : Topology) (ts : List (Tree (List Written))) (h : ℕ) (ps : List PolicyTree) → IsSumTree T ts h cells ps → slot < length ps → UnitesParts T ts (take 1 (drop slot ps)) id
+    (T : Topology) (ts : List (Tree (List Written))) (h : ℕ) (ps : List PolicyTree) → IsSumTree T ts h cells ps → slot < length ps
+    → UnitesParts T ts (take 1 (drop slot ps)) id

@@ -10,7 +10,8 @@ use Rattle.std.proofs.lemmas.List.Sums.{sum_by-cons, sum_by-le}
 use Rattle.pq_term.specs.Names.{is_name}
 use Rattle.pq_model.specs.declared.message.Message.{Message}
 use Rattle.pq_model.specs.Buckets.{Instance}
-use Rattle.pq_model.specs.Install.{Install, IsLawfulInstall, IsLawfulList, IsLawfulPair, IsLawfulRow, install_bytes, link_bytes, list_bytes, name_bytes, pair_bytes, port_count, row_bytes, spelling, switch_bytes}
+use Rattle.pq_model.specs.Install.{Install, IsLawfulInstall, IsLawfulList, IsLawfulPair, IsLawfulRow, install_bytes, link_bytes, list_bytes}
+use Rattle.pq_model.specs.Install.{name_bytes, pair_bytes, port_count, row_bytes, spelling, switch_bytes}
 use Rattle.pq_model.specs.Lawful.{Ascends, IsLawfulMessage}
 use Rattle.pq_model.specs.Spelling.{message_bytes}
 use Rattle.pq_model.specs.TablesMachine.{Row}
@@ -103,7 +104,8 @@ list_short ms lawful =
 few_ascending : (most x : ℕ) (rows : List Row) (row : Row) → Ascends (map (λ r. r.tag) (row ∷ rows)) → All (λ r. r.tag ≤ most) (row ∷ rows)
     → length (row ∷ rows) + row.tag ≤ most + 1
 few_ascending most x [] row up fit = omega (arith, All-head (λ (r : Row). r.tag ≤ most) row [] fit)
-few_ascending most x (next ∷ rows) row up fit = omega (arith, up.0, few_ascending most x rows next up.1 (All-tail (λ (r : Row). r.tag ≤ most) row (next ∷ rows) fit))
+few_ascending most x (next ∷ rows) row up fit =
+    omega (arith, up.0, few_ascending most x rows next up.1 (All-tail (λ (r : Row). r.tag ≤ most) row (next ∷ rows) fit))
 
 pub install_short : (i : Install) → IsLawfulInstall i → install_length i < 2 ^ 64
 unfolding install_length

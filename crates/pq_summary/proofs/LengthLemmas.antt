@@ -7,7 +7,8 @@ use Rattle.std.proofs.lemmas.List.{length-append, length-replicate}
 use Rattle.std.proofs.lemmas.List.Elements.{All-nil, All-head, All-tail, All-weaker}
 use Rattle.std.proofs.lemmas.List.Sums.{sum_by-cons}
 use Rattle.pq_fields.specs.declared.field.Field.{Field}
-use Rattle.pq_fields.specs.declared.field.Field.TheVariants.{Switch, Port, EthType, IpProto, EthSrc, EthDst, Ipv4Src, Ipv4Dst, TcpSrc, TcpDst, UdpSrc, UdpDst, Ipv6Src, Ipv6Dst}
+use Rattle.pq_fields.specs.declared.field.Field.TheVariants.{Switch, Port, EthType, IpProto, EthSrc, EthDst, Ipv4Src, Ipv4Dst, TcpSrc}
+use Rattle.pq_fields.specs.declared.field.Field.TheVariants.{TcpDst, UdpSrc, UdpDst, Ipv6Src, Ipv6Dst}
 use Rattle.pq_model.specs.declared.action.Action.{Action}
 use Rattle.pq_model.specs.declared.action.Action.TheVariants.{Output, PushVlan, PopVlan, Group, SetVlan, SetField}
 use Rattle.pq_model.specs.declared.flow_mod.FlowCommand.{FlowCommand}
@@ -19,12 +20,15 @@ use Rattle.pq_model.specs.declared.message.Message.TheVariants.{Flow, Group as G
 use Rattle.pq_model.specs.Lawful.{IsLawfulAction, IsLawfulBucket, IsLawfulCommand, IsLawfulContent, IsLawfulFlow, IsLawfulGroup, IsLawfulGrouping, IsSettable}
 use Rattle.pq_model.specs.MatchFields.{MatchFields}
 use Rattle.pq_model.specs.Mods.{FlowValue, GroupValue}
-use Rattle.pq_model.specs.Spelling.{action_bytes, actions_bytes, apply_bytes, bucket_bytes, byte, flow_body, goto_bytes, group_body, mac_bytes, match_bytes, match_oxms}
+use Rattle.pq_model.specs.Spelling.{action_bytes, actions_bytes, apply_bytes, bucket_bytes, byte, flow_body, goto_bytes, group_body}
+use Rattle.pq_model.specs.Spelling.{mac_bytes, match_bytes, match_oxms}
 use Rattle.pq_model.specs.Spelling.{message_bytes, ones32, ones128, oxm, oxm_masked, padding, stated, stated_masked, with_header}
-use Rattle.pq_summary.specs.Lengths.{action_length, actions_length, apply_length, bucket_length, flow_length, goto_length, group_length, masked_length, match_length, message_length, oxms_length, stated_length}
+use Rattle.pq_summary.specs.Lengths.{action_length, actions_length, apply_length, bucket_length, flow_length, goto_length, group_length}
+use Rattle.pq_summary.specs.Lengths.{masked_length, match_length, message_length, oxms_length, stated_length}
 
 -- where the bytes of each element are so long, those of all are as long together
-pub all_long : {X : Type 0} (bytes : X → List ℕ) (size : X → ℕ) (xs : List X) → All (λ x. length (bytes x) ≡ size x) xs → length (flat_map bytes xs) ≡ sum_by size xs
+pub all_long : {X : Type 0} (bytes : X → List ℕ) (size : X → ℕ) (xs : List X) → All (λ x. length (bytes x) ≡ size x) xs
+    → length (flat_map bytes xs) ≡ sum_by size xs
 all_long bytes size [] each = refl
 all_long bytes size (x ∷ xs) each =
     let here = All-head (λ y. length (bytes y) ≡ size y) x xs each in
@@ -32,13 +36,15 @@ all_long bytes size (x ∷ xs) each =
     omega (arith, here, rest, length-append (bytes x) (flat_map bytes xs), sum_by-cons size x xs)
 
 -- where they are all of one length
-pub each_long : {X : Type 0} (bytes : X → List ℕ) (size : ℕ) → ((x : X) → length (bytes x) ≡ size) → (xs : List X) → length (flat_map bytes xs) ≡ size * length xs
+pub each_long : {X : Type 0} (bytes : X → List ℕ) (size : ℕ) → ((x : X) → length (bytes x) ≡ size) → (xs : List X)
+    → length (flat_map bytes xs) ≡ size * length xs
 each_long bytes size each [] = omega arith
 each_long bytes size each (x ∷ xs) = omega (arith, each x, each_long bytes size each xs, length-append (bytes x) (flat_map bytes xs))
 
 -- Matches.
 
-stated_long : (field size : ℕ) (bytes : ℕ → List ℕ) → ((n : ℕ) → length (bytes n) ≡ size) → (x : Option ℕ) → length (stated field bytes x) ≡ stated_length size x
+stated_long : (field size : ℕ) (bytes : ℕ → List ℕ) → ((n : ℕ) → length (bytes n) ≡ size) → (x : Option ℕ)
+    → length (stated field bytes x) ≡ stated_length size x
 stated_long field size bytes long None = refl
 stated_long field size bytes long (Some n) = omega (arith, long n)
 
@@ -63,13 +69,16 @@ oxms_long m =
     let to_ip_proto = joined_long _ (stated 10 byte m.ip_proto) _ _ to_eth_type (stated_long 10 1 byte (λ n. refl) m.ip_proto) in
     let to_eth_src = joined_long _ (stated 4 mac_bytes m.eth_src) _ _ to_ip_proto (stated_long 4 6 mac_bytes (λ n. refl) m.eth_src) in
     let to_eth_dst = joined_long _ (stated 3 mac_bytes m.eth_dst) _ _ to_eth_src (stated_long 3 6 mac_bytes (λ n. refl) m.eth_dst) in
-    let to_ipv4_src = joined_long _ (stated_masked 11 (to_be_bytes w32) ones32 m.ipv4_src) _ _ to_eth_dst (masked_long 11 4 (to_be_bytes w32) (λ n. refl) ones32 m.ipv4_src) in
-    let to_ipv4_dst = joined_long _ (stated_masked 12 (to_be_bytes w32) ones32 m.ipv4_dst) _ _ to_ipv4_src (masked_long 12 4 (to_be_bytes w32) (λ n. refl) ones32 m.ipv4_dst) in
+    let to_ipv4_src = joined_long _ (stated_masked 11 (to_be_bytes w32) ones32 m.ipv4_src) _ _ to_eth_dst
+    (masked_long 11 4 (to_be_bytes w32) (λ n. refl) ones32 m.ipv4_src) in
+    let to_ipv4_dst = joined_long _ (stated_masked 12 (to_be_bytes w32) ones32 m.ipv4_dst) _ _ to_ipv4_src
+    (masked_long 12 4 (to_be_bytes w32) (λ n. refl) ones32 m.ipv4_dst) in
     let to_tcp_src = joined_long _ (stated 13 (to_be_bytes w16) m.tcp_src) _ _ to_ipv4_dst (stated_long 13 2 (to_be_bytes w16) (λ n. refl) m.tcp_src) in
     let to_tcp_dst = joined_long _ (stated 14 (to_be_bytes w16) m.tcp_dst) _ _ to_tcp_src (stated_long 14 2 (to_be_bytes w16) (λ n. refl) m.tcp_dst) in
     let to_udp_src = joined_long _ (stated 15 (to_be_bytes w16) m.udp_src) _ _ to_tcp_dst (stated_long 15 2 (to_be_bytes w16) (λ n. refl) m.udp_src) in
     let to_udp_dst = joined_long _ (stated 16 (to_be_bytes w16) m.udp_dst) _ _ to_udp_src (stated_long 16 2 (to_be_bytes w16) (λ n. refl) m.udp_dst) in
-    let to_ipv6_src = joined_long _ (stated_masked 26 (to_be_bytes w128) ones128 m.ipv6_src) _ _ to_udp_dst (masked_long 26 16 (to_be_bytes w128) (λ n. refl) ones128 m.ipv6_src) in
+    let to_ipv6_src = joined_long _ (stated_masked 26 (to_be_bytes w128) ones128 m.ipv6_src) _ _ to_udp_dst
+    (masked_long 26 16 (to_be_bytes w128) (λ n. refl) ones128 m.ipv6_src) in
     joined_long _ (stated_masked 27 (to_be_bytes w128) ones128 m.ipv6_dst) _ _ to_ipv6_src (masked_long 27 16 (to_be_bytes w128) (λ n. refl) ones128 m.ipv6_dst)
 
 match_long : (m : MatchFields) → length (match_bytes m) ≡ match_length m
@@ -77,7 +86,8 @@ unfolding match_bytes
 match_long m =
     let front : List ℕ = 0 ∷ 1 ∷ (to_be_bytes w16 (4 + length (match_oxms m)) ++ match_oxms m) in
     let long : length front ≡ 4 + oxms_length m = omega (arith, oxms_long m, length-append (to_be_bytes w16 (4 + length (match_oxms m))) (match_oxms m)) in
-    let zeros : length (replicate (padding (length front)) 0) ≡ padding (4 + oxms_length m) = length-replicate {A = ℕ} (padding (length front)) 0 ∙ ap padding long in
+    let zeros : length (replicate (padding (length front)) 0) ≡ padding (4 + oxms_length m) =
+    length-replicate {A = ℕ} (padding (length front)) 0 ∙ ap padding long in
     omega (arith, long, zeros, length-append front (replicate (padding (length front)) 0))
 
 -- Actions.
@@ -109,7 +119,9 @@ action_long (SetVlan w) lawful = refl
 action_long (SetField f n) lawful = field_long f n lawful.0
 
 actions_long : (as_ : List Action) → All IsLawfulAction as_ → length (actions_bytes as_) ≡ actions_length as_
-actions_long as_ lawful = all_long action_bytes action_length as_ (All-weaker IsLawfulAction (λ a. length (action_bytes a) ≡ action_length a) action_long as_ lawful)
+actions_long as_ lawful =
+    all_long action_bytes action_length as_
+    (All-weaker IsLawfulAction (λ a. length (action_bytes a) ≡ action_length a) action_long as_ lawful)
 
 -- Messages.
 

@@ -1,5 +1,6 @@
 -- The best of entries is the one that a packet takes.
-use Rattle.std.proofs.Common.{◌≡◌, ◌⊎◌, ℕ, ◌<◌, ◌≤◌, Bool, true, false, ◌&&◌, nat_lt, if◌then◌else◌, List, [], ◌∷◌, ◌++◌, append_assoc, refl, sym, ap, subst, ◌∙◌, arith, inl, inr}
+use Rattle.std.proofs.Common.{◌≡◌, ◌⊎◌, ℕ, ◌<◌, ◌≤◌, Bool, true, false, ◌&&◌, nat_lt, if◌then◌else◌, List, [], ◌∷◌, ◌++◌, append_assoc}
+use Rattle.std.proofs.Common.{refl, sym, ap, subst, ◌∙◌, arith, inl, inr}
 use Rattle.std.specs.Cmp.{first_so, second_so}
 use Rattle.std.proofs.lemmas.Bool.{true≢false}
 use Rattle.std.proofs.lemmas.Bool.Decides.{nat_tests}
@@ -109,10 +110,12 @@ module _ (n : ℕ) (x : TaggedPacket) where
   pub best-all : (slots more : List Slot) (best : Option Slot) → IsBest n x slots best → IsBest n x (slots ++ more) (best_of n x more best)
   best-all slots [] best h = subst (λ l. IsBest n x l best) (sym (append-nil slots)) h
   best-all slots (s ∷ more) best h =
-      subst (λ l. IsBest n x l (best_of n x more (preferred n x s best))) (append_assoc slots (s ∷ []) more) (best-all (slots ++ s ∷ []) more (preferred n x s best) (best-more slots s best h))
+      subst (λ l. IsBest n x l (best_of n x more (preferred n x s best))) (append_assoc slots (s ∷ []) more)
+      (best-all (slots ++ s ∷ []) more (preferred n x s best) (best-more slots s best h))
 
   -- the best of some is the best of all of which they are those that count
-  pub best-among : (some all : List Slot) (best : Option Slot) → ((t : Slot) → IsIn t some → IsIn t all) → ((t : Slot) → IsIn t all → counts n x t ≡ true → IsIn t some) → IsBest n x some best → IsBest n x all best
+  pub best-among : (some all : List Slot) (best : Option Slot) → ((t : Slot) → IsIn t some → IsIn t all)
+      → ((t : Slot) → IsIn t all → counts n x t ≡ true → IsIn t some) → IsBest n x some best → IsBest n x all best
   best-among some all None sub sup h = λ t i. by t i (counts n x t) refl
     where
       by : (t : Slot) → IsIn t all → (b : Bool) → counts n x t ≡ b → b ≡ false
@@ -153,23 +156,32 @@ module _ (n : ℕ) (x : TaggedPacket) where
   strictly_below : (y s : Slot) → comes_before y s ≡ false → y.sequence < s.sequence → nat_lt y.entry.priority s.entry.priority ≡ true
   strictly_below y s h k = grind (arith, nat_tests)
 
-  pub best-taken : (slots : List Slot) → Climbs slots → (best : Option Slot) → IsBest n x slots best → taken (entries_of slots) n x ≡ option_map (λ s. s.entry) best
+  pub best-taken : (slots : List Slot) → Climbs slots → (best : Option Slot) → IsBest n x slots best
+      → taken (entries_of slots) n x ≡ option_map (λ s. s.entry) best
   best-taken [] climb None h = refl
   best-taken [] climb (Some s) h = absurd h.0
   best-taken (y ∷ slots) (above, climb) best h = by (counts n x y) refl best h (best-taken slots climb)
     where
-      by : (b : Bool) → counts n x y ≡ b → (best : Option Slot) → IsBest n x (y ∷ slots) best → ((o : Option Slot) → IsBest n x slots o → taken (entries_of slots) n x ≡ option_map (λ s. s.entry) o) →
+      by : (b : Bool) → counts n x y ≡ b → (best : Option Slot) → IsBest n x (y ∷ slots) best
+          → ((o : Option Slot) → IsBest n x slots o → taken (entries_of slots) n x ≡ option_map (λ s. s.entry) o) →
           (if b then better y.entry (taken (entries_of slots) n x) else taken (entries_of slots) n x) ≡ option_map (λ s. s.entry) best
       by true c None h more = absurd (true≢false (sym c ∙ h y (inl refl)))
       by true c (Some s) h more = elim h.0 [
-        | inl e ↦ ap (λ u. better u.entry (taken (entries_of slots) n x)) (sym e) ∙ stays s.entry (taken (entries_of slots) n x) (no_higher s.entry.priority slots (λ t i d. not_above s t (h.2 t (inr i) d)))
+        | inl e ↦ ap (λ u. better u.entry (taken (entries_of slots) n x)) (sym e)
+            ∙ stays s.entry (taken (entries_of slots) n x) (no_higher s.entry.priority slots (λ t i d. not_above s t (h.2 t (inr i) d)))
         | inr i ↦ ap (better y.entry) (more (Some s) (i, h.1, λ t j. h.2 t (inr j)))
             ∙ ap (λ b. if b then Some s.entry else Some y.entry) (strictly_below y s (h.2 y (inl refl) c) (below_all y s slots above i))
       ]
       by false c None h more = more None (λ t i. h t (inr i))
-      by false c (Some s) h more = more (Some s) (elim h.0 as (λ _. IsIn s slots) [ inl e ↦ absurd (true≢false (sym h.1 ∙ ap (counts n x) e ∙ c)) | inr i ↦ i ], h.1, λ t j. h.2 t (inr j))
+      by false c (Some s) h more =
+          more (Some s) (
+            elim h.0 as (λ _. IsIn s slots) [ inl e ↦ absurd (true≢false (sym h.1 ∙ ap (counts n x) e ∙ c)) | inr i ↦ i ],
+            h.1,
+            λ t j. h.2 t (inr j),
+          )
 
   -- the best of all is the one that a packet takes
-  pub best-is_taken : (slots : List Slot) → Climbs (in_turn slots) → (best : Option Slot) → IsBest n x slots best → taken (entries_of (in_turn slots)) n x ≡ option_map (λ s. s.entry) best
+  pub best-is_taken : (slots : List Slot) → Climbs (in_turn slots) → (best : Option Slot) → IsBest n x slots best
+      → taken (entries_of (in_turn slots)) n x ≡ option_map (λ s. s.entry) best
   best-is_taken slots climb best h =
       best-taken (in_turn slots) climb best (best-among slots (in_turn slots) best (λ t. in-sorted turn t slots) (λ t i c. out-sorted turn t slots i) h)

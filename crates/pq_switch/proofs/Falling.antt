@@ -74,12 +74,14 @@ module _ (next n : ℕ) (p : Pattern) where
   abbrev part : List (Place × Slot) → List (Place × Slot)
   part es = filter (λ e. lies n p e.0) es
 
-  none_higher : (r : Place × Slot) → IsKept next r → lies n p r.0 ≡ true → (es : List (Place × Slot)) → AllByRecursion (IsKept next) es → AllByRecursion (λ q. place_cmp r.0 q ≡ Less) (keys_of es) →
+  none_higher : (r : Place × Slot) → IsKept next r → lies n p r.0 ≡ true → (es : List (Place × Slot)) → AllByRecursion (IsKept next) es
+      → AllByRecursion (λ q. place_cmp r.0 q ≡ Less) (keys_of es) →
       AllByRecursion (λ t. t.entry.priority ≤ r.1.entry.priority) (values_of (part es))
   none_higher r kept in_range [] all later = tt
   none_higher r kept in_range (e ∷ es) (here, all) (less, later) = by (lies n p e.0) refl (none_higher r kept in_range es all later)
     where
-      by : (b : Bool) → lies n p e.0 ≡ b → AllByRecursion (λ t. t.entry.priority ≤ r.1.entry.priority) (values_of (part es)) → AllByRecursion (λ t. t.entry.priority ≤ r.1.entry.priority) (values_of (cond b (e ∷ part es) (part es)))
+      by : (b : Bool) → lies n p e.0 ≡ b → AllByRecursion (λ t. t.entry.priority ≤ r.1.entry.priority) (values_of (part es))
+          → AllByRecursion (λ t. t.entry.priority ≤ r.1.entry.priority) (values_of (cond b (e ∷ part es) (part es)))
       by true is more =
           let down = lower n p r.0 e.0 in_range is less in
           let here_down = down_of next e here in
@@ -110,7 +112,8 @@ module _ (n : ℕ) (x : TaggedPacket) where
       never true = refl
       never false = refl
 
-  lower_all : (s best : Slot) → s.entry.priority < best.entry.priority → (slots : List Slot) → AllByRecursion (λ t. t.entry.priority ≤ s.entry.priority) slots → AllByRecursion (λ t. t.entry.priority < best.entry.priority) slots
+  lower_all : (s best : Slot) → s.entry.priority < best.entry.priority → (slots : List Slot)
+      → AllByRecursion (λ t. t.entry.priority ≤ s.entry.priority) slots → AllByRecursion (λ t. t.entry.priority < best.entry.priority) slots
   lower_all s best h [] all = tt
   lower_all s best h (t ∷ slots) (here, all) = (omega (arith, h, here), lower_all s best h slots all)
 

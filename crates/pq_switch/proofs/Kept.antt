@@ -34,16 +34,20 @@ entries-filter : (q : Entry → Bool) (slots : List Slot) → entries_of (filter
 entries-filter q [] = refl
 entries-filter q (s ∷ slots) = by (q s.entry) (entries-filter q slots)
   where
-    by : (b : Bool) → entries_of (filter (λ t. q t.entry) slots) ≡ filter q (entries_of slots) → entries_of (cond b (s ∷ filter (λ t. q t.entry) slots) (filter (λ t. q t.entry) slots)) ≡ cond b (s.entry ∷ filter q (entries_of slots)) (filter q (entries_of slots))
+    by : (b : Bool) → entries_of (filter (λ t. q t.entry) slots) ≡ filter q (entries_of slots)
+        → entries_of (cond b (s ∷ filter (λ t. q t.entry) slots) (filter (λ t. q t.entry) slots))
+        ≡ cond b (s.entry ∷ filter q (entries_of slots)) (filter q (entries_of slots))
     by true more = ap (λ l. s.entry ∷ l) more
     by false more = more
 
 -- what is left of entries of which some are taken out
-pub thinned : (q : Entry → Bool) (old new : List (Place × Slot)) → values_of new ≡ filter (λ s. q s.entry) (values_of old) → entries_of (in_turn (values_of new)) ≡ filter q (entries_of (in_turn (values_of old)))
+pub thinned : (q : Entry → Bool) (old new : List (Place × Slot)) → values_of new ≡ filter (λ s. q s.entry) (values_of old)
+    → entries_of (in_turn (values_of new)) ≡ filter q (entries_of (in_turn (values_of old)))
 thinned q old new is =
     ap (λ l. entries_of (in_turn l)) is ∙ ap entries_of (sort-filter turn (λ s. q s.entry) (values_of old)) ∙ entries-filter q (in_turn (values_of old))
 
-pub thinned-climb : (p : Slot → Bool) (old new : List (Place × Slot)) → values_of new ≡ filter p (values_of old) → Climbs (in_turn (values_of old)) → Climbs (in_turn (values_of new))
+pub thinned-climb : (p : Slot → Bool) (old new : List (Place × Slot)) → values_of new ≡ filter p (values_of old)
+    → Climbs (in_turn (values_of old)) → Climbs (in_turn (values_of new))
 thinned-climb p old new is climb = subst Climbs (sym (ap in_turn is ∙ sort-filter turn p (values_of old))) (climbs-filter p (in_turn (values_of old)) climb)
 
 -- a test of every kept row is one of the values
@@ -65,15 +69,20 @@ module _ (f : FlowValue) (next : ℕ) (small : f.priority < 0x10000) where
 
   kept-tells : (es : List (Place × Slot)) → AllByRecursion (IsKept next) es → Tells place_cmp placed_at stays es
   kept-tells [] all = tt
-  kept-tells (e ∷ es) (here, all) =
-      (ap not (sym (placed-equal f e.1.entry small here.priority) ∙ ap is_eq (alike_right place_cmp_total (place_in e.1.entry) e.0 placed_at here.place)), kept-tells es all)
+  kept-tells (e ∷ es) (here, all) = (
+    ap not (sym (placed-equal f e.1.entry small here.priority)
+        ∙ ap is_eq (alike_right place_cmp_total (place_in e.1.entry) e.0 placed_at here.place)),
+    kept-tells es all,
+  )
 
   -- what is left when the entry of this place is taken out
-  pub removed-values : (es : List (Place × Slot)) → AreKept next es → lookup (is_at (place_cmp placed_at)) (remove_entry (is_at (place_cmp placed_at)) es) ≡ None →
+  pub removed-values : (es : List (Place × Slot)) → AreKept next es
+      → lookup (is_at (place_cmp placed_at)) (remove_entry (is_at (place_cmp placed_at)) es) ≡ None →
       values_of (remove_entry (is_at (place_cmp placed_at)) es) ≡ filter stays (values_of es)
   removed-values es kept none = removed place_cmp placed_at stays es (kept-tells es kept.each) none
 
-  module _ (s : Slot) (is : s.entry ≡ entry_of f) (last : s.sequence ≡ next) (es : List (Place × Slot)) (kept : AreKept next es) (sorted : IsStrictlySortedBy place_cmp (keys_of es)) where
+  module _ (s : Slot) (is : s.entry ≡ entry_of f) (last : s.sequence ≡ next) (es : List (Place × Slot)) (kept : AreKept next es)
+      (sorted : IsStrictlySortedBy place_cmp (keys_of es)) where
     abbrev new : List (Place × Slot)
     new = insert_entry place_cmp es placed_at s
 
@@ -86,9 +95,12 @@ module _ (f : FlowValue) (next : ℕ) (small : f.priority < 0x10000) where
     in_turn-added : in_turn (values_of new) ≡ filter stays (in_turn (values_of es)) ++ s ∷ []
     in_turn-added =
         let p = parts place_cmp placed_at stays place_cmp_total s es (kept-tells es kept.each) sorted in
-        let before = all_weaker (λ t. t.sequence < next) (λ t. is_before (turn t) (turn s) ≡ true) before-last (values_of es) (values-early next es kept.each) in
+        let before = all_weaker (λ t. t.sequence < next) (λ t. is_before (turn t) (turn s) ≡ true) before-last (values_of es)
+        (values-early next es kept.each) in
         ap in_turn p.is
-        ∙ sort-greatest turn p.front s p.back (subst (AllByRecursion (λ t. is_before (turn t) (turn s) ≡ true)) p.rest (all_filter (λ t. is_before (turn t) (turn s) ≡ true) stays (values_of es) before))
+        ∙ sort-greatest turn p.front s p.back
+        (subst (AllByRecursion (λ t. is_before (turn t) (turn s) ≡ true)) p.rest
+        (all_filter (λ t. is_before (turn t) (turn s) ≡ true) stays (values_of es) before))
         ∙ ap (λ l. in_turn l ++ s ∷ []) (sym p.rest) ∙ ap (λ l. l ++ s ∷ []) (sort-filter turn stays (values_of es))
 
     -- the entry stands last, and the one of its place is gone
@@ -99,26 +111,35 @@ module _ (f : FlowValue) (next : ℕ) (small : f.priority < 0x10000) where
     pub added-kept : AreKept (next + 1) new
     added-kept = record {
       each = all-insert place_cmp placed_at (IsKept (next + 1)) s (at placed_at (tied_itself place_cmp_total placed_at)) es
-          (all_weaker (IsKept next) (IsKept (next + 1)) (λ r k. record { place = k.place; priority = k.priority; early = later r.1.sequence k.early }) es kept.each) at;
+          (all_weaker (IsKept next) (IsKept (next + 1))
+          (λ r k. record { place = k.place; priority = k.priority; early = later r.1.sequence k.early }) es kept.each) at;
       climb = subst Climbs (sym in_turn-added) (climbs-push (filter stays (in_turn (values_of es))) s (climbs-filter stays (in_turn (values_of es)) kept.climb)
           (all_filter (λ t. t.sequence < s.sequence) stays (in_turn (values_of es))
-          (sort-all turn (λ t. t.sequence < s.sequence) (values_of es) (all_weaker (λ t. t.sequence < next) (λ t. t.sequence < s.sequence) below-last (values_of es) (values-early next es kept.each)))));
+          (sort-all turn (λ t. t.sequence < s.sequence) (values_of es)
+          (all_weaker (λ t. t.sequence < next) (λ t. t.sequence < s.sequence) below-last (values_of es)
+          (values-early next es kept.each)))));
     }
       where
         later : (n : ℕ) → n < next → n < next + 1
         later n h = omega arith
 
         at : (q : Place) → place_cmp placed_at q ≡ Equal → IsKept (next + 1) (q, s)
-        at q e = record { place = ap (λ d. place_cmp (place_in d) q) is ∙ e; priority = subst (λ d. d.priority < 0x10000) (sym is) small; early = omega (arith, last) }
+        at q e = record {
+          place = ap (λ d. place_cmp (place_in d) q) is ∙ e;
+          priority = subst (λ d. d.priority < 0x10000) (sym is) small;
+          early = omega (arith, last);
+        }
 
-module _ (f : FlowValue) (next : ℕ) (small : f.priority < 0x10000) (p : Place) (at : p ≡ place_of f.table f.matching f.priority) (old new : BTreeMap Place Slot) (kept : AreKept next old.entries) where
+module _ (f : FlowValue) (next : ℕ) (small : f.priority < 0x10000) (p : Place) (at : p ≡ place_of f.table f.matching f.priority)
+    (old new : BTreeMap Place Slot) (kept : AreKept next old.entries) where
   abbrev pub q : Entry → Bool
   q e = not (is_placed f e)
 
   module _ (is : new.entries ≡ remove_entry (is_at (place_cmp p)) old.entries) (gone : get_by (place_cmp p) new ≡ None) where
     left : values_of new.entries ≡ filter (λ s. q s.entry) (values_of old.entries)
     left =
-        let none = subst (λ r. lookup (is_at (place_cmp r)) (remove_entry (is_at (place_cmp r)) old.entries) ≡ None) at (subst (λ es. lookup (is_at (place_cmp p)) es ≡ None) is gone) in
+        let none = subst (λ r. lookup (is_at (place_cmp r)) (remove_entry (is_at (place_cmp r)) old.entries) ≡ None) at
+        (subst (λ es. lookup (is_at (place_cmp p)) es ≡ None) is gone) in
         ap values_of (is ∙ ap (λ r. remove_entry (is_at (place_cmp r)) old.entries) at) ∙ removed-values f next small old.entries kept none
 
     pub taken_out : entries_of (in_turn (values_of new.entries)) ≡ filter q (entries_of (in_turn (values_of old.entries)))
@@ -130,7 +151,8 @@ module _ (f : FlowValue) (next : ℕ) (small : f.priority < 0x10000) (p : Place)
       climb = thinned-climb (λ s. q s.entry) old.entries new.entries left kept.climb;
     }
 
-  module _ (s : Slot) (entry : s.entry ≡ entry_of f) (last : s.sequence ≡ next) (sorted : IsStrictlySortedBy place_cmp (keys_of old.entries)) (is : new.entries ≡ insert_entry place_cmp old.entries p s) where
+  module _ (s : Slot) (entry : s.entry ≡ entry_of f) (last : s.sequence ≡ next)
+      (sorted : IsStrictlySortedBy place_cmp (keys_of old.entries)) (is : new.entries ≡ insert_entry place_cmp old.entries p s) where
     grown : new.entries ≡ insert_entry place_cmp old.entries (place_of f.table f.matching f.priority) s
     grown = is ∙ ap (λ r. insert_entry place_cmp old.entries r s) at
 
@@ -147,5 +169,6 @@ kept_where next q old new kept is = record {
   climb = thinned-climb (λ s. q s.entry) old new (ap values_of is ∙ values-filter (λ s. q s.entry) old) kept.climb;
 }
 
-pub entries_where : (q : Entry → Bool) (old new : List (Place × Slot)) → new ≡ filter (λ r. q r.1.entry) old → entries_of (in_turn (values_of new)) ≡ filter q (entries_of (in_turn (values_of old)))
+pub entries_where : (q : Entry → Bool) (old new : List (Place × Slot)) → new ≡ filter (λ r. q r.1.entry) old
+    → entries_of (in_turn (values_of new)) ≡ filter q (entries_of (in_turn (values_of old)))
 entries_where q old new is = thinned q old new (ap values_of is ∙ values-filter (λ s. q s.entry) old)

@@ -16,7 +16,9 @@ seen f es = map (λ e. (e.0, f e.1)) es
 
 pub find-seen : {X Y : Type 0} (f : X → Y) (q : ℕ) (es : List (ℕ × X)) → find nat_cmp q (seen f es) ≡ option_map f (lookup (is_at (nat_cmp q)) es)
 find-seen f q [] = refl
-find-seen f q (e ∷ es) = elim (is_eq (nat_cmp q e.0)) as (λ b. cond b (Some (f e.1)) (find nat_cmp q (seen f es)) ≡ option_map f (cond b (Some e.1) (lookup (is_at (nat_cmp q)) es))) [ true ↦ refl | false ↦ find-seen f q es ]
+find-seen f q (e ∷ es) =
+    elim (is_eq (nat_cmp q e.0)) as (λ b. cond b (Some (f e.1)) (find nat_cmp q (seen f es))
+    ≡ option_map f (cond b (Some e.1) (lookup (is_at (nat_cmp q)) es))) [ true ↦ refl | false ↦ find-seen f q es ]
 
 module _ {X Y : Type 0} (f : X → Y) where
   -- the finite map of a map's entries

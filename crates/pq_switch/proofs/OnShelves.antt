@@ -1,5 +1,6 @@
 -- Each row is found on its shelf, so the best of four shelves is the best of all.
-use Rattle.std.proofs.Common.{◌≡◌, ◌≢◌, ◌⊎◌, map, ℕ, zero, suc, ◌+◌, ◌<◌, Bool, true, false, ◌==◌, List, [], ◌∷◌, ◌++◌, length, refl, sym, ap, subst, ◌∙◌, arith, inl, inr}
+use Rattle.std.proofs.Common.{◌≡◌, ◌≢◌, ◌⊎◌, map, ℕ, zero, suc, ◌+◌, ◌<◌, Bool, true, false, ◌==◌, List, [], ◌∷◌, ◌++◌, length, refl, sym}
+use Rattle.std.proofs.Common.{ap, subst, ◌∙◌, arith, inl, inr}
 use Rattle.std.specs.Prelude.{slice_get, slice_set}
 use Rattle.std.proofs.lemmas.Bool.Decides.{nat_tests}
 use Rattle.std.proofs.lemmas.List.{get_or-set_other, get_or-set_same, length-map, length-set}
@@ -53,25 +54,29 @@ out-picked rows (j ∷ is) t h = elim (in-either t (found (slice_get rows j)) (p
 ]
 
 -- the best of some, and then of more
-pub best-onward : (n : ℕ) (x : TaggedPacket) (some more : List Slot) (best : Option Slot) → best_of n x (some ++ more) best ≡ best_of n x more (best_of n x some best)
+pub best-onward : (n : ℕ) (x : TaggedPacket) (some more : List Slot) (best : Option Slot)
+    → best_of n x (some ++ more) best ≡ best_of n x more (best_of n x some best)
 best-onward n x [] more best = refl
 best-onward n x (s ∷ some) more best = best-onward n x some more _
 
 -- a row is put on a shelf
 
-number-in : (before : List (List ℕ)) (k j row i : ℕ) → k < length before → IsIn i (shelf_at before j) → IsIn i (shelf_at (slice_set before k (shelf_at before k ++ row ∷ [])) j)
+number-in : (before : List (List ℕ)) (k j row i : ℕ) → k < length before → IsIn i (shelf_at before j)
+    → IsIn i (shelf_at (slice_set before k (shelf_at before k ++ row ∷ [])) j)
 number-in before k j row i within h = by (j == k) refl
   where
     by : (b : Bool) → (j == k) ≡ b → IsIn i (shelf_at (slice_set before k (shelf_at before k ++ row ∷ [])) j)
     by true e =
         let same : j ≡ k = grind (nat_tests, arith) in
         subst (λ q. IsIn i (shelf_at (slice_set before k (shelf_at before k ++ row ∷ [])) q)) (sym same)
-        (subst (IsIn i) (sym (get_or-set_same before k (shelf_at before k ++ row ∷ []) [] within)) (in-left i (shelf_at before k) (row ∷ []) (subst (λ q. IsIn i (shelf_at before q)) same h)))
+        (subst (IsIn i) (sym (get_or-set_same before k (shelf_at before k ++ row ∷ []) [] within))
+        (in-left i (shelf_at before k) (row ∷ []) (subst (λ q. IsIn i (shelf_at before q)) same h)))
     by false e =
         let other : j ≢ k = grind (nat_tests, arith) in
         subst (IsIn i) (sym (get_or-set_other before k j (shelf_at before k ++ row ∷ []) [] other)) h
 
-module _ (rows : List Slot) (before : List (List ℕ)) (row : ℕ) (s : Slot) (read : slice_get rows row ≡ Some s) (within : shelf_for (length before) s.entry < length before) where
+module _ (rows : List Slot) (before : List (List ℕ)) (row : ℕ) (s : Slot) (read : slice_get rows row ≡ Some s)
+    (within : shelf_for (length before) s.entry < length before) where
   abbrev pub shelf : ℕ
   shelf = shelf_for (length before) s.entry
 
@@ -82,7 +87,8 @@ module _ (rows : List Slot) (before : List (List ℕ)) (row : ℕ) (s : Slot) (r
   as_many = length-set before shelf (shelf_at before shelf ++ row ∷ [])
 
   last-in : IsIn row (shelf_at after shelf)
-  last-in = subst (IsIn row) (sym (get_or-set_same before shelf (shelf_at before shelf ++ row ∷ []) [] within)) (in-right row (shelf_at before shelf) (row ∷ []) (inl refl))
+  last-in = subst (IsIn row) (sym (get_or-set_same before shelf (shelf_at before shelf ++ row ∷ []) [] within))
+      (in-right row (shelf_at before shelf) (row ∷ []) (inl refl))
 
   pub one_more : LieBelow row rows before → LieBelow (row + 1) rows after
   one_more lie i t below is = subst (λ count. IsIn i (shelf_at after (shelf_for count t.entry))) (sym as_many) (by (i == row) refl)
@@ -94,7 +100,8 @@ module _ (rows : List Slot) (before : List (List ℕ)) (row : ℕ) (s : Slot) (r
       by true e =
           let here : i ≡ row = grind (nat_tests, arith) in
           let slot : s ≡ t = same_slot s t (sym read ∙ ap (slice_get rows) (sym here) ∙ is) in
-          subst (λ q. IsIn q (shelf_at after (shelf_for (length before) t.entry))) (sym here) (subst (λ u. IsIn row (shelf_at after (shelf_for (length before) u.entry))) slot last-in)
+          subst (λ q. IsIn q (shelf_at after (shelf_for (length before) t.entry))) (sym here)
+          (subst (λ u. IsIn row (shelf_at after (shelf_for (length before) u.entry))) slot last-in)
       by false e =
           let earlier : i < row = grind (nat_tests, arith) in
           number-in before shelf (shelf_for (length before) t.entry) row i within (lie i t earlier is)
@@ -156,14 +163,17 @@ module _ (n : ℕ) (x : TaggedPacket) (rows : List Slot) (shelves : List (List �
           | inr a_word ↦ in-left t two (on None None) (in-right t one (on None word) (lies t i None word table no_port a_word))
         ]
         | inr a_port ↦ elim (stated m.vlan (vlan_word x.vlan) (ap (λ (p : Pattern). p.vlan) shows)) [
-          | inl no_word ↦ in-left t two (on None None) (in-left t one (on None word) (in-right t (on port word) (on port None) (lies t i port None table a_port no_word)))
-          | inr a_word ↦ in-left t two (on None None) (in-left t one (on None word) (in-left t (on port word) (on port None) (lies t i port word table a_port a_word)))
+          | inl no_word ↦ in-left t two (on None None)
+              (in-left t one (on None word) (in-right t (on port word) (on port None) (lies t i port None table a_port no_word)))
+          | inr a_word ↦ in-left t two (on None None)
+              (in-left t one (on None word) (in-left t (on port word) (on port None) (lies t i port word table a_port a_word)))
         ]
       ]
 
   -- the best of four shelves is the best of all
   pub best_of_shelves : (first second third fourth : Option Slot) → first ≡ best_of n x (on port word) None → second ≡ best_of n x (on port None) first →
-      third ≡ best_of n x (on None word) second → fourth ≡ best_of n x (on None None) third → option_map (λ s. s.entry) fourth ≡ taken (entries_of (in_turn rows)) n x
+      third ≡ best_of n x (on None word) second → fourth ≡ best_of n x (on None None) third
+      → option_map (λ s. s.entry) fourth ≡ taken (entries_of (in_turn rows)) n x
   best_of_shelves first second third fourth a b c d =
       let none : IsBest n x [] None = λ t i. absurd i in
       let first_is = subst (IsBest n x (on port word)) (sym a) (best-all n x [] (on port word) None none) in
@@ -173,13 +183,15 @@ module _ (n : ℕ) (x : TaggedPacket) (rows : List Slot) (shelves : List (List �
       sym (best-is_taken n x rows are.climb fourth (best-among n x some rows fourth inside all fourth_is))
 
 -- the same of shelves as they are stored
-pub shelved_more : {V : Type 0} (f : V → List ℕ) (rows : List Slot) (old new : List V) (row : ℕ) (s : Slot) → slice_get rows row ≡ Some s → shelf_for (length old) s.entry < length old
+pub shelved_more : {V : Type 0} (f : V → List ℕ) (rows : List Slot) (old new : List V) (row : ℕ) (s : Slot) → slice_get rows row ≡ Some s
+    → shelf_for (length old) s.entry < length old
     → map f new ≡ slice_set (map f old) (shelf_for (length old) s.entry) (shelf_at (map f old) (shelf_for (length old) s.entry) ++ row ∷ [])
     → 0 < length old → LieBelow row rows (map f old) → (0 < length new) × LieBelow (row + 1) rows (map f new)
 shelved_more f rows old new row s read within is some lie =
     let count : length (map f old) ≡ length old = length-map old f in
     let inside : shelf_for (length (map f old)) s.entry < length (map f old) = subst (λ n. shelf_for n s.entry < n) (sym count) within in
-    let put : map f new ≡ slice_set (map f old) (shelf_for (length (map f old)) s.entry) (shelf_at (map f old) (shelf_for (length (map f old)) s.entry) ++ row ∷ []) =
+    let put : map f new ≡ slice_set (map f old) (shelf_for (length (map f old)) s.entry)
+    (shelf_at (map f old) (shelf_for (length (map f old)) s.entry) ++ row ∷ []) =
     is ∙ (λ i. slice_set (map f old) (shelf_for (sym count i) s.entry) (shelf_at (map f old) (shelf_for (sym count i) s.entry) ++ row ∷ [])) in
     let many : length new ≡ length old = sym (length-map new f) ∙ ap length put ∙ as_many rows (map f old) row s read inside ∙ count in
     (subst (λ n. 0 < n) (sym many) some, subst (LieBelow (row + 1) rows) (sym put) (one_more rows (map f old) row s read inside lie))

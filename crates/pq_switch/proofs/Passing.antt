@@ -7,7 +7,8 @@ use Rattle.pq_model.specs.Tagged.{TaggedPacket}
 use Rattle.pq_model.specs.SwitchMachine.{Entry, Tables, changed_by, emits, runs, sent_by_entry, sent_from_table, sent_onward, taken}
 
 module _ (t : Tables) (k n : ℕ) (x : TaggedPacket) (e : Entry) (below : k < 255) (took : taken t.entries n x ≡ Some e) where
-  passes : sent_from_table (255 - k) t n x ≡ runs (emits t.groups) e.actions x ++ sent_onward (sent_from_table (255 - (k + 1)) t) e.goto (changed_by e.actions x)
+  passes : sent_from_table (255 - k) t n x ≡ runs (emits t.groups) e.actions x ++ sent_onward (sent_from_table (255 - (k + 1)) t) e.goto
+      (changed_by e.actions x)
   passes =
       let one_more : 255 - k ≡ suc (255 - (k + 1)) = omega arith in
       ap (λ m. sent_from_table m t n x) one_more ∙ ap (sent_by_entry (sent_from_table (255 - (k + 1)) t) t.groups x) took

@@ -32,7 +32,8 @@ abbrev rest_agree : MatchFields → TaggedPacket → List Bool
 rest_agree m x =
     agrees m.vlan (vlan_word x.vlan)
     ∷ agrees m.eth_type x.packet.eth_type ∷ agrees m.ip_proto x.packet.ip_proto
-    ∷ agrees m.eth_src x.packet.eth_src ∷ agrees m.eth_dst x.packet.eth_dst ∷ agrees_masked m.ipv4_src x.packet.ipv4_src ∷ agrees_masked m.ipv4_dst x.packet.ipv4_dst
+    ∷ agrees m.eth_src x.packet.eth_src ∷ agrees m.eth_dst x.packet.eth_dst ∷ agrees_masked m.ipv4_src x.packet.ipv4_src ∷ agrees_masked
+    m.ipv4_dst x.packet.ipv4_dst
     ∷ agrees m.tcp_src x.packet.tcp_src ∷ agrees m.tcp_dst x.packet.tcp_dst ∷ agrees m.udp_src x.packet.udp_src ∷ agrees m.udp_dst x.packet.udp_dst
     ∷ agrees_masked m.ipv6_src x.packet.ipv6_src ∷ agrees_masked m.ipv6_dst x.packet.ipv6_dst ∷ []
 

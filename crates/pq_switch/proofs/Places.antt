@@ -113,14 +113,18 @@ pair_cmp x y = ordering_then (nat_cmp x.0 y.0) (nat_cmp x.1 y.1)
 -- how the fields of two patterns after the first compare
 abbrev rest_orders : Pattern → Pattern → List Ordering
 rest_orders p q =
-    option_cmp nat_cmp p.vlan q.vlan ∷ option_cmp nat_cmp p.eth_type q.eth_type ∷ option_cmp nat_cmp p.ip_proto q.ip_proto ∷ option_cmp nat_cmp p.eth_src q.eth_src ∷ option_cmp nat_cmp p.eth_dst q.eth_dst
-    ∷ option_cmp pair_cmp p.ipv4_src q.ipv4_src ∷ option_cmp pair_cmp p.ipv4_dst q.ipv4_dst ∷ option_cmp nat_cmp p.tcp_src q.tcp_src ∷ option_cmp nat_cmp p.tcp_dst q.tcp_dst
-    ∷ option_cmp nat_cmp p.udp_src q.udp_src ∷ option_cmp nat_cmp p.udp_dst q.udp_dst ∷ option_cmp pair_cmp p.ipv6_src q.ipv6_src ∷ option_cmp pair_cmp p.ipv6_dst q.ipv6_dst ∷ []
+    option_cmp nat_cmp p.vlan q.vlan ∷ option_cmp nat_cmp p.eth_type q.eth_type ∷ option_cmp nat_cmp p.ip_proto q.ip_proto ∷ option_cmp
+    nat_cmp p.eth_src q.eth_src ∷ option_cmp nat_cmp p.eth_dst q.eth_dst
+    ∷ option_cmp pair_cmp p.ipv4_src q.ipv4_src ∷ option_cmp pair_cmp p.ipv4_dst q.ipv4_dst ∷ option_cmp nat_cmp p.tcp_src q.tcp_src ∷
+    option_cmp nat_cmp p.tcp_dst q.tcp_dst
+    ∷ option_cmp nat_cmp p.udp_src q.udp_src ∷ option_cmp nat_cmp p.udp_dst q.udp_dst ∷ option_cmp pair_cmp p.ipv6_src q.ipv6_src ∷
+    option_cmp pair_cmp p.ipv6_dst q.ipv6_dst ∷ []
 
 pattern-equal : (m n : MatchFields) → is_eq (pattern_cmp (pattern_of m) (pattern_of n)) ≡ same_match m n
 pattern-equal m n =
     chain-equal (option_cmp nat_cmp m.in_port n.in_port) (rest_orders (pattern_of m) (pattern_of n))
-    ∙ (λ i. nested (stated m.in_port n.in_port i ∷ stated m.vlan n.vlan i ∷ stated m.eth_type n.eth_type i ∷ stated m.ip_proto n.ip_proto i ∷ stated m.eth_src n.eth_src i ∷ stated m.eth_dst n.eth_dst i
+    ∙ (λ i. nested (stated m.in_port n.in_port i ∷ stated m.vlan n.vlan i ∷ stated m.eth_type n.eth_type i ∷ stated m.ip_proto n.ip_proto i
+    ∷ stated m.eth_src n.eth_src i ∷ stated m.eth_dst n.eth_dst i
     ∷ masked m.ipv4_src n.ipv4_src i ∷ masked m.ipv4_dst n.ipv4_dst i ∷ stated m.tcp_src n.tcp_src i ∷ stated m.tcp_dst n.tcp_dst i
     ∷ stated m.udp_src n.udp_src i ∷ stated m.udp_dst n.udp_dst i ∷ masked m.ipv6_src n.ipv6_src i ∷ masked m.ipv6_dst n.ipv6_dst i ∷ []))
     ∙ sym (match-nested m n)
@@ -207,7 +211,8 @@ block-exact b c h =
 
 pub place-exact : (p q : Place) → place_cmp p q ≡ Equal → p ≡ q
 place-exact p q h =
-    let e = chain-each (block_cmp p.block q.block) (pattern_cmp p.shape q.shape ∷ bool_cmp p.behind q.behind ∷ pattern_cmp p.pattern q.pattern ∷ nat_cmp p.down q.down ∷ []) h in
+    let e = chain-each (block_cmp p.block q.block)
+    (pattern_cmp p.shape q.shape ∷ bool_cmp p.behind q.behind ∷ pattern_cmp p.pattern q.pattern ∷ nat_cmp p.down q.down ∷ []) h in
     let block = block-exact p.block q.block e.0 in
     let shape = pattern-exact p.shape q.shape e.1.0 in
     let behind = bool-exact p.behind q.behind e.1.1.0 in
@@ -277,8 +282,12 @@ zero-first : (n : ℕ) → is_le (nat_cmp 0 n) ≡ true
 zero-first n = grind (arith, nat_tests)
 
 pub first_of-first : (b : Block) (q : Place) → q.block ≡ b → is_le (place_cmp (first_of b) q) ≡ true
-first_of-first b q block = chain-le (block_cmp b q.block) (pattern_cmp no_pattern q.shape ∷ bool_cmp false q.behind ∷ pattern_cmp no_pattern q.pattern ∷ nat_cmp 0 q.down ∷ [])
-    (ap (λ c. is_le (block_cmp b c)) block ∙ ap is_le (tied_itself block_total b), (no_pattern-first q.shape, (false-first q.behind, (no_pattern-first q.pattern, (zero-first q.down, tt)))))
+first_of-first b q block =
+    chain-le (block_cmp b q.block)
+    (pattern_cmp no_pattern q.shape ∷ bool_cmp false q.behind ∷ pattern_cmp no_pattern q.pattern ∷ nat_cmp 0 q.down ∷ []) (
+      ap (λ c. is_le (block_cmp b c)) block ∙ ap is_le (tied_itself block_total b),
+      (no_pattern-first q.shape, (false-first q.behind, (no_pattern-first q.pattern, (zero-first q.down, tt)))),
+    )
 
 downs : (p q : ℕ) → p < 0x10000 → q < 0x10000 → is_eq (nat_cmp (0x10000 - p) (0x10000 - q)) ≡ (p == q)
 downs p q a b = grind (arith, nat_tests)
@@ -289,7 +298,8 @@ same_patterns m n h = pattern-exact (pattern_of m) (pattern_of n) ((Equal-is (pa
 -- a pattern has one shape
 one_shape : (m n : MatchFields) → same_match m n ≡ true → is_eq (pattern_cmp (shape_of (pattern_of m)) (shape_of (pattern_of n))) ≡ true
 one_shape m n h =
-    ap (λ p. is_eq (pattern_cmp (shape_of (pattern_of m)) (shape_of p))) (sym (same_patterns m n h)) ∙ ap is_eq (tied_itself pattern_total (shape_of (pattern_of m)))
+    ap (λ p. is_eq (pattern_cmp (shape_of (pattern_of m)) (shape_of p))) (sym (same_patterns m n h))
+    ∙ ap is_eq (tied_itself pattern_total (shape_of (pattern_of m)))
 
 abbrev ends_equal : Pattern → Pattern → Bool
 ends_equal p q = is_eq (option_cmp nat_cmp p.in_port q.in_port) && is_eq (option_cmp nat_cmp p.vlan q.vlan)
@@ -313,16 +323,22 @@ shuffled true false s false true g h = refl
 shuffled true false s false false g h = refl
 
 -- two places are the same exactly where the tables, the matches and the priorities are
-places-equal : (t u : ℕ) (m n : MatchFields) (p q : ℕ) → p < 0x10000 → q < 0x10000 → is_eq (place_cmp (place_of t m p) (place_of u n q)) ≡ (t == u) && (p == q) && same_match m n
+places-equal : (t u : ℕ) (m n : MatchFields) (p q : ℕ) → p < 0x10000 → q < 0x10000
+    → is_eq (place_cmp (place_of t m p) (place_of u n q)) ≡ (t == u) && (p == q) && same_match m n
 places-equal t u m n p q a b =
-    chain-equal (block_cmp (block_at t m.in_port m.vlan) (block_at u n.in_port n.vlan)) (pattern_cmp (shape_of (pattern_of m)) (shape_of (pattern_of n)) ∷ bool_cmp false false ∷ pattern_cmp (pattern_of m) (pattern_of n) ∷ nat_cmp (0x10000 - p) (0x10000 - q) ∷ [])
+    chain-equal (block_cmp (block_at t m.in_port m.vlan) (block_at u n.in_port n.vlan))
+    (pattern_cmp (shape_of (pattern_of m)) (shape_of (pattern_of n)) ∷ bool_cmp false false ∷ pattern_cmp (pattern_of m)
+    (pattern_of n) ∷ nat_cmp (0x10000 - p) (0x10000 - q) ∷ [])
     ∙ (λ i. block i && (is_eq (pattern_cmp (shape_of (pattern_of m)) (shape_of (pattern_of n))) && (true && (pattern-equal m n i && downs p q a b i))))
-    ∙ shuffled (t == u) (ends_equal (pattern_of m) (pattern_of n)) (is_eq (pattern_cmp (shape_of (pattern_of m)) (shape_of (pattern_of n)))) (same_match m n) (p == q) (one_end m n) (one_shape m n)
+    ∙ shuffled (t == u) (ends_equal (pattern_of m) (pattern_of n)) (is_eq (pattern_cmp (shape_of (pattern_of m)) (shape_of (pattern_of n))))
+    (same_match m n) (p == q) (one_end m n) (one_shape m n)
   where
     block : is_eq (block_cmp (block_at t m.in_port m.vlan) (block_at u n.in_port n.vlan)) ≡ (t == u) && ends_equal (pattern_of m) (pattern_of n)
-    block = chain-equal (nat_cmp t u) (option_cmp nat_cmp m.in_port n.in_port ∷ option_cmp nat_cmp m.vlan n.vlan ∷ []) ∙ ap (λ c. c && ends_equal (pattern_of m) (pattern_of n)) (same_numbers t u)
+    block = chain-equal (nat_cmp t u) (option_cmp nat_cmp m.in_port n.in_port ∷ option_cmp nat_cmp m.vlan n.vlan ∷ [])
+        ∙ ap (λ c. c && ends_equal (pattern_of m) (pattern_of n)) (same_numbers t u)
 
 pub placed-equal : (f : FlowValue) (e : Entry) → f.priority < 0x10000 → e.priority < 0x10000 →
     is_eq (place_cmp (place_of f.table f.matching f.priority) (place_of e.table e.matching e.priority)) ≡ is_placed f e
 placed-equal f e a b =
-    (eq_by_cmp_equiv place_cmp_total).symm (place_of f.table f.matching f.priority) (place_of e.table e.matching e.priority) ∙ places-equal e.table f.table e.matching f.matching e.priority f.priority b a
+    (eq_by_cmp_equiv place_cmp_total).symm (place_of f.table f.matching f.priority) (place_of e.table e.matching e.priority)
+    ∙ places-equal e.table f.table e.matching f.matching e.priority f.priority b a

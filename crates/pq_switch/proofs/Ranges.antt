@@ -24,11 +24,14 @@ module _ (n : ℕ) (p : Pattern) where
   abbrev pub lies : Place → Bool
   lies q = range_contains place_cmp (Included (place_at n p 0)) (Excluded (place_at n p 0x10001)) q
 
-  joined_by : (r s t : Ordering) → r ≡ Equal → s ≡ Equal → t ≡ Equal → (u : Ordering) → ordering_then r (ordering_then s (ordering_then Equal (ordering_then t u))) ≡ u
+  joined_by : (r s t : Ordering) → r ≡ Equal → s ≡ Equal → t ≡ Equal → (u : Ordering)
+      → ordering_then r (ordering_then s (ordering_then Equal (ordering_then t u))) ≡ u
   joined_by r s t a b c u = λ i. ordering_then (a i) (ordering_then (b i) (ordering_then Equal (ordering_then (c i) u)))
 
   pub by_down : (a b : ℕ) → place_cmp (place_at n p a) (place_at n p b) ≡ nat_cmp a b
-  by_down a b = joined_by (block_cmp (block_at n p.in_port p.vlan) (block_at n p.in_port p.vlan)) (pattern_cmp (shape_of p) (shape_of p)) (pattern_cmp p p) (tied_itself block_total (block_at n p.in_port p.vlan)) (tied_itself pattern_total (shape_of p)) (tied_itself pattern_total p) (nat_cmp a b)
+  by_down a b = joined_by (block_cmp (block_at n p.in_port p.vlan) (block_at n p.in_port p.vlan)) (pattern_cmp (shape_of p) (shape_of p))
+      (pattern_cmp p p) (tied_itself block_total (block_at n p.in_port p.vlan)) (tied_itself pattern_total (shape_of p))
+      (tied_itself pattern_total p) (nat_cmp a b)
 
   less : (a b : ℕ) → a < b → nat_cmp a b ≡ Less
   less a b h = grind (arith, nat_tests)
@@ -56,13 +59,16 @@ module _ (next : ℕ) where
   in-values p t [] h = h
   in-values p t (e ∷ es) h = by (p e.0) h (in-values p t es)
     where
-      by : (b : Bool) → IsIn t (values_of (cond b (e ∷ filter (λ d. p d.0) es) (filter (λ d. p d.0) es))) → (IsIn t (values_of (filter (λ d. p d.0) es)) → IsIn t (values_of es)) → IsIn t (e.1 ∷ values_of es)
+      by : (b : Bool) → IsIn t (values_of (cond b (e ∷ filter (λ d. p d.0) es) (filter (λ d. p d.0) es)))
+          → (IsIn t (values_of (filter (λ d. p d.0) es)) → IsIn t (values_of es)) → IsIn t (e.1 ∷ values_of es)
       by true (inl is) more = inl is
       by true (inr i) more = inr (more i)
       by false i more = inr (more i)
 
   -- an entry that passes by its place is in the part of those that pass
-  pub in-part : (p : Place → Bool) (t : Slot) (es : List (Place × Slot)) → AllByRecursion (IsKept next) es → ((q : Place) → t.entry.priority < 0x10000 → place_cmp (place_in t.entry) q ≡ Equal → p q ≡ true) → IsIn t (values_of es) → IsIn t (values_of (filter (λ e. p e.0) es))
+  pub in-part : (p : Place → Bool) (t : Slot) (es : List (Place × Slot)) → AllByRecursion (IsKept next) es
+      → ((q : Place) → t.entry.priority < 0x10000 → place_cmp (place_in t.entry) q ≡ Equal → p q ≡ true) → IsIn t (values_of es)
+      → IsIn t (values_of (filter (λ e. p e.0) es))
   in-part p t [] all h i = i
   in-part p t (e ∷ es) (kept, all) h (inl is) =
       let passes = h e.0 (subst (λ s. s.entry.priority < 0x10000) (sym is) kept.priority) (ap (λ s. place_cmp (place_in s.entry) e.0) is ∙ kept.place) in
@@ -74,7 +80,8 @@ module _ (next : ℕ) where
       by false more = more
 
 -- one that states the pattern is in its range
-pub in_range : (next n : ℕ) (p : Pattern) (es : List (Place × Slot)) → AllByRecursion (IsKept next) es → (t : Slot) → IsIn t (values_of es) → t.entry.table ≡ n → pattern_of t.entry.matching ≡ p → IsIn t (range_of n p es)
+pub in_range : (next n : ℕ) (p : Pattern) (es : List (Place × Slot)) → AllByRecursion (IsKept next) es → (t : Slot) → IsIn t (values_of es)
+    → t.entry.table ≡ n → pattern_of t.entry.matching ≡ p → IsIn t (range_of n p es)
 in_range next n p es kept t i table pattern = in-part next (lies n p) t es kept (λ q small equal. here n p t.entry q table pattern small equal) i
 
 pub from_range : (n : ℕ) (p : Pattern) (es : List (Place × Slot)) (t : Slot) → IsIn t (range_of n p es) → IsIn t (values_of es)

@@ -30,16 +30,20 @@ module _ {K X : Type 0} where
   values-filter p [] = refl
   values-filter p (e ∷ es) = by (p e.1) (values-filter p es)
     where
-      by : (b : Bool) → values_of (filter (λ d. p d.1) es) ≡ filter p (values_of es) → values_of (cond b (e ∷ filter (λ d. p d.1) es) (filter (λ d. p d.1) es)) ≡ cond b (e.1 ∷ filter p (values_of es)) (filter p (values_of es))
+      by : (b : Bool) → values_of (filter (λ d. p d.1) es) ≡ filter p (values_of es)
+          → values_of (cond b (e ∷ filter (λ d. p d.1) es) (filter (λ d. p d.1) es)) ≡ cond b (e.1 ∷ filter p (values_of es))
+          (filter p (values_of es))
       by true more = ap (λ l. e.1 ∷ l) more
       by false more = more
 
   module _ (R : K → K → Ordering) (k : K) where
-    pub all-insert : (P : K × X → Type 0) (v : X) → P (k, v) → (es : List (K × X)) → AllByRecursion P es → ((q : K) → R k q ≡ Equal → P (q, v)) → AllByRecursion P (insert_entry R es k v)
+    pub all-insert : (P : K × X → Type 0) (v : X) → P (k, v) → (es : List (K × X)) → AllByRecursion P es
+        → ((q : K) → R k q ≡ Equal → P (q, v)) → AllByRecursion P (insert_entry R es k v)
     all-insert P v new [] all tied = (new, tt)
     all-insert P v new (e ∷ es) (here, all) tied = by (R k e.0) refl (all-insert P v new es all tied)
       where
-        by : (r : Ordering) → R k e.0 ≡ r → AllByRecursion P (insert_entry R es k v) → AllByRecursion P (match_ordering r ((k, v) ∷ e ∷ es) ((e.0, v) ∷ es) (e ∷ insert_entry R es k v))
+        by : (r : Ordering) → R k e.0 ≡ r → AllByRecursion P (insert_entry R es k v)
+            → AllByRecursion P (match_ordering r ((k, v) ∷ e ∷ es) ((e.0, v) ∷ es) (e ∷ insert_entry R es k v))
         by Less is more = (new, (here, all))
         by Equal is more = (tied e.0 is, all)
         by Greater is more = (here, more)
@@ -53,11 +57,14 @@ module _ {K X : Type 0} where
       none-stay [] tells none = refl
       none-stay (e ∷ es) (here, tells) none = by (is_eq (R k e.0)) here none (none-stay es tells)
         where
-          by : (b : Bool) → p e.1 ≡ not b → cond b (Some e.1) (lookup (is_at (R k)) es) ≡ None → (lookup (is_at (R k)) es ≡ None → filter p (values_of es) ≡ values_of es) → cond (p e.1) (e.1 ∷ filter p (values_of es)) (filter p (values_of es)) ≡ e.1 ∷ values_of es
+          by : (b : Bool) → p e.1 ≡ not b → cond b (Some e.1) (lookup (is_at (R k)) es) ≡ None
+              → (lookup (is_at (R k)) es ≡ None → filter p (values_of es) ≡ values_of es)
+              → cond (p e.1) (e.1 ∷ filter p (values_of es)) (filter p (values_of es)) ≡ e.1 ∷ values_of es
           by true h none more = some_is_no_none e.1 none
           by false h none more = ap (λ b. cond b (e.1 ∷ filter p (values_of es)) (filter p (values_of es))) h ∙ ap (λ l. e.1 ∷ l) (more none)
 
-      pub removed : (es : List (K × X)) → Tells p es → lookup (is_at (R k)) (remove_entry (is_at (R k)) es) ≡ None → values_of (remove_entry (is_at (R k)) es) ≡ filter p (values_of es)
+      pub removed : (es : List (K × X)) → Tells p es → lookup (is_at (R k)) (remove_entry (is_at (R k)) es) ≡ None
+          → values_of (remove_entry (is_at (R k)) es) ≡ filter p (values_of es)
       removed [] tells none = refl
       removed (e ∷ es) (here, tells) none = by (is_eq (R k e.0)) refl none (removed es tells)
         where
@@ -72,7 +79,8 @@ module _ {K X : Type 0} where
       later_stay : (es : List (K × X)) → Tells p es → AllByRecursion (λ q. R k q ≡ Less) (keys_of es) → filter p (values_of es) ≡ values_of es
       later_stay [] tells later = refl
       later_stay (e ∷ es) (here, tells) (less, later) =
-          ap (λ b. cond b (e.1 ∷ filter p (values_of es)) (filter p (values_of es))) (here ∙ ap (λ r. not (is_eq r)) less) ∙ ap (λ l. e.1 ∷ l) (later_stay es tells later)
+          ap (λ b. cond b (e.1 ∷ filter p (values_of es)) (filter p (values_of es))) (here ∙ ap (λ r. not (is_eq r)) less)
+          ∙ ap (λ l. e.1 ∷ l) (later_stay es tells later)
 
       -- where a value goes in
       pub record Parts (es new : List (K × X)) (v : X) : Type 0 where
@@ -90,7 +98,8 @@ module _ {K X : Type 0} where
       parts o v [] tells sorted = record { front = []; back = []; is = refl; rest = refl }
       parts o v (e ∷ es) (here, tells) (later, sorted) = by (R k e.0) refl (parts o v es tells sorted)
         where
-          by : (r : Ordering) → R k e.0 ≡ r → Parts es (insert_entry R es k v) v → Parts (e ∷ es) (match_ordering r ((k, v) ∷ e ∷ es) ((e.0, v) ∷ es) (e ∷ insert_entry R es k v)) v
+          by : (r : Ordering) → R k e.0 ≡ r → Parts es (insert_entry R es k v) v
+              → Parts (e ∷ es) (match_ordering r ((k, v) ∷ e ∷ es) ((e.0, v) ∷ es) (e ∷ insert_entry R es k v)) v
           by Less is more = record {
             front = [];
             back = e.1 ∷ values_of es;
@@ -114,6 +123,7 @@ module _ {K X : Type 0} where
 
 -- what `retain` leaves, where the closure only tests and stays as it is
 pub retained : {F K X : Type 0} (T : F → K → X → Bool → X → F → Type 0) (p : K × X → Bool) (f : F) →
-    ((k : K) (v : X) (b : Bool) (w : X) (g : F) → T f k v b w g → (b ≡ p (k, v)) × (w ≡ v) × (g ≡ f)) → (es kept : List (K × X)) → RetainsPairs T f es kept → kept ≡ filter p es
+    ((k : K) (v : X) (b : Bool) (w : X) (g : F) → T f k v b w g → (b ≡ p (k, v)) × (w ≡ v) × (g ≡ f)) → (es kept : List (K × X))
+    → RetainsPairs T f es kept → kept ≡ filter p es
 retained T p f h es kept r =
     filter_from_retain_pairs T (λ g. g ≡ f) p (λ g k v b w g' i t. h k v b w g' (subst (λ e. T e k v b w g') i t)) f es kept refl r

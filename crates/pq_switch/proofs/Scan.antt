@@ -1,5 +1,6 @@
 -- The shapes of a table are found one after another, and the best of all covering entries with them.
-use Rattle.std.proofs.Common.{◌≡◌, ◌⊎◌, ℕ, ◌+◌, ◌-◌, ◌<◌, ◌≤◌, Bool, true, false, cond, if◌then◌else◌, ◌==◌, ◌&&◌, List, [], ◌∷◌, ◌++◌, length, refl, sym, ap, subst, ◌∙◌, arith, inl, inr}
+use Rattle.std.proofs.Common.{◌≡◌, ◌⊎◌, ℕ, ◌+◌, ◌-◌, ◌<◌, ◌≤◌, Bool, true, false, cond, if◌then◌else◌, ◌==◌, ◌&&◌, List, [], ◌∷◌, ◌++◌}
+use Rattle.std.proofs.Common.{length, refl, sym, ap, subst, ◌∙◌, arith, inl, inr}
 use Rattle.std.proofs.lemmas.Bool.{true≢false}
 use Rattle.std.proofs.lemmas.Bool.Decides.{nat_tests}
 use Rattle.std.specs.declared.cmp.Ordering.{Ordering}
@@ -91,11 +92,15 @@ between b c h k = by (block_cmp b c) refl h
 -- nothing behind a shape reaches back to it
 past-later : (q : Place) → q.behind ≡ false → is_le (place_cmp (past q) q) ≡ false
 past-later q real =
-    (λ i. is_le (ordering_then (tied_itself block_total q.block i) (ordering_then (tied_itself pattern_total q.shape i) (ordering_then (bool_cmp true (real i)) (ordering_then (pattern_cmp q.pattern q.pattern) (nat_cmp q.down q.down))))))
+    (λ i. is_le (ordering_then (tied_itself block_total q.block i)
+    (ordering_then (tied_itself pattern_total q.shape i)
+    (ordering_then (bool_cmp true (real i)) (ordering_then (pattern_cmp q.pattern q.pattern) (nat_cmp q.down q.down))))))
 
 past-first : (q : Place) → q.behind ≡ false → is_le (place_cmp q (past q)) ≡ true
 past-first q real =
-    (λ i. is_le (ordering_then (tied_itself block_total q.block i) (ordering_then (tied_itself pattern_total q.shape i) (ordering_then (bool_cmp (real i) true) (ordering_then (pattern_cmp q.pattern q.pattern) (nat_cmp q.down q.down))))))
+    (λ i. is_le (ordering_then (tied_itself block_total q.block i)
+    (ordering_then (tied_itself pattern_total q.shape i)
+    (ordering_then (bool_cmp (real i) true) (ordering_then (pattern_cmp q.pattern q.pattern) (nat_cmp q.down q.down))))))
 
 -- How many entries are left.
 
@@ -108,25 +113,31 @@ module _ (from onto : Place) (further : (q : Place) → is_le (place_cmp onto q)
   no_more_left (d ∷ es) = by (is_le (place_cmp from d.0)) refl (is_le (place_cmp onto d.0)) refl (no_more_left es)
     where
       by : (b : Bool) → is_le (place_cmp from d.0) ≡ b → (c : Bool) → is_le (place_cmp onto d.0) ≡ c → left onto es ≤ left from es →
-          length (cond c (d ∷ filter (λ e. is_le (place_cmp onto e.0)) es) (filter (λ e. is_le (place_cmp onto e.0)) es)) ≤ length (cond b (d ∷ filter (λ e. is_le (place_cmp from e.0)) es) (filter (λ e. is_le (place_cmp from e.0)) es))
+          length (cond c (d ∷ filter (λ e. is_le (place_cmp onto e.0)) es) (filter (λ e. is_le (place_cmp onto e.0)) es)) ≤ length
+          (cond b (d ∷ filter (λ e. is_le (place_cmp from e.0)) es) (filter (λ e. is_le (place_cmp from e.0)) es))
       by true e true f more = omega (arith, more)
       by true e false f more = omega (arith, more)
       by false e true f more = absurd (true≢false (sym (further d.0 f) ∙ e))
       by false e false f more = more
 
-  pub fewer_left : (es : List (Place × Slot)) (r : Place × Slot) → IsIn r es → is_le (place_cmp from r.0) ≡ true → is_le (place_cmp onto r.0) ≡ false → left onto es < left from es
+  pub fewer_left : (es : List (Place × Slot)) (r : Place × Slot) → IsIn r es → is_le (place_cmp from r.0) ≡ true
+      → is_le (place_cmp onto r.0) ≡ false → left onto es < left from es
   fewer_left [] r i reach gone = absurd i
   fewer_left (d ∷ es) r (inl same) reach gone =
       let all = no_more_left es in
       let a : is_le (place_cmp from d.0) ≡ true = ap (λ (e : Place × Slot). is_le (place_cmp from e.0)) (sym same) ∙ reach in
       let b : is_le (place_cmp onto d.0) ≡ false = ap (λ (e : Place × Slot). is_le (place_cmp onto e.0)) (sym same) ∙ gone in
-      let one : left from (d ∷ es) ≡ left from es + 1 = ap (λ c. length (cond c (d ∷ filter (λ e. is_le (place_cmp from e.0)) es) (filter (λ e. is_le (place_cmp from e.0)) es))) a ∙ (omega arith) in
-      let none : left onto (d ∷ es) ≡ left onto es = ap (λ c. length (cond c (d ∷ filter (λ e. is_le (place_cmp onto e.0)) es) (filter (λ e. is_le (place_cmp onto e.0)) es))) b in
+      let one : left from (d ∷ es) ≡ left from es + 1 =
+      ap (λ c. length (cond c (d ∷ filter (λ e. is_le (place_cmp from e.0)) es) (filter (λ e. is_le (place_cmp from e.0)) es))) a
+      ∙ (omega arith) in
+      let none : left onto (d ∷ es) ≡ left onto es =
+      ap (λ c. length (cond c (d ∷ filter (λ e. is_le (place_cmp onto e.0)) es) (filter (λ e. is_le (place_cmp onto e.0)) es))) b in
       omega (arith, all, one, none)
   fewer_left (d ∷ es) r (inr i) reach gone = by (is_le (place_cmp from d.0)) refl (is_le (place_cmp onto d.0)) refl (fewer_left es r i reach gone)
     where
       by : (b : Bool) → is_le (place_cmp from d.0) ≡ b → (c : Bool) → is_le (place_cmp onto d.0) ≡ c → left onto es < left from es →
-          length (cond c (d ∷ filter (λ e. is_le (place_cmp onto e.0)) es) (filter (λ e. is_le (place_cmp onto e.0)) es)) < length (cond b (d ∷ filter (λ e. is_le (place_cmp from e.0)) es) (filter (λ e. is_le (place_cmp from e.0)) es))
+          length (cond c (d ∷ filter (λ e. is_le (place_cmp onto e.0)) es) (filter (λ e. is_le (place_cmp onto e.0)) es)) < length
+          (cond b (d ∷ filter (λ e. is_le (place_cmp from e.0)) es) (filter (λ e. is_le (place_cmp from e.0)) es))
       by true e true f more = omega (arith, more)
       by true e false f more = omega (arith, more)
       by false e true f more = absurd (true≢false (sym (further d.0 f) ∙ e))
@@ -199,8 +210,10 @@ module _ (n : ℕ) (x : TaggedPacket) (es : List (Place × Slot)) (start : List 
         by false here c more = tt
 
     -- a few, one after another
-    scans : (k : ℕ) (rest : List (Place × Slot)) → IsStrictlySortedBy place_cmp (keys_of rest) → ((e : Place × Slot) → IsIn e rest → IsIn e es) → ((e : Place × Slot) → IsIn e rest → is_le (block_cmp b e.0.block) ≡ true) →
-        (some : List Slot) (best : Option Slot) → IsBest n x some best → ((t : Slot) → IsIn t some → IsIn t (values_of es)) → ((t : Slot) → IsIn t start → IsIn t some) →
+    scans : (k : ℕ) (rest : List (Place × Slot)) → IsStrictlySortedBy place_cmp (keys_of rest)
+        → ((e : Place × Slot) → IsIn e rest → IsIn e es) → ((e : Place × Slot) → IsIn e rest → is_le (block_cmp b e.0.block) ≡ true) →
+        (some : List Slot) (best : Option Slot) → IsBest n x some best → ((t : Slot) → IsIn t some → IsIn t (values_of es))
+        → ((t : Slot) → IsIn t start → IsIn t some) →
         ((e : Place × Slot) → IsIn e es → e.0.block ≡ b → counts n x e.1 ≡ true → IsIn e.1 some ⊎ IsIn e rest) → IsScanned rest (best_of_few k b n x rest best)
     unfolding IsStrictlySortedBy
     scans k [] sorted sub above some best is_best inside has cover = record {
@@ -211,11 +224,15 @@ module _ (n : ℕ) (x : TaggedPacket) (es : List (Place × Slot)) (start : List 
       all = λ e i block c. elim (cover e i block c) [ inl j ↦ inl j | inr none ↦ absurd none ];
     }
     scans k (d ∷ rest) (later, sorted) sub above some best is_best inside has cover =
-        by (is_eq (block_cmp d.0.block b)) refl (k == 0) refl (scans (k - 1) rest sorted (λ e i. sub e (inr i)) (λ e i. above e (inr i)) (some ++ d.1 ∷ []) (preferred n x d.1 best)
+        by (is_eq (block_cmp d.0.block b)) refl (k == 0) refl
+        (scans (k - 1) rest sorted (λ e i. sub e (inr i)) (λ e i. above e (inr i)) (some ++ d.1 ∷ []) (preferred n x d.1 best)
         (best-all n x some (d.1 ∷ []) best is_best) within (λ t i. in-left t some (d.1 ∷ []) (has t i)) covered_more)
       where
         within : (t : Slot) → IsIn t (some ++ d.1 ∷ []) → IsIn t (values_of es)
-        within t i = elim (in-either t some (d.1 ∷ []) i) [ inl j ↦ inside t j | inr j ↦ elim j [ inl same ↦ subst (λ s. IsIn s (values_of es)) (sym same) (value-in d es (sub d (inl refl))) | inr none ↦ absurd none ] ]
+        within t i = elim (in-either t some (d.1 ∷ []) i) [
+          | inl j ↦ inside t j
+          | inr j ↦ elim j [ inl same ↦ subst (λ s. IsIn s (values_of es)) (sym same) (value-in d es (sub d (inl refl))) | inr none ↦ absurd none ]
+        ]
 
         covered_more : (e : Place × Slot) → IsIn e es → e.0.block ≡ b → counts n x e.1 ≡ true → IsIn e.1 (some ++ d.1 ∷ []) ⊎ IsIn e rest
         covered_more e i block c = elim (cover e i block c) [
@@ -227,7 +244,8 @@ module _ (n : ℕ) (x : TaggedPacket) (es : List (Place × Slot)) (start : List 
         from_here e (inl same) = ap (λ (r : Place × Slot). is_le (place_cmp d.0 r.0)) same ∙ le-Equal _ (tied_itself place_cmp_total d.0)
         from_here e (inr j) = le-Less _ (all-in (λ z. place_cmp d.0 z ≡ Less) e.0 (keys_of rest) later (key-in e rest j))
 
-        by : (h : Bool) → is_eq (block_cmp d.0.block b) ≡ h → (c : Bool) → (k == 0) ≡ c → IsScanned rest (best_of_few (k - 1) b n x rest (preferred n x d.1 best)) →
+        by : (h : Bool) → is_eq (block_cmp d.0.block b) ≡ h → (c : Bool) → (k == 0) ≡ c
+            → IsScanned rest (best_of_few (k - 1) b n x rest (preferred n x d.1 best)) →
             IsScanned (d ∷ rest) (if h then (if c then (best, Some d.0) else best_of_few (k - 1) b n x rest (preferred n x d.1 best)) else (best, None))
         by true here true last more = record {
           some = some;
@@ -271,7 +289,9 @@ module _ (n : ℕ) (x : TaggedPacket) (es : List (Place × Slot)) (start : List 
     out-onward from e [] i = absurd i
     out-onward from e (d ∷ ds) i = by (is_le (place_cmp from d.0)) refl i (out-onward from e ds)
       where
-        by : (b : Bool) → is_le (place_cmp from d.0) ≡ b → IsIn e (cond (b && true) (d ∷ onward from ds) (onward from ds)) → (IsIn e (onward from ds) → IsIn e ds × (is_le (place_cmp from e.0) ≡ true)) → IsIn e (d ∷ ds) × (is_le (place_cmp from e.0) ≡ true)
+        by : (b : Bool) → is_le (place_cmp from d.0) ≡ b → IsIn e (cond (b && true) (d ∷ onward from ds) (onward from ds))
+            → (IsIn e (onward from ds) → IsIn e ds × (is_le (place_cmp from e.0) ≡ true))
+            → IsIn e (d ∷ ds) × (is_le (place_cmp from e.0) ≡ true)
         by true is (inl same) more = (inl same, ap (λ (r : Place × Slot). is_le (place_cmp from r.0)) same ∙ is)
         by true is (inr i) more = let m = more i in (inr m.0, m.1)
         by false is i more = let m = more i in (inr m.0, m.1)
@@ -284,17 +304,20 @@ module _ (n : ℕ) (x : TaggedPacket) (es : List (Place × Slot)) (start : List 
         by true more = (here, more)
         by false more = more
 
-    sorted-onward : (from : Place) (ds : List (Place × Slot)) → IsStrictlySortedBy place_cmp (keys_of ds) → IsStrictlySortedBy place_cmp (keys_of (onward from ds))
+    sorted-onward : (from : Place) (ds : List (Place × Slot)) → IsStrictlySortedBy place_cmp (keys_of ds)
+        → IsStrictlySortedBy place_cmp (keys_of (onward from ds))
     unfolding IsStrictlySortedBy
     sorted-onward from [] sorted = tt
     sorted-onward from (d ∷ ds) (later, sorted) = by (is_le (place_cmp from d.0)) (sorted-onward from ds sorted)
       where
-        by : (b : Bool) → IsStrictlySortedBy place_cmp (keys_of (onward from ds)) → IsStrictlySortedBy place_cmp (keys_of (cond (b && true) (d ∷ onward from ds) (onward from ds)))
+        by : (b : Bool) → IsStrictlySortedBy place_cmp (keys_of (onward from ds))
+            → IsStrictlySortedBy place_cmp (keys_of (cond (b && true) (d ∷ onward from ds) (onward from ds)))
         by true more = (keys-onward (λ z. place_cmp d.0 z ≡ Less) from ds later, more)
         by false more = more
 
     -- where a few end before the block does
-    module _ (from : Place) (best : Option Slot) (k : ℕ) (found : Option Slot) (q : Place) (is : best_of_few k b n x (onward from es) best ≡ (found, Some q)) where
+    module _ (from : Place) (best : Option Slot) (k : ℕ) (found : Option Slot) (q : Place) (is : best_of_few k b n x (onward from es) best
+        ≡ (found, Some q)) where
       at : Stands (Some q) (onward from es)
       at = subst (λ r. Stands r.1 (onward from es)) is (stands k (onward from es) best)
 
@@ -320,14 +343,18 @@ module _ (n : ℕ) (x : TaggedPacket) (es : List (Place × Slot)) (start : List 
         let two = squeezed (pattern_cmp q.shape p.shape) _ _ one.from one.past in
         pattern-exact q.shape p.shape two.equal
 
-    module _ (sorted : IsStrictlySortedBy place_cmp (keys_of es)) (from : Place) (block : from.block ≡ b) (best : Option Slot) (so_far : IsBestBefore from best) (k : ℕ) (found : Option Slot) where
+    module _ (sorted : IsStrictlySortedBy place_cmp (keys_of es)) (from : Place) (block : from.block ≡ b) (best : Option Slot)
+        (so_far : IsBestBefore from best) (k : ℕ) (found : Option Slot) where
       scanned : IsScanned (onward from es) (best_of_few k b n x (onward from es) best)
-      scanned = scans k (onward from es) (sorted-onward from es sorted) (λ e i. (out-onward from e es i).0) (λ e i. above e i) so_far.some best so_far.is_best so_far.inside so_far.has (λ e i same c. cover e i same c (is_le (place_cmp from e.0)) refl)
+      scanned = scans k (onward from es) (sorted-onward from es sorted) (λ e i. (out-onward from e es i).0)
+          (λ e i. above e i) so_far.some best so_far.is_best so_far.inside so_far.has
+          (λ e i same c. cover e i same c (is_le (place_cmp from e.0)) refl)
         where
           above : (e : Place × Slot) → IsIn e (onward from es) → is_le (block_cmp b e.0.block) ≡ true
           above e i = ap (λ z. is_le (block_cmp z e.0.block)) (sym block) ∙ block_le from e.0 (out-onward from e es i).1
 
-          cover : (e : Place × Slot) → IsIn e es → e.0.block ≡ b → counts n x e.1 ≡ true → (h : Bool) → is_le (place_cmp from e.0) ≡ h → IsIn e.1 so_far.some ⊎ IsIn e (onward from es)
+          cover : (e : Place × Slot) → IsIn e es → e.0.block ≡ b → counts n x e.1 ≡ true → (h : Bool) → is_le (place_cmp from e.0) ≡ h
+              → IsIn e.1 so_far.some ⊎ IsIn e (onward from es)
           cover e i same c true is = inr (in-onward from e es i is)
           cover e i same c false is = inl (so_far.all e i same is c)
 
@@ -342,7 +369,8 @@ module _ (n : ℕ) (x : TaggedPacket) (es : List (Place × Slot)) (start : List 
             all = λ e i same c. elim (done.all e i same c) [ inl j ↦ j | inr none ↦ absurd none ];
           }
 
-      pub goes_on : (q : Place) → best_of_few k b n x (onward from es) best ≡ (found, Some q) → IsBestBefore (past q) (best_of n x (range_of n (projected q.shape x) es) found)
+      pub goes_on : (q : Place) → best_of_few k b n x (onward from es) best ≡ (found, Some q)
+          → IsBestBefore (past q) (best_of n x (range_of n (projected q.shape x) es) found)
       goes_on q is = record {
         some = done.some ++ more;
         is_best = best-all n x done.some more found done.is_best;
@@ -357,12 +385,15 @@ module _ (n : ℕ) (x : TaggedPacket) (es : List (Place × Slot)) (start : List 
           more : List Slot
           more = range_of n (projected q.shape x) es
 
-          by : (e : Place × Slot) → IsIn e es → is_le (place_cmp (past q) e.0) ≡ false → counts n x e.1 ≡ true → IsIn e.1 done.some ⊎ (is_le (place_cmp q e.0) ≡ true) → IsIn e.1 (done.some ++ more)
+          by : (e : Place × Slot) → IsIn e es → is_le (place_cmp (past q) e.0) ≡ false → counts n x e.1 ≡ true
+              → IsIn e.1 done.some ⊎ (is_le (place_cmp q e.0) ≡ true) → IsIn e.1 (done.some ++ more)
           by e i before c (inl j) = in-left e.1 done.some more j
           by e i before c (inr reach) =
               let p = pattern_of e.1.entry.matching in
               let shape : q.shape ≡ shape_of p = shape-of q e.0 reach before ∙ ap (λ (r : Place). r.shape) (sym (placed e i)) in
-              let states : p ≡ projected q.shape x = covered e.1.entry.matching x (second_so (e.1.entry.table == n) (covers e.1.entry.matching x) c) ∙ sym (shape-decides p x) ∙ ap (λ s. projected s x) (sym shape) in
+              let states : p ≡ projected q.shape x =
+              covered e.1.entry.matching x (second_so (e.1.entry.table == n) (covers e.1.entry.matching x) c) ∙ sym (shape-decides p x)
+              ∙ ap (λ s. projected s x) (sym shape) in
               in-right e.1 done.some more (in_range next n (projected q.shape x) es kept.each e.1 (value-in e es i) (table-of e.1 c) states)
 
 -- The four blocks.
@@ -379,9 +410,12 @@ module _ (n : ℕ) (x : TaggedPacket) (es : List (Place × Slot)) (next : ℕ) (
   stated (Some v) k h = inr h
 
   -- the best with the entries of four blocks is the best of all
-  pub best_of_blocks : (one two three four : Option Slot) → IsBestWith n x es (block_at n port word) None one → IsBestWith n x es (block_at n port None) one two →
-      IsBestWith n x es (block_at n None word) two three → IsBestWith n x es (block_at n None None) three four → option_map (λ s. s.entry) four ≡ taken (entries_of (in_turn (values_of es))) n x
-  best_of_blocks one two three four f g h k = sym (best-is_taken n x (values_of es) kept.climb four (best-among n x d.some (values_of es) four d.inside found d.is_best))
+  pub best_of_blocks : (one two three four : Option Slot) → IsBestWith n x es (block_at n port word) None one
+      → IsBestWith n x es (block_at n port None) one two →
+      IsBestWith n x es (block_at n None word) two three → IsBestWith n x es (block_at n None None) three four
+      → option_map (λ s. s.entry) four ≡ taken (entries_of (in_turn (values_of es))) n x
+  best_of_blocks one two three four f g h k =
+      sym (best-is_taken n x (values_of es) kept.climb four (best-among n x d.some (values_of es) four d.inside found d.is_best))
     where
       a : IsBestOfMore n x es [] (block_at n port word) one
       a = f [] (λ t i. absurd i) (λ t i. absurd i)
@@ -395,8 +429,11 @@ module _ (n : ℕ) (x : TaggedPacket) (es : List (Place × Slot)) (next : ℕ) (
       d : IsBestOfMore n x es c.some (block_at n None None) four
       d = k c.some c.inside c.is_best
 
-      block_of : (e : Place × Slot) → IsIn e es → (p v : Option ℕ) → e.1.entry.table ≡ n → e.1.entry.matching.in_port ≡ p → e.1.entry.matching.vlan ≡ v → e.0.block ≡ block_at n p v
-      block_of e i p v table port_is vlan_is = ap (λ (q : Place). q.block) (sym (place-exact (place_in e.1.entry) e.0 (all-in (IsKept next) e es kept.each i).place)) ∙ (λ j. block_at (table j) (port_is j) (vlan_is j))
+      block_of : (e : Place × Slot) → IsIn e es → (p v : Option ℕ) → e.1.entry.table ≡ n → e.1.entry.matching.in_port ≡ p
+          → e.1.entry.matching.vlan ≡ v → e.0.block ≡ block_at n p v
+      block_of e i p v table port_is vlan_is =
+          ap (λ (q : Place). q.block) (sym (place-exact (place_in e.1.entry) e.0 (all-in (IsKept next) e es kept.each i).place))
+          ∙ (λ j. block_at (table j) (port_is j) (vlan_is j))
 
       found : (t : Slot) → IsIn t (values_of es) → counts n x t ≡ true → IsIn t d.some
       found t i counted =

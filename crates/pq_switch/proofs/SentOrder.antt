@@ -20,17 +20,21 @@ append-choice : {A : Type 0} (b : Bool) (xs ys zs : List A) → (if b then xs ++
 append-choice true xs ys zs = refl
 append-choice false xs ys zs = refl
 
-put-controller : (x : TaggedPacket) (ys : List TaggedPacket) → put_by sent_numbers (Controller x) (map Controller ys) ≡ map Controller (put_by tagged_numbers x ys)
+put-controller : (x : TaggedPacket) (ys : List TaggedPacket)
+    → put_by sent_numbers (Controller x) (map Controller ys) ≡ map Controller (put_by tagged_numbers x ys)
 put-controller x [] = refl
 put-controller x (y ∷ ys) =
-    ap (λ l. if is_before (tagged_numbers y) (tagged_numbers x) then Controller y ∷ l else Controller x ∷ Controller y ∷ map Controller ys) (put-controller x ys)
+    ap (λ l. if is_before (tagged_numbers y) (tagged_numbers x) then Controller y ∷ l else Controller x ∷ Controller y ∷ map Controller ys)
+    (put-controller x ys)
     ∙ sym (map-choice Controller (is_before (tagged_numbers y) (tagged_numbers x)) (y ∷ put_by tagged_numbers x ys) (x ∷ y ∷ ys))
 
-put-past : (x : TaggedPacket) (ports : List TaggedPacket) (rest : List Sent) → put_by sent_numbers (Controller x) (map Port ports ++ rest) ≡ map Port ports ++ put_by sent_numbers (Controller x) rest
+put-past : (x : TaggedPacket) (ports : List TaggedPacket) (rest : List Sent)
+    → put_by sent_numbers (Controller x) (map Port ports ++ rest) ≡ map Port ports ++ put_by sent_numbers (Controller x) rest
 put-past x [] rest = refl
 put-past x (y ∷ ports) rest = ap (λ l. Port y ∷ l) (put-past x ports rest)
 
-put-port : (x : TaggedPacket) (ports others : List TaggedPacket) → put_by sent_numbers (Port x) (map Port ports ++ map Controller others) ≡ map Port (put_by tagged_numbers x ports) ++ map Controller others
+put-port : (x : TaggedPacket) (ports others : List TaggedPacket) → put_by sent_numbers (Port x) (map Port ports ++ map Controller others)
+    ≡ map Port (put_by tagged_numbers x ports) ++ map Controller others
 put-port x [] [] = refl
 put-port x [] (y ∷ others) = refl
 put-port x (y ∷ ports) others =
@@ -42,14 +46,17 @@ put-port x (y ∷ ports) others =
 
 pub sorted_in_order : (sent : List Sent) → sort_by sent_numbers sent ≡ in_order sent
 sorted_in_order [] = refl
-sorted_in_order (Port x ∷ sent) = ap (put_by sent_numbers (Port x)) (sorted_in_order sent) ∙ put-port x (sort_by tagged_numbers (to_ports sent)) (sort_by tagged_numbers (to_controller sent))
+sorted_in_order (Port x ∷ sent) = ap (put_by sent_numbers (Port x)) (sorted_in_order sent)
+    ∙ put-port x (sort_by tagged_numbers (to_ports sent)) (sort_by tagged_numbers (to_controller sent))
 sorted_in_order (Controller x ∷ sent) =
     let ports = sort_by tagged_numbers (to_ports sent) in
     let others = sort_by tagged_numbers (to_controller sent) in
-    ap (put_by sent_numbers (Controller x)) (sorted_in_order sent) ∙ put-past x ports (map Controller others) ∙ ap (λ l. map Port ports ++ l) (put-controller x others)
+    ap (put_by sent_numbers (Controller x)) (sorted_in_order sent) ∙ put-past x ports (map Controller others)
+    ∙ ap (λ l. map Port ports ++ l) (put-controller x others)
 
 -- equal numbers before the last leave the decision to the last
-pub last-decides : (xs ys : List ℕ) (a b : ℕ) → length xs ≡ length ys → slice_cmp nat_cmp (xs ++ a ∷ []) (ys ++ b ∷ []) ≡ ordering_then (slice_cmp nat_cmp xs ys) (nat_cmp a b)
+pub last-decides : (xs ys : List ℕ) (a b : ℕ) → length xs ≡ length ys
+    → slice_cmp nat_cmp (xs ++ a ∷ []) (ys ++ b ∷ []) ≡ ordering_then (slice_cmp nat_cmp xs ys) (nat_cmp a b)
 last-decides [] [] a b e = whole (nat_cmp a b)
   where
     whole : (r : Ordering) → ordering_then r Equal ≡ r
@@ -58,7 +65,8 @@ last-decides [] [] a b e = whole (nat_cmp a b)
     whole Greater = refl
 last-decides [] (y ∷ ys) a b e = absurd (omega arith)
 last-decides (x ∷ xs) [] a b e = absurd (omega arith)
-last-decides (x ∷ xs) (y ∷ ys) a b e = ap (ordering_then (nat_cmp x y)) (last-decides xs ys a b (omega arith)) ∙ joined (nat_cmp x y) (slice_cmp nat_cmp xs ys) (nat_cmp a b)
+last-decides (x ∷ xs) (y ∷ ys) a b e = ap (ordering_then (nat_cmp x y)) (last-decides xs ys a b (omega arith))
+    ∙ joined (nat_cmp x y) (slice_cmp nat_cmp xs ys) (nat_cmp a b)
   where
     joined : (r s t : Ordering) → ordering_then r (ordering_then s t) ≡ ordering_then (ordering_then r s) t
     joined Less s t = refl

@@ -15,12 +15,15 @@ module _ {A : Type 0} (key : A → List ℕ) where
   put-first x [] all = refl
   put-first x (y ∷ ys) (here, all) = ap (λ b. if b then y ∷ put_by key x ys else x ∷ y ∷ ys) here
 
-  filter-put : (p : A → Bool) (x : A) (ys : List A) → Rises below (order key) ys → filter p (put_by key x ys) ≡ cond (p x) (put_by key x (filter p ys)) (filter p ys)
+  filter-put : (p : A → Bool) (x : A) (ys : List A) → Rises below (order key) ys
+      → filter p (put_by key x ys) ≡ cond (p x) (put_by key x (filter p ys)) (filter p ys)
   filter-put p x [] r = refl
-  filter-put p x (y ∷ ys) (above, r) = filter-choice key p (below y x) (y ∷ put_by key x ys) (x ∷ y ∷ ys) ∙ by (below y x) refl (p x) (p y) (filter-put p x ys r)
+  filter-put p x (y ∷ ys) (above, r) = filter-choice key p (below y x) (y ∷ put_by key x ys) (x ∷ y ∷ ys)
+      ∙ by (below y x) refl (p x) (p y) (filter-put p x ys r)
     where
       by : (b : Bool) → below y x ≡ b → (c d : Bool) → filter p (put_by key x ys) ≡ cond c (put_by key x (filter p ys)) (filter p ys) →
-          cond b (cond d (y ∷ filter p (put_by key x ys)) (filter p (put_by key x ys))) (cond c (x ∷ cond d (y ∷ filter p ys) (filter p ys)) (cond d (y ∷ filter p ys) (filter p ys)))
+          cond b (cond d (y ∷ filter p (put_by key x ys)) (filter p (put_by key x ys)))
+          (cond c (x ∷ cond d (y ∷ filter p ys) (filter p ys)) (cond d (y ∷ filter p ys) (filter p ys)))
           ≡ cond c (put_by key x (cond d (y ∷ filter p ys) (filter p ys))) (cond d (y ∷ filter p ys) (filter p ys))
       by true e true true more = ap (λ l. y ∷ l) more ∙ sym (ap (λ b. if b then y ∷ put_by key x (filter p ys) else x ∷ y ∷ filter p ys) e)
       by true e true false more = more
@@ -34,7 +37,9 @@ module _ {A : Type 0} (key : A → List ℕ) where
   sort-filter p [] = refl
   sort-filter p (x ∷ xs) = by (p x) (sort-filter p xs) ∙ sym (filter-put p x (sort_by key xs) (sort-rises key xs))
     where
-      by : (b : Bool) → sort_by key (filter p xs) ≡ filter p (sort_by key xs) → sort_by key (cond b (x ∷ filter p xs) (filter p xs)) ≡ cond b (put_by key x (filter p (sort_by key xs))) (filter p (sort_by key xs))
+      by : (b : Bool) → sort_by key (filter p xs) ≡ filter p (sort_by key xs)
+          → sort_by key (cond b (x ∷ filter p xs) (filter p xs)) ≡ cond b (put_by key x (filter p (sort_by key xs)))
+          (filter p (sort_by key xs))
       by true more = ap (put_by key x) more
       by false more = more
 
@@ -55,7 +60,8 @@ module _ {A : Type 0} (key : A → List ℕ) where
   sort-all P (x ∷ xs) (here, all) = put-all key P x (sort_by key xs) here (sort-all P xs all)
 
   -- the greatest of a list stands last, wherever it stood
-  pub sort-greatest : (front : List A) (x : A) (back : List A) → AllByRecursion (λ y. below y x ≡ true) (front ++ back) → sort_by key (front ++ x ∷ back) ≡ sort_by key (front ++ back) ++ x ∷ []
+  pub sort-greatest : (front : List A) (x : A) (back : List A) → AllByRecursion (λ y. below y x ≡ true) (front ++ back)
+      → sort_by key (front ++ x ∷ back) ≡ sort_by key (front ++ back) ++ x ∷ []
   sort-greatest [] x back all = put-last x (sort_by key back) (sort-all (λ y. below y x ≡ true) back all)
   sort-greatest (y ∷ front) x back (here, all) =
       ap (put_by key y) (sort-greatest front x back all) ∙ put-before y x (sort_by key (front ++ back)) ((order key).one_way y x here)

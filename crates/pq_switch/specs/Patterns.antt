@@ -9,7 +9,24 @@ use Rattle.pq_switch.specs.declared.pattern.Pattern.{Pattern}
 -- what a match states
 abbrev pub pattern_of : MatchFields → Pattern
 pattern_of m =
-    record { in_port = m.in_port; vlan = m.vlan; eth_type = m.eth_type; ip_proto = m.ip_proto; eth_src = m.eth_src; eth_dst = m.eth_dst; ipv4_src = m.ipv4_src; ipv4_dst = m.ipv4_dst; tcp_src = m.tcp_src; tcp_dst = m.tcp_dst; udp_src = m.udp_src; udp_dst = m.udp_dst; ipv6_src = m.ipv6_src; ipv6_dst = m.ipv6_dst }
+    record {
+      in_port = m.in_port;
+      vlan = m.vlan;
+      eth_type = m.eth_type;
+      ip_proto = m.ip_proto;
+      eth_src = m.eth_src;
+      eth_dst =
+          m.eth_dst;
+      ipv4_src = m.ipv4_src;
+      ipv4_dst = m.ipv4_dst;
+      tcp_src = m.tcp_src;
+      tcp_dst = m.tcp_dst;
+      udp_src = m.udp_src;
+      udp_dst =
+          m.udp_dst;
+      ipv6_src = m.ipv6_src;
+      ipv6_dst = m.ipv6_dst;
+    }
 
 abbrev pub no_pattern : Pattern
 no_pattern = pattern_of empty_match

@@ -17,7 +17,13 @@ block_at table in_port vlan = record { table = table; in_port = in_port; vlan = 
 
 -- the place in a table with this pattern, and so far down
 abbrev pub place_at : ℕ → Pattern → ℕ → Place
-place_at table pattern down = record { block = block_at table pattern.in_port pattern.vlan; shape = shape_of pattern; behind = false; pattern = pattern; down = down }
+place_at table pattern down = record {
+  block = block_at table pattern.in_port pattern.vlan;
+  shape = shape_of pattern;
+  behind = false;
+  pattern = pattern;
+  down = down;
+}
 
 -- the place of an entry with this table, match and priority
 abbrev pub place_of : ℕ → MatchFields → ℕ → Place

@@ -19,10 +19,12 @@ first_part separator bs = by (ltb first (length bs)) refl where
 
   by : (found : Bool) → ltb first (length bs) ≡ found → FirstPart separator bs (cond found (Some first) None)
   by true is = slice_split_first (λ b. eqb b separator) bs 0 (ltb-true _ _ is)
-  by false is = slice_split_none (λ b. eqb b separator) bs (λ k d within. fails_before_first (λ b. eqb b separator) bs k d (omega (arith, within, ltb-false first (length bs) is)))
+  by false is = slice_split_none (λ b. eqb b separator) bs
+      (λ k d within. fails_before_first (λ b. eqb b separator) bs k d (omega (arith, within, ltb-false first (length bs) is)))
 
 -- a separator ends the first part
-pub part_ended : (separator : ℕ) (bs : List ℕ) (place : ℕ) → Some place ≡ position (λ b. eqb b separator) bs → parts separator bs ≡ take place bs ∷ parts separator (take (length bs - (place + 1)) (drop (place + 1) bs))
+pub part_ended : (separator : ℕ) (bs : List ℕ) (place : ℕ) → Some place ≡ position (λ b. eqb b separator) bs
+    → parts separator bs ≡ take place bs ∷ parts separator (take (length bs - (place + 1)) (drop (place + 1) bs))
 part_ended separator bs place is =
     subst (FirstPart separator bs) (sym is) (first_part separator bs) ∙ ap (λ rest. take place bs ∷ parts separator rest) (sym (take_rest bs (place + 1)))
 

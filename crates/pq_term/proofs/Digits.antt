@@ -15,11 +15,14 @@ value_grows base so_far (b ∷ bs) positive =
     omega (arith, more, value_grows base (so_far * base + digit_value b) bs positive)
 
 -- where no digit is left, the value is whole
-pub value_at_end : (base so_far : ℕ) (digits : List ℕ) (i : ℕ) → length digits ≤ i → value_after base so_far (drop i digits) ≡ value_of base digits → so_far ≡ value_of base digits
+pub value_at_end : (base so_far : ℕ) (digits : List ℕ) (i : ℕ) → length digits ≤ i
+    → value_after base so_far (drop i digits) ≡ value_of base digits → so_far ≡ value_of base digits
 value_at_end base so_far digits i end left = ap (value_after base so_far) (sym (drop_of_length-le digits end)) ∙ left
 
 -- a value that is too big with the next digit is too big with all of them
-pub too_big : (base so_far : ℕ) (digits : List ℕ) (i : ℕ) → 0 < base → i < length digits → value_after base so_far (drop i digits) ≡ value_of base digits → (so_far * base + digit_value (get_or digits i 0) < 2 ^ 64 → ⊥) → value_of base digits < 2 ^ 64 → ⊥
+pub too_big : (base so_far : ℕ) (digits : List ℕ) (i : ℕ) → 0 < base → i < length digits
+    → value_after base so_far (drop i digits) ≡ value_of base digits → (so_far * base + digit_value (get_or digits i 0) < 2 ^ 64 → ⊥)
+    → value_of base digits < 2 ^ 64 → ⊥
 too_big base so_far digits i positive more left big fits =
     let split = ap (value_after base so_far) (sym (drop-cons digits i 0 more)) ∙ left in
     big (omega (arith, split, value_grows base (so_far * base + digit_value (get_or digits i 0)) (drop (suc i) digits) positive, fits))
@@ -33,7 +36,8 @@ hexadecimal_below so_far (b ∷ bs) all =
     let below = hexadecimal_below (so_far * 16 + digit_value b) bs parts.1 in
     let bound : so_far * 16 + digit_value b + 1 ≤ (so_far + 1) * 16 = omega (arith, digit) in
     let scaled = mul-le-mul_right (16 ^ length bs) bound in
-    let power : (so_far + 1) * 16 ^ suc (length bs) ≡ (so_far + 1) * 16 * 16 ^ length bs = ap (λ n. (so_far + 1) * n) (pow-succ' 16 (length bs)) ∙ sym (mul_assoc (so_far + 1) 16 (16 ^ length bs)) in
+    let power : (so_far + 1) * 16 ^ suc (length bs) ≡ (so_far + 1) * 16 * 16 ^ length bs =
+    ap (λ n. (so_far + 1) * n) (pow-succ' 16 (length bs)) ∙ sym (mul_assoc (so_far + 1) 16 (16 ^ length bs)) in
     omega (arith, below, scaled, power)
 
 -- sixteen hexadecimal digits fit 64 bits

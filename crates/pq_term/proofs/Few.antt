@@ -12,7 +12,8 @@ blanks_less : (inside : Bool) (bs : List ℕ) → length (after_blanks inside bs
 blanks_less inside [] = omega arith
 blanks_less false (b ∷ bs) = by (is_blank b) (b == byte "#") (blanks_less false bs) (blanks_less true bs)
   where
-    by : (blank comment : Bool) → length (after_blanks false bs) ≤ length bs → length (after_blanks true bs) ≤ length bs → length (if blank then after_blanks false bs else (if comment then after_blanks true bs else b ∷ bs)) ≤ suc (length bs)
+    by : (blank comment : Bool) → length (after_blanks false bs) ≤ length bs → length (after_blanks true bs) ≤ length bs
+        → length (if blank then after_blanks false bs else (if comment then after_blanks true bs else b ∷ bs)) ≤ suc (length bs)
     by true comment h k = omega (arith, h)
     by false true h k = omega (arith, k)
     by false false h k = omega arith

@@ -32,7 +32,8 @@ Begins rest place End = Unit {0}
 Begins rest place (NoToken at) = Unit {0}
 
 -- a token with such a text begins the rest
-begins_named : (rest text : List ℕ) (place len : ℕ) (found : Option Kind) → take len rest ≡ text → IfSome found (λ kind. HasForm kind text) → Begins rest place (token_or_none place len found)
+begins_named : (rest text : List ℕ) (place len : ℕ) (found : Option Kind) → take len rest ≡ text → IfSome found (λ kind. HasForm kind text)
+    → Begins rest place (token_or_none place len found)
 begins_named rest text place len None is form = tt
 begins_named rest text place len (Some kind) is form = (refl, subst (HasForm kind) (sym is) form)
 
@@ -53,7 +54,8 @@ begins_text place (b ∷ bs) =
     let run = take (prefix_len is_run_byte (b ∷ bs)) (b ∷ bs) in
     cond_both (is_run_byte b) _ _ P (λ of_run. begins_named (b ∷ bs) run place (length run) (form_of run) (take_run b bs) (form_of_run run)) (λ other.
     cond_both (is_symbol b) _ _ P (λ one. begins_named (b ∷ bs) (b ∷ []) place 1 (Some Symbol) refl one) (λ more.
-    cond_both (bytes_eq (take 2 (b ∷ bs)) (codes ">>")) _ _ P (λ two. begins_named (b ∷ bs) (take 2 (b ∷ bs)) place 2 (Some Symbol) refl (two_bytes b bs two)) (λ none. tt)))
+    cond_both (bytes_eq (take 2 (b ∷ bs)) (codes ">>")) _ _ P
+    (λ two. begins_named (b ∷ bs) (take 2 (b ∷ bs)) place 2 (Some Symbol) refl (two_bytes b bs two)) (λ none. tt)))
 
 -- a token that begins the rest of a text is a token of the text
 formed_at : (bytes : List ℕ) (place : ℕ) (next : Next) → Begins (drop place bytes) place next → IsFormed bytes next
@@ -65,4 +67,6 @@ formed_at bytes place (NoToken at) begins = tt
 pub formed_rest : (bytes : List ℕ) (place : ℕ) (next : Next) → next ≡ first_token place (take (length bytes - place) (drop place bytes)) → IsFormed bytes next
 formed_rest bytes place next is =
     let whole = take_rest bytes place in
-    formed_at bytes place next (subst (Begins (drop place bytes) place) (sym is) (subst (λ rest. Begins (drop place bytes) place (first_token place rest)) (sym whole) (begins_text place (drop place bytes))))
+    formed_at bytes place next
+    (subst (Begins (drop place bytes) place) (sym is)
+    (subst (λ rest. Begins (drop place bytes) place (first_token place rest)) (sym whole) (begins_text place (drop place bytes))))

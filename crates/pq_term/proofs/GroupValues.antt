@@ -27,14 +27,17 @@ pub record IsValueBefore (weight base : ℕ) (all left : List (List ℕ)) (value
   pub whole : fold (λ so_far group. so_far * weight + value_of base group) value left ≡ groups_value weight base all
 
 -- the next group
-value_goes_on : (weight base : ℕ) (all : List (List ℕ)) (group : List ℕ) (left : List (List ℕ)) (value : ℕ) → weight ^ length all ≤ 2 ^ 128 → IsValueBefore weight base all (group ∷ left) value →
-    IsValueBefore weight base all left (value * weight + value_of base group) × (value_of base group < weight) × (value * weight + value_of base group < 2 ^ 128)
+value_goes_on : (weight base : ℕ) (all : List (List ℕ)) (group : List ℕ) (left : List (List ℕ)) (value : ℕ) → weight ^ length all ≤ 2 ^ 128
+    → IsValueBefore weight base all (group ∷ left) value →
+    IsValueBefore weight base all left (value * weight + value_of base group) × (value_of base group < weight)
+    × (value * weight + value_of base group < 2 ^ 128)
 value_goes_on weight base all group left value few before =
     let parts = and_parts _ (spell_digits weight base left) before.small in
     let digit : value_of base group < weight = ltb-true _ _ parts.0 in
     let next = below_next weight (length all - suc (length left)) value (value_of base group) before.below digit in
     let one : suc (length all - suc (length left)) ≡ length all - length left = omega (arith, before.within) in
-    let below : value * weight + value_of base group < weight ^ (length all - length left) = subst (λ k. value * weight + value_of base group < weight ^ k) one next in
+    let below : value * weight + value_of base group < weight ^ (length all - length left) =
+    subst (λ k. value * weight + value_of base group < weight ^ k) one next in
     let power : weight ^ (length all - length left) ≤ weight ^ length all = pow-le-pow_right (omega (arith, digit)) (omega arith) in (
       record {
         small = parts.1;
@@ -47,9 +50,12 @@ value_goes_on weight base all group left value few before =
     )
 
 -- the same, where the groups left are given by an equation
-pub value_steps : (weight base : ℕ) (all now : List (List ℕ)) (group : List ℕ) (left : List (List ℕ)) (value : ℕ) → weight ^ length all ≤ 2 ^ 128 → now ≡ group ∷ left → IsValueBefore weight base all now value →
-    IsValueBefore weight base all left (value * weight + value_of base group) × (value_of base group < weight) × (value * weight + value_of base group < 2 ^ 128)
-value_steps weight base all now group left value few is before = value_goes_on weight base all group left value few (subst (λ groups. IsValueBefore weight base all groups value) is before)
+pub value_steps : (weight base : ℕ) (all now : List (List ℕ)) (group : List ℕ) (left : List (List ℕ)) (value : ℕ)
+    → weight ^ length all ≤ 2 ^ 128 → now ≡ group ∷ left → IsValueBefore weight base all now value →
+    IsValueBefore weight base all left (value * weight + value_of base group) × (value_of base group < weight)
+    × (value * weight + value_of base group < 2 ^ 128)
+value_steps weight base all now group left value few is before =
+    value_goes_on weight base all group left value few (subst (λ groups. IsValueBefore weight base all groups value) is before)
 
 -- so many hexadecimal digits spell a number with fewer bits
 hex_below : (least most weight : ℕ) → 16 ^ most ≤ weight → (group : List ℕ) → is_hex least most group ≡ true → value_of 16 group < weight
@@ -61,7 +67,8 @@ hex_below least most weight wide group hex =
     omega (arith, below, power, wide)
 
 -- hexadecimal groups spell digits
-hex_groups : (least most weight : ℕ) → 16 ^ most ≤ weight → (groups : List (List ℕ)) → list_all (is_group (Hex least most)) groups ≡ true → spell_digits weight 16 groups ≡ true
+hex_groups : (least most weight : ℕ) → 16 ^ most ≤ weight → (groups : List (List ℕ)) → list_all (is_group (Hex least most)) groups ≡ true
+    → spell_digits weight 16 groups ≡ true
 hex_groups least most weight wide [] all = refl
 hex_groups least most weight wide (g ∷ gs) all =
     let parts = and_parts (is_hex least most g) (list_all (is_group (Hex least most)) gs) all in

@@ -22,5 +22,6 @@ same_zeros : (bytes : List ℕ) → stored bytes ≡ over_zeros bytes
 same_zeros bytes = ap (over bytes) (sym (drop-replicate (length bytes) 32 0))
 
 -- a name that is copied over zeros is stored as names are
-pub name_over_zeros : (bytes copied : List ℕ) → IsTrue (is_name bytes) → copied ≡ bytes → IsStoredName (record { padded = copied ++ drop (length bytes) (replicate 32 0); len = length bytes })
+pub name_over_zeros : (bytes copied : List ℕ) → IsTrue (is_name bytes) → copied ≡ bytes
+    → IsStoredName (record { padded = copied ++ drop (length bytes) (replicate 32 0); len = length bytes })
 name_over_zeros bytes copied named same = rw same (record { name = rw (same_bytes bytes) named; padded = rw (same_bytes bytes) (same_zeros bytes) })

@@ -1,5 +1,6 @@
 -- Where a token lies in a text.
-use Rattle.std.proofs.Common.{◌≡◌, ℕ, ◌+◌, ◌==◌, ◌-◌, ◌≤◌, true, false, cond, List, [], ◌∷◌, length, take, drop, length-drop, length-take-le, subst, sym, Some, None, Option, ap, arith}
+use Rattle.std.proofs.Common.{◌≡◌, ℕ, ◌+◌, ◌==◌, ◌-◌, ◌≤◌, true, false, cond, List, [], ◌∷◌, length, take, drop, length-drop}
+use Rattle.std.proofs.Common.{length-take-le, subst, sym, Some, None, Option, ap, arith}
 use Rattle.std.specs.Prelude.{codes, bytes_eq}
 use Rattle.std.specs.List.{prefix_len}
 use Rattle.std.proofs.lemmas.Bool.{false≢true, cond_both, and_parts}
@@ -23,11 +24,13 @@ second_byte b [] same = absurd (false≢true (and_parts (b == 62) false same).1)
 second_byte b (c ∷ cs) same = omega arith
 
 -- a run has the byte that it begins with
-within_run : (at place b : ℕ) (bs : List ℕ) → at ≤ place → is_run_byte b ≡ true → IsWithin at (place + length (b ∷ bs)) (run_token place (take (prefix_len is_run_byte (b ∷ bs)) (b ∷ bs)))
+within_run : (at place b : ℕ) (bs : List ℕ) → at ≤ place → is_run_byte b ≡ true
+    → IsWithin at (place + length (b ∷ bs)) (run_token place (take (prefix_len is_run_byte (b ∷ bs)) (b ∷ bs)))
 within_run at place b bs after begins =
     let run = length-prefix_len is_run_byte (b ∷ bs) in
     let first : prefix_len is_run_byte (b ∷ bs) ≡ 1 + prefix_len is_run_byte bs = ap (λ t. cond t (1 + prefix_len is_run_byte bs) 0) begins in
-    within_named at place _ _ (form_of (take (prefix_len is_run_byte (b ∷ bs)) (b ∷ bs))) after (omega (arith, run, first)) (omega (arith, run, prefix_len-le-length is_run_byte (b ∷ bs)))
+    within_named at place _ _ (form_of (take (prefix_len is_run_byte (b ∷ bs)) (b ∷ bs))) after (omega (arith, run, first))
+    (omega (arith, run, prefix_len-le-length is_run_byte (b ∷ bs)))
 
 -- what a text begins with lies within the text
 pub within_text : (at place : ℕ) (rest : List ℕ) → at ≤ place → IsWithin at (place + length rest) (first_token place rest)
@@ -41,7 +44,8 @@ within_text at place (b ∷ bs) after =
     (λ none. (after, omega arith))))
 
 -- what the rest of a text begins with lies within the text
-pub within_rest : (bytes : List ℕ) (at place : ℕ) (next : Next) → at ≤ place → place ≤ length bytes → next ≡ first_token place (take (length bytes - place) (drop place bytes)) → IsWithin at (length bytes) next
+pub within_rest : (bytes : List ℕ) (at place : ℕ) (next : Next) → at ≤ place → place ≤ length bytes
+    → next ≡ first_token place (take (length bytes - place) (drop place bytes)) → IsWithin at (length bytes) next
 within_rest bytes at place next after inside is =
     let rest = take (length bytes - place) (drop place bytes) in
     let left = length-take-le (length bytes - place) (drop place bytes) (omega (arith, length-drop place bytes)) in

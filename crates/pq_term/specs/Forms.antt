@@ -1,5 +1,6 @@
 -- The forms that a run may have.
-use Rattle.std.specs.Prelude.{ℕ, Bool, false, if◌then◌else◌, ◌&&◌, ◌||◌, List, [], ◌∷◌, length, nat_lt, ◌==◌, is_some, IsSome, IsTrue, codes, bytes_eq, Option, Some, None}
+use Rattle.std.specs.Prelude.{ℕ, Bool, false, if◌then◌else◌, ◌&&◌, ◌||◌, List, [], ◌∷◌, length, nat_lt, ◌==◌, is_some, IsSome, IsTrue}
+use Rattle.std.specs.Prelude.{codes, bytes_eq, Option, Some, None}
 use Rattle.std.specs.Char.{is_ascii_alphabetic}
 use Rattle.std.specs.List.{list_all, position_or_len, before_first, after_first}
 use Rattle.std.specs.Str.{byte}

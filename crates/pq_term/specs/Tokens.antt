@@ -1,5 +1,6 @@
 -- The token that comes next in a text.
-use Rattle.std.specs.Prelude.{ℕ, ◌+◌, ◌-◌, ◌<◌, ◌≤◌, Bool, true, false, not, if◌then◌else◌, List, [], ◌∷◌, length, take, drop, ◌==◌, Option, Some, None, take_while, codes, bytes_eq}
+use Rattle.std.specs.Prelude.{ℕ, ◌+◌, ◌-◌, ◌<◌, ◌≤◌, Bool, true, false, not, if◌then◌else◌, List, [], ◌∷◌, length, take, drop, ◌==◌, Option}
+use Rattle.std.specs.Prelude.{Some, None, take_while, codes, bytes_eq}
 use Rattle.std.specs.Str.{byte}
 use Rattle.pq_term.specs.declared.token.Kind.{Kind}
 use Rattle.pq_term.specs.declared.token.Kind.TheVariants.{Symbol}

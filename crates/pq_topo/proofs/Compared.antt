@@ -16,7 +16,8 @@ less_is_before x y = by (nat_lt x y) (x == y)
     by false false = refl
 
 -- four comparisons, the first that tells
-pub four_then : (a b c d : Ordering) → ordering_then (ordering_then (ordering_then a b) c) d ≡ ordering_then a (ordering_then b (ordering_then c (ordering_then d Equal)))
+pub four_then : (a b c d : Ordering)
+    → ordering_then (ordering_then (ordering_then a b) c) d ≡ ordering_then a (ordering_then b (ordering_then c (ordering_then d Equal)))
 four_then Less b c d = refl
 four_then Greater b c d = refl
 four_then Equal Less c d = refl

@@ -29,7 +29,8 @@ module _ (ss : List Switch) (up : Ascends (numbers_of ss)) (d : ℕ) where
       grind (arith, nat_tests, rise)
 
   -- a binary search by datapath number finds the switch, or there is none
-  pub searched : (r : Result ℕ ℕ) → IsSearchInRange r (length ss) → IsBinarySearchResult (λ s. nat_cmp s.datapath d) ss r → MatchOption (result_ok r) (IsNoSwitch ss d) (λ i. IsSwitchAt ss d i)
+  pub searched : (r : Result ℕ ℕ) → IsSearchInRange r (length ss) → IsBinarySearchResult (λ s. nat_cmp s.datapath d) ss r
+      → MatchOption (result_ok r) (IsNoSwitch ss d) (λ i. IsSwitchAt ss d i)
   searched (Ok at) in_range equal = (in_range, λ s. ranked _ d _ (sym (equal s)))
   searched (Err at) in_range parted = λ k s below same.
       let before : k < at → (get_or ss k s).datapath < d = λ lt. ranked _ d _ (sym ((parted comparisons_rise).0 k s (omega arith) lt)) in
@@ -37,13 +38,17 @@ module _ (ss : List Switch) (up : Ascends (numbers_of ss)) (d : ℕ) where
       grind (arith, before, after, same)
 
 -- what is asked of a switch by its datapath number is told by the switch that was found
-pub found : (ss : List Switch) (d i : ℕ) (s : Switch) → Ascends (numbers_of ss) → i < length ss → (get_or ss i s).datapath ≡ d → record { ports : ports_in ss d ≡ (get_or ss i s).ports; limit : limit_in ss d ≡ (get_or ss i s).limit }
+pub found : (ss : List Switch) (d i : ℕ) (s : Switch) → Ascends (numbers_of ss) → i < length ss → (get_or ss i s).datapath ≡ d → record {
+  ports : ports_in ss d ≡ (get_or ss i s).ports;
+  limit : limit_in ss d ≡ (get_or ss i s).limit;
+}
 found [] d i s up below same = record { ports = grind (arith, below); limit = grind (arith, below) }
 found (x ∷ ss) d zero s up below same = record { ports = grind (arith, nat_tests, same); limit = grind (arith, nat_tests, same) }
 found (x ∷ ss) d (suc i) s up below same =
     let later = found ss d i s (rest_ascends x.datapath (numbers_of ss) up) (omega (arith, below)) same in
     let at_i : get_or (numbers_of ss) i s.datapath ≡ (get_or ss i s).datapath = get_or-map (λ s. s.datapath) ss i s in
-    let above : x.datapath < get_or (numbers_of ss) i s.datapath = first_below x.datapath (numbers_of ss) i s.datapath up (rw (length-map ss (λ s. s.datapath)) (omega (arith, below))) in
+    let above : x.datapath < get_or (numbers_of ss) i s.datapath =
+    first_below x.datapath (numbers_of ss) i s.datapath up (rw (length-map ss (λ s. s.datapath)) (omega (arith, below))) in
     let differs : x.datapath < d = omega (arith, above, at_i, same) in
     record { ports = grind (arith, nat_tests, later.ports, differs); limit = grind (arith, nat_tests, later.limit, differs) }
 

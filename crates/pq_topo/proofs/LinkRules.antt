@@ -5,7 +5,8 @@ use Rattle.std.specs.List.{AllByRecursion, IsDistinct, list_any}
 use Rattle.std.specs.Cmp.{IsEquivalence, nat_eq_equiv}
 use Rattle.std.proofs.lemmas.Bool.{and_parts}
 use Rattle.std.proofs.lemmas.List.Concat.{flat_map-append}
-use Rattle.std.proofs.lemmas.List.Sorted.{IsPermutation-refl, IsPermutation-cons, IsPermutation-trans, IsPermutation-swap, IsPermutation-append, IsPermutation-append_comm}
+use Rattle.std.proofs.lemmas.List.Sorted.{IsPermutation-refl, IsPermutation-cons, IsPermutation-trans, IsPermutation-swap}
+use Rattle.std.proofs.lemmas.List.Sorted.{IsPermutation-append, IsPermutation-append_comm}
 use Rattle.std.proofs.lemmas.List.Elements.{All-from_recursion}
 use Rattle.std.proofs.lemmas.Map.Keys.{IsDistinct-push, IsDistinct-IsPermutation}
 use Rattle.pq_lists.proofs.Holding.{all_push}
@@ -34,7 +35,8 @@ end_equiv : IsEquivalence same_end
 end_equiv = record {
   refl = λ d. both_refl (d.0 == d.0) (d.1 == d.1) (nat_eq_equiv.refl d.0) (nat_eq_equiv.refl d.1);
   symm = λ d e. (λ i. nat_eq_equiv.symm d.0 e.0 i && nat_eq_equiv.symm d.1 e.1 i);
-  congr = λ d e f same. (let parts = and_parts (d.0 == e.0) (d.1 == e.1) same in (λ i. nat_eq_equiv.congr d.0 e.0 f.0 parts.0 i && nat_eq_equiv.congr d.1 e.1 f.1 parts.1 i));
+  congr = λ d e f same. (let parts = and_parts (d.0 == e.0) (d.1 == e.1) same in
+      (λ i. nat_eq_equiv.congr d.0 e.0 f.0 parts.0 i && nat_eq_equiv.congr d.1 e.1 f.1 parts.1 i));
 }
 
 -- Links as they are read.
@@ -54,11 +56,15 @@ module _ (switches : List Switch) where
     pub each : AllByRecursion IsReadLink ls
     pub distinct : IsDistinct same_end (ends_of ls)
 
-  end_kept : (bytes : List ℕ) (ends : List (ℕ × ℕ)) (name port : Token) (e : ℕ × ℕ) → end_of bytes switches ends name port ≡ Ok e → IsPortAt e × (list_any (same_end e) ends ≡ false)
+  end_kept : (bytes : List ℕ) (ends : List (ℕ × ℕ)) (name port : Token) (e : ℕ × ℕ) → end_of bytes switches ends name port ≡ Ok e
+      → IsPortAt e × (list_any (same_end e) ends ≡ false)
   end_kept bytes ends name port e given =
       let told = next_ok (switch_at bytes switches name) _ e given in
       let n = number_in bytes port in
-      let rules = unless_ok port ((not (is_port network told.0 n), UnknownPort) ∷ (list_any (λ d. is_end (told.0, n) d.0 d.1) ends, Doubled) ∷ []) (told.0, n) e told.2 in
+      let rules = unless_ok port ((not (is_port network told.0 n), UnknownPort) ∷ (
+        list_any (λ d. is_end (told.0, n) d.0 d.1) ends,
+        Doubled,
+      ) ∷ []) (told.0, n) e told.2 in
       subst (λ d. IsPortAt d × (list_any (same_end d) ends ≡ false)) rules.1 (is_true (is_port network told.0 n) rules.0.0, rules.0.1.0)
     where
       is_true : (b : Bool) → not b ≡ false → IsTrue b
@@ -80,7 +86,8 @@ module _ (switches : List Switch) where
       by true c h = absurd cc
       by false c h = h
 
-  link_kept : (bytes : List ℕ) (earlier : List Link) (keyword : Token) (f : Forest) (l : Link) → link_of bytes switches (ends_of earlier) keyword f ≡ Ok l → AreReadLinks earlier → AreReadLinks (earlier ++ l ∷ [])
+  link_kept : (bytes : List ℕ) (earlier : List Link) (keyword : Token) (f : Forest) (l : Link)
+      → link_of bytes switches (ends_of earlier) keyword f ≡ Ok l → AreReadLinks earlier → AreReadLinks (earlier ++ l ∷ [])
   link_kept bytes earlier keyword nothing l e are = absurd cc
   link_kept bytes earlier keyword (grown name x nothing) l e are = absurd cc
   link_kept bytes earlier keyword (grown name x (grown port y nothing)) l e are = absurd cc
@@ -102,11 +109,17 @@ module _ (switches : List Switch) where
       })
 
   -- all links that are read keep the rules
-  pub links_kept : (bytes : List ℕ) (earlier : List Link) (f : Forest) (ls : List Link) → links_after bytes switches earlier f ≡ Ok ls → AreReadLinks earlier → AreReadLinks ls
+  pub links_kept : (bytes : List ℕ) (earlier : List Link) (f : Forest) (ls : List Link) → links_after bytes switches earlier f ≡ Ok ls
+      → AreReadLinks earlier → AreReadLinks ls
   links_kept bytes earlier nothing ls e are = let same : earlier ≡ ls = cc in subst AreReadLinks same are
-  links_kept bytes earlier (grown head below rest) ls e are = by (begins_with bytes LinkWord head) e (λ l. links_kept bytes (earlier ++ l ∷ []) rest ls) (λ more. links_kept bytes earlier rest ls more are)
+  links_kept bytes earlier (grown head below rest) ls e are =
+      by (begins_with bytes LinkWord head) e (λ l. links_kept bytes (earlier ++ l ∷ []) rest ls)
+      (λ more. links_kept bytes earlier rest ls more are)
     where
-      by : (b : Bool) → (if b then next (link_of bytes switches (ends_of earlier) head below) (λ l. links_after bytes switches (earlier ++ l ∷ []) rest) else links_after bytes switches earlier rest) ≡ Ok ls → ((l : Link) → links_after bytes switches (earlier ++ l ∷ []) rest ≡ Ok ls → AreReadLinks (earlier ++ l ∷ []) → AreReadLinks ls) → (links_after bytes switches earlier rest ≡ Ok ls → AreReadLinks ls) → AreReadLinks ls
+      by : (b : Bool) → (if b then next (link_of bytes switches (ends_of earlier) head below)
+          (λ l. links_after bytes switches (earlier ++ l ∷ []) rest) else links_after bytes switches earlier rest) ≡ Ok ls
+          → ((l : Link) → links_after bytes switches (earlier ++ l ∷ []) rest ≡ Ok ls → AreReadLinks (earlier ++ l ∷ []) → AreReadLinks ls)
+          → (links_after bytes switches earlier rest ≡ Ok ls → AreReadLinks ls) → AreReadLinks ls
       by true e one more =
           let told = next_ok (link_of bytes switches (ends_of earlier) head below) (λ l. links_after bytes switches (earlier ++ l ∷ []) rest) ls e in
           one told.0 told.2 (link_kept bytes earlier head below told.0 told.1 are)
@@ -126,8 +139,11 @@ ends_ordered : (ls : List Link) → IsPermutation (ends_of ls) (ends_of (map ord
 ends_ordered [] = IsPermutation-refl []
 ends_ordered (l ∷ ls) = by (is_before (end_numbers l.second) (end_numbers l.first)) (ends_ordered ls)
   where
-    by : (b : Bool) → IsPermutation (ends_of ls) (ends_of (map ordered ls)) → IsPermutation (l.first ∷ l.second ∷ ends_of ls) (ends_of ((if b then record { first = l.second; second = l.first } else l) ∷ map ordered ls))
-    by true more = IsPermutation-trans _ (l.second ∷ l.first ∷ ends_of ls) _ (ends_swapped l.first l.second (ends_of ls)) (IsPermutation-cons l.second _ _ (IsPermutation-cons l.first _ _ more))
+    by : (b : Bool) → IsPermutation (ends_of ls) (ends_of (map ordered ls))
+        → IsPermutation (l.first ∷ l.second ∷ ends_of ls)
+        (ends_of ((if b then record { first = l.second; second = l.first } else l) ∷ map ordered ls))
+    by true more = IsPermutation-trans _ (l.second ∷ l.first ∷ ends_of ls) _ (ends_swapped l.first l.second (ends_of ls))
+        (IsPermutation-cons l.second _ _ (IsPermutation-cons l.first _ _ more))
     by false more = IsPermutation-cons l.first _ _ (IsPermutation-cons l.second _ _ more)
 
 -- what two permuted lists hold, one value after another
@@ -136,15 +152,20 @@ ends_put x [] = IsPermutation-refl _
 ends_put x (y ∷ ys) = by (is_before (link_numbers y) (link_numbers x)) (ends_put x ys)
   where
     ahead : IsPermutation (x.first ∷ x.second ∷ y.first ∷ y.second ∷ ends_of ys) (y.first ∷ y.second ∷ x.first ∷ x.second ∷ ends_of ys)
-    ahead = IsPermutation-append (x.first ∷ x.second ∷ y.first ∷ y.second ∷ []) (y.first ∷ y.second ∷ x.first ∷ x.second ∷ []) (ends_of ys) (ends_of ys) (IsPermutation-append_comm (x.first ∷ x.second ∷ []) (y.first ∷ y.second ∷ [])) (IsPermutation-refl (ends_of ys))
+    ahead = IsPermutation-append (x.first ∷ x.second ∷ y.first ∷ y.second ∷ []) (y.first ∷ y.second ∷ x.first ∷ x.second ∷ []) (ends_of ys)
+        (ends_of ys) (IsPermutation-append_comm (x.first ∷ x.second ∷ []) (y.first ∷ y.second ∷ [])) (IsPermutation-refl (ends_of ys))
 
-    by : (b : Bool) → IsPermutation (x.first ∷ x.second ∷ ends_of ys) (ends_of (put_by link_numbers x ys)) → IsPermutation (x.first ∷ x.second ∷ y.first ∷ y.second ∷ ends_of ys) (ends_of (if b then y ∷ put_by link_numbers x ys else x ∷ y ∷ ys))
-    by true more = IsPermutation-trans _ (y.first ∷ y.second ∷ x.first ∷ x.second ∷ ends_of ys) _ ahead (IsPermutation-cons y.first _ _ (IsPermutation-cons y.second _ _ more))
+    by : (b : Bool) → IsPermutation (x.first ∷ x.second ∷ ends_of ys) (ends_of (put_by link_numbers x ys))
+        → IsPermutation (x.first ∷ x.second ∷ y.first ∷ y.second ∷ ends_of ys)
+        (ends_of (if b then y ∷ put_by link_numbers x ys else x ∷ y ∷ ys))
+    by true more = IsPermutation-trans _ (y.first ∷ y.second ∷ x.first ∷ x.second ∷ ends_of ys) _ ahead
+        (IsPermutation-cons y.first _ _ (IsPermutation-cons y.second _ _ more))
     by false more = IsPermutation-refl _
 
 ends_sorted : (ls : List Link) → IsPermutation (ends_of ls) (ends_of (sort_by link_numbers ls))
 ends_sorted [] = IsPermutation-refl []
-ends_sorted (l ∷ ls) = IsPermutation-trans _ (l.first ∷ l.second ∷ ends_of (sort_by link_numbers ls)) _ (IsPermutation-cons l.first _ _ (IsPermutation-cons l.second _ _ (ends_sorted ls))) (ends_put l (sort_by link_numbers ls))
+ends_sorted (l ∷ ls) = IsPermutation-trans _ (l.first ∷ l.second ∷ ends_of (sort_by link_numbers ls)) _
+    (IsPermutation-cons l.first _ _ (IsPermutation-cons l.second _ _ (ends_sorted ls))) (ends_put l (sort_by link_numbers ls))
 
 still_differ : (p q r : Bool) → p && q ≡ false → p && (q && r) ≡ false
 still_differ true true r e = absurd cc
@@ -166,11 +187,18 @@ module _ (ss : List Switch) (ls : List Link) where
   lawful_ordered : (l : Link) → IsReadLink ss l → IsLawfulLink (record { switches = ss; links = in_order ls }) (ordered l)
   lawful_ordered l read = by (is_before (end_numbers l.second) (end_numbers l.first)) refl
     where
-      by : (b : Bool) → is_before (end_numbers l.second) (end_numbers l.first) ≡ b → IsLawfulLink (record { switches = ss; links = in_order ls }) (if b then record { first = l.second; second = l.first } else l)
+      by : (b : Bool) → is_before (end_numbers l.second) (end_numbers l.first) ≡ b
+          → IsLawfulLink (record { switches = ss; links = in_order ls }) (if b then record { first = l.second; second = l.first } else l)
       by true e = (read.1, read.0, e)
-      by false e = (read.0, read.1, one_is_before (end_numbers l.second) (end_numbers l.first) e (still_differ (l.first.0 == l.second.0) (l.first.1 == l.second.1) true read.2))
+      by false e = (
+        read.0,
+        read.1,
+        one_is_before (end_numbers l.second) (end_numbers l.first) e
+            (still_differ (l.first.0 == l.second.0) (l.first.1 == l.second.1) true read.2),
+      )
 
-  all_ordered : (ks : List Link) → AllByRecursion (IsReadLink ss) ks → AllByRecursion (IsLawfulLink (record { switches = ss; links = in_order ls })) (map ordered ks)
+  all_ordered : (ks : List Link) → AllByRecursion (IsReadLink ss) ks
+      → AllByRecursion (IsLawfulLink (record { switches = ss; links = in_order ls })) (map ordered ks)
   all_ordered [] all = tt
   all_ordered (k ∷ ks) all = (lawful_ordered k all.0, all_ordered ks all.1)
 
@@ -185,7 +213,8 @@ module _ (ss : List Switch) (ls : List Link) where
           few_ports = named.lawful.few_ports;
           switches = named.lawful.switches;
           ascending = named.lawful.ascending;
-          links = All-from_recursion (IsLawfulLink (record { switches = ss; links = in_order ls })) (in_order ls) (all_sorted link_numbers (IsLawfulLink (record { switches = ss; links = in_order ls })) flat (all_ordered ls are.each));
+          links = All-from_recursion (IsLawfulLink (record { switches = ss; links = in_order ls })) (in_order ls)
+              (all_sorted link_numbers (IsLawfulLink (record { switches = ss; links = in_order ls })) flat (all_ordered ls are.each));
           linked_once = IsDistinct-IsPermutation same_end end_equiv.symm (ends_of flat) (ends_of (in_order ls)) (ends_sorted flat) apart;
           links_ascend = sort_ascends link_numbers flat (numbers_differ flat apart);
         };
@@ -194,5 +223,6 @@ module _ (ss : List Switch) (ls : List Link) where
       }
 
 -- the links that statements give, in order, are those of a network of these switches
-pub network_with : (bytes : List ℕ) (ss : List Switch) (f : Forest) (ls : List Link) → links_after bytes ss [] f ≡ Ok ls → IsNamedTopology (record { switches = ss; links = [] }) → IsNamedTopology (record { switches = ss; links = in_order ls })
+pub network_with : (bytes : List ℕ) (ss : List Switch) (f : Forest) (ls : List Link) → links_after bytes ss [] f ≡ Ok ls
+    → IsNamedTopology (record { switches = ss; links = [] }) → IsNamedTopology (record { switches = ss; links = in_order ls })
 network_with bytes ss f ls e named = linked ss ls named (links_kept ss bytes [] f ls e (no_links ss))

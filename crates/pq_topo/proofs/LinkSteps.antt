@@ -22,7 +22,8 @@ pub two_more : (ends one two : List (ℕ × ℕ)) (d e : ℕ × ℕ) → one ≡
 two_more ends one two d e first second = second ∙ ap (λ es. es ++ e ∷ []) first ∙ append_assoc ends (d ∷ []) (e ∷ [])
 
 -- the ends of one more link
-pub ends_read : (ls new : List Link) (l : Link) (ends more : List (ℕ × ℕ)) → ends ≡ ends_of ls → more ≡ ends ++ l.first ∷ l.second ∷ [] → new ≡ ls ++ l ∷ [] → more ≡ ends_of new
+pub ends_read : (ls new : List Link) (l : Link) (ends more : List (ℕ × ℕ)) → ends ≡ ends_of ls → more ≡ ends ++ l.first ∷ l.second ∷ []
+    → new ≡ ls ++ l ∷ [] → more ≡ ends_of new
 ends_read ls new l ends more is adds is_new =
     adds ∙ ap (λ es. es ++ l.first ∷ l.second ∷ []) is ∙ sym (flat_map-append (λ k. k.first ∷ k.second ∷ []) ls (l ∷ [])) ∙ sym (ap ends_of is_new)
 
@@ -33,8 +34,12 @@ head t = (out-Term t).head
 abbrev below : Term → Forest
 below t = trees (out-Term t).children.now
 
-four : (a b c d : Term) (rest : List Term) → trees (a ∷ b ∷ c ∷ d ∷ rest) ≡ grown (head a) (below a) (grown (head b) (below b) (grown (head c) (below c) (grown (head d) (below d) (trees rest))))
-four a b c d rest = trees_first a (b ∷ c ∷ d ∷ rest) ∙ ap (grown (head a) (below a)) (trees_first b (c ∷ d ∷ rest) ∙ ap (grown (head b) (below b)) (trees_first c (d ∷ rest) ∙ ap (grown (head c) (below c)) (trees_first d rest)))
+four : (a b c d : Term) (rest : List Term)
+    → trees (a ∷ b ∷ c ∷ d ∷ rest)
+    ≡ grown (head a) (below a) (grown (head b) (below b) (grown (head c) (below c) (grown (head d) (below d) (trees rest))))
+four a b c d rest = trees_first a (b ∷ c ∷ d ∷ rest)
+    ∙ ap (grown (head a) (below a)) (trees_first b (c ∷ d ∷ rest)
+    ∙ ap (grown (head b) (below b)) (trees_first c (d ∷ rest) ∙ ap (grown (head c) (below c)) (trees_first d rest)))
 
 module _ (bytes : List ℕ) (switches : List Switch) (ends : List (ℕ × ℕ)) (keyword : Token) where
   abbrev of : Forest → Result Link NameFault → Type 0
@@ -52,33 +57,43 @@ module _ (bytes : List ℕ) (switches : List Switch) (ends : List (ℕ × ℕ)) 
   too_few_parts (a ∷ b ∷ c ∷ d ∷ rest) few fault e = let no : ⊥ = omega (arith, few) in absurd no
 
   -- four parts or more
-  pub four_parts : (ts : List Term) (h i j k : Term) → 4 ≤ length ts → (r : Result Link NameFault) → IsAnswer (λ link. link) r (link_from bytes switches ends (head (get_or ts 0 h)) (head (get_or ts 1 i)) (head (get_or ts 2 j)) (head (get_or ts 3 k))) → of (trees ts) r
+  pub four_parts : (ts : List Term) (h i j k : Term) → 4 ≤ length ts → (r : Result Link NameFault)
+      → IsAnswer (λ link. link) r (link_from bytes switches ends (head (get_or ts 0 h)) (head (get_or ts 1 i)) (head (get_or ts 2 j))
+      (head (get_or ts 3 k))) → of (trees ts) r
   four_parts [] h i j k long r answer = let no : ⊥ = omega (arith, long) in absurd no
   four_parts (a ∷ []) h i j k long r answer = let no : ⊥ = omega (arith, long) in absurd no
   four_parts (a ∷ b ∷ []) h i j k long r answer = let no : ⊥ = omega (arith, long) in absurd no
   four_parts (a ∷ b ∷ c ∷ []) h i j k long r answer = let no : ⊥ = omega (arith, long) in absurd no
   four_parts (a ∷ b ∷ c ∷ d ∷ rest) h i j k long r answer = subst (λ f. of f r) (sym (four a b c d rest)) answer
 
-module _ (bytes : List ℕ) (switches : List Switch) (earlier : List Link) (ends : List (ℕ × ℕ)) (are : ends ≡ ends_of earlier) (ts : List Term) (i : ℕ) (d : Term) (within : i < length ts) (whole : Reading (List Link)) (left : links_after bytes switches earlier (trees (drop i ts)) ≡ whole) where
+module _ (bytes : List ℕ) (switches : List Switch) (earlier : List Link) (ends : List (ℕ × ℕ)) (are : ends ≡ ends_of earlier)
+    (ts : List Term) (i : ℕ) (d : Term) (within : i < length ts) (whole : Reading (List Link))
+    (left : links_after bytes switches earlier (trees (drop i ts)) ≡ whole) where
   abbrev after_it : Link → Reading (List Link)
   after_it l = links_after bytes switches (earlier ++ l ∷ []) (trees (drop (i + 1) ts))
 
   abbrev this : List (ℕ × ℕ) → Reading Link
   this es = link_of bytes switches es (head (get_or ts i d)) (below (get_or ts i d))
 
-  turned : (b : Bool) → begins_with bytes LinkWord (head (get_or ts i d)) ≡ b → (if b then next (this ends) after_it else links_after bytes switches earlier (trees (drop (i + 1) ts))) ≡ whole
+  turned : (b : Bool) → begins_with bytes LinkWord (head (get_or ts i d)) ≡ b
+      → (if b then next (this ends) after_it else links_after bytes switches earlier (trees (drop (i + 1) ts))) ≡ whole
   turned b begins =
       ap (λ es. if b then next (this es) after_it else links_after bytes switches earlier (trees (drop (i + 1) ts))) are
       ∙ ap (λ c. if c then next (this (ends_of earlier)) after_it else links_after bytes switches earlier (trees (drop (i + 1) ts))) (sym begins)
       ∙ sym (ap (links_after bytes switches earlier) (trees_left ts i d within)) ∙ left
 
   -- a link is read
-  pub link_is_read : (l : Link) (new : List Link) → begins_with bytes LinkWord (head (get_or ts i d)) ≡ true → IsAnswer (λ link. link) (Ok l) (this ends) → new ≡ earlier ++ l ∷ [] → links_after bytes switches new (trees (drop (i + 1) ts)) ≡ whole
-  link_is_read l new begins answer more = ap (λ ls. links_after bytes switches ls (trees (drop (i + 1) ts))) more ∙ sym (handed (λ link. link) l (this ends) after_it answer) ∙ turned true begins
+  pub link_is_read : (l : Link) (new : List Link) → begins_with bytes LinkWord (head (get_or ts i d)) ≡ true
+      → IsAnswer (λ link. link) (Ok l) (this ends) → new ≡ earlier ++ l ∷ []
+      → links_after bytes switches new (trees (drop (i + 1) ts)) ≡ whole
+  link_is_read l new begins answer more = ap (λ ls. links_after bytes switches ls (trees (drop (i + 1) ts))) more
+      ∙ sym (handed (λ link. link) l (this ends) after_it answer) ∙ turned true begins
 
   -- a link is refused
-  pub link_is_refused : {C : Type 0} (w : C → List Link) (fault : NameFault) → begins_with bytes LinkWord (head (get_or ts i d)) ≡ true → IsAnswer (λ (link : Link). link) (Err fault) (this ends) → IsAnswer w (Err fault) whole
-  link_is_refused w fault begins answer = subst (IsAnswer w (Err fault)) (turned true begins) (passed (λ (link : Link). link) w fault (this ends) after_it answer)
+  pub link_is_refused : {C : Type 0} (w : C → List Link) (fault : NameFault) → begins_with bytes LinkWord (head (get_or ts i d)) ≡ true
+      → IsAnswer (λ (link : Link). link) (Err fault) (this ends) → IsAnswer w (Err fault) whole
+  link_is_refused w fault begins answer =
+      subst (IsAnswer w (Err fault)) (turned true begins) (passed (λ (link : Link). link) w fault (this ends) after_it answer)
 
   -- the statement is none of a link
   pub no_link : begins_with bytes LinkWord (head (get_or ts i d)) ≡ false → links_after bytes switches earlier (trees (drop (i + 1) ts)) ≡ whole

@@ -15,7 +15,8 @@ use Rattle.pq_topo.proofs.Ascending.{rises}
 
 -- at a number, or in the gap where it would stand
 abbrev IsPlace : List ℕ → ℕ → Result ℕ ℕ → Type 0
-IsPlace xs x r = MatchResult r (λ i. (i < length xs) × (get_or xs i 0 ≡ x)) (λ i. (i ≤ length xs) × ((k : ℕ) → k < i → get_or xs k 0 < x) × ((k : ℕ) → i ≤ k → k < length xs → x < get_or xs k 0))
+IsPlace xs x r = MatchResult r (λ i. (i < length xs) × (get_or xs i 0 ≡ x)) (λ i. (i ≤ length xs) × ((k : ℕ) → k < i → get_or xs k 0 < x)
+    × ((k : ℕ) → i ≤ k → k < length xs → x < get_or xs k 0))
 
 place_tells : (xs : List ℕ) (x : ℕ) (r : Result ℕ ℕ) → IsPlace xs x r → is_ok r ≡ list_any (λ y. y == x) xs
 place_tells xs x (Ok i) place = sym (list_any_at (λ y. y == x) xs i 0 place.0 (grind (arith, nat_tests, place.1)))

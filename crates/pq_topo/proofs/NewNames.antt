@@ -27,7 +27,8 @@ a_name bs name r made some = by (is_name bs) (sym made ∙ some)
     by true e = (refl, cc)
     by false e = absurd cc
 
-module _ (bytes : List ℕ) (names : List (List ℕ)) (t : Token) (text : List ℕ) (r : Option (List ℕ)) (is : text ≡ text_in bytes t) (made : r ≡ (if is_name text then Some text else None)) where
+module _ (bytes : List ℕ) (names : List (List ℕ)) (t : Token) (text : List ℕ) (r : Option (List ℕ)) (is : text ≡ text_in bytes t)
+    (made : r ≡ (if is_name text then Some text else None)) where
   -- what is no name is refused
   pub name_is_refused : (fault : NameFault) → r ≡ None → fault ≡ Name t.at BadValue → IsAnswer (λ (name : List ℕ). name) (Err fault) (name_of bytes names t)
   name_is_refused fault none e =

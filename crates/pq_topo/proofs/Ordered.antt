@@ -41,7 +41,8 @@ module _ {A : Type 0} (key : A → List ℕ) where
   -- a sorted list has the same values
   pub sort_shuffles : (xs : List A) → IsPermutation xs (sort_by key xs)
   sort_shuffles [] = IsPermutation-refl []
-  sort_shuffles (x ∷ xs) = IsPermutation-trans (x ∷ xs) (x ∷ sort_by key xs) (put_by key x (sort_by key xs)) (IsPermutation-cons x xs (sort_by key xs) (sort_shuffles xs)) (put_shuffles x (sort_by key xs))
+  sort_shuffles (x ∷ xs) = IsPermutation-trans (x ∷ xs) (x ∷ sort_by key xs) (put_by key x (sort_by key xs))
+      (IsPermutation-cons x xs (sort_by key xs) (sort_shuffles xs)) (put_shuffles x (sort_by key xs))
 
   all_put : (P : A → Type 0) (x : A) (ys : List A) → P x → AllByRecursion P ys → AllByRecursion P (put_by key x ys)
   all_put P x [] here all = (here, tt)
@@ -55,7 +56,8 @@ module _ {A : Type 0} (key : A → List ℕ) where
   all_sorted P [] all = tt
   all_sorted P (x ∷ xs) all = all_put P x (sort_by key xs) all.0 (all_sorted P xs all.1)
 
-  above : (y x : A) (zs : List A) → is_before (key y) (key x) ≡ true → AscendsBy key (y ∷ zs) → AscendsBy key (put_by key x zs) → AscendsBy key (y ∷ put_by key x zs)
+  above : (y x : A) (zs : List A) → is_before (key y) (key x) ≡ true → AscendsBy key (y ∷ zs) → AscendsBy key (put_by key x zs)
+      → AscendsBy key (y ∷ put_by key x zs)
   above y x [] h up rest = (h, tt)
   above y x (z ∷ zs) h up rest = by (is_before (key z) (key x)) rest
     where

@@ -6,12 +6,14 @@ use Rattle.pq_topo.specs.declared.fault.NameFault.TheVariants.{Name, Memory}
 use Rattle.pq_topo.specs.Naming.{Reading, IsAnswer, next}
 
 -- a refused reading refuses all that depends on it
-pub passed : {A B C D : Type 0} (v : A → B) (w : C → D) (fault : NameFault) (r : Reading B) (f : B → Reading D) → IsAnswer v (Err fault) r → IsAnswer w (Err fault) (next r f)
+pub passed : {A B C D : Type 0} (v : A → B) (w : C → D) (fault : NameFault) (r : Reading B) (f : B → Reading D) → IsAnswer v (Err fault) r
+    → IsAnswer w (Err fault) (next r f)
 passed v w (Name at kind) r f h = ap (λ reading. next reading f) h
 passed v w Memory r f h = tt
 
 -- what follows a value answers for both
-pub followed : {A C D : Type 0} (w : C → D) (result : Result C NameFault) (value : A) (r : Reading A) (f : A → Reading D) → Ok value ≡ r → IsAnswer w result (f value) → IsAnswer w result (next r f)
+pub followed : {A C D : Type 0} (w : C → D) (result : Result C NameFault) (value : A) (r : Reading A) (f : A → Reading D) → Ok value ≡ r
+    → IsAnswer w result (f value) → IsAnswer w result (next r f)
 followed w result value r f h answer = subst (IsAnswer w result) (ap (λ reading. next reading f) h) answer
 
 -- a value is handed on

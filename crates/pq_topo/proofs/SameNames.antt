@@ -17,7 +17,8 @@ padded v = v ++ replicate (32 - length v) 0
 
 -- names that are stored alike are equal
 stored_alike : (v w : List ℕ) → padded v ≡ padded w → length v ≡ length w → v ≡ w
-stored_alike v w same long = sym (take_at v (replicate (32 - length v) 0) (length v) refl) ∙ ap (take (length v)) same ∙ take_at w (replicate (32 - length w) 0) (length v) (sym long)
+stored_alike v w same long = sym (take_at v (replicate (32 - length v) 0) (length v) refl) ∙ ap (take (length v)) same
+    ∙ take_at w (replicate (32 - length w) 0) (length v) (sym long)
 
 -- whether names are stored alike tells whether they are equal
 tells : (v w : List ℕ) → Decides (bytes_eq (padded v) (padded w) && (length v == length w)) (v ≡ w)
@@ -29,7 +30,8 @@ tells v w = (apart, λ same. subst (λ w. (bytes_eq (padded v) (padded w) && (le
         stored_alike v w ((bytes_eq-Decides (padded v) (padded w)).0 p.0) (eqb-true (length v) (length w) p.1)
 
     alike : (bytes_eq (padded v) (padded v) && (length v == length v)) ≡ true
-    alike = and_from (bytes_eq (padded v) (padded v)) (length v == length v) ((bytes_eq-Decides (padded v) (padded v)).1 refl) (eq-eqb (length v) (length v) refl)
+    alike = and_from (bytes_eq (padded v) (padded v)) (length v == length v) ((bytes_eq-Decides (padded v) (padded v)).1 refl)
+        (eq-eqb (length v) (length v) refl)
 
 -- names are equal where their bytes are
 pub same_names : (v w : Name) → (equality.eq-value).it v w ≡ bytes_eq v w

@@ -21,7 +21,8 @@ head t = (out-Term t).head
 abbrev below : Term → Forest
 below t = trees (out-Term t).children.now
 
-three : (a b l : Term) (rest : List Term) → trees (a ∷ b ∷ l ∷ rest) ≡ grown (head a) (below a) (grown (head b) (below b) (grown (head l) (below l) (trees rest)))
+three : (a b l : Term) (rest : List Term)
+    → trees (a ∷ b ∷ l ∷ rest) ≡ grown (head a) (below a) (grown (head b) (below b) (grown (head l) (below l) (trees rest)))
 three a b l rest = trees_first a (b ∷ l ∷ rest) ∙ ap (grown (head a) (below a)) (trees_first b (l ∷ rest) ∙ ap (grown (head b) (below b)) (trees_first l rest))
 
 module _ (bytes : List ℕ) (before : Seen) (keyword : Token) where
@@ -43,19 +44,26 @@ module _ (bytes : List ℕ) (before : Seen) (keyword : Token) where
   bare (t ∷ ts) few = let no : ⊥ = omega (arith, few) in absurd no
 
   -- no port is listed
-  pub no_ports : (ts : List Term) (d : Term) → 3 ≤ length ts → length (out-Term (get_or ts 2 d)).children.now < 1 → (fault : NameFault) → fault ≡ Name keyword.at BadValue → of (trees ts) (Err fault)
+  pub no_ports : (ts : List Term) (d : Term) → 3 ≤ length ts → length (out-Term (get_or ts 2 d)).children.now < 1 → (fault : NameFault)
+      → fault ≡ Name keyword.at BadValue → of (trees ts) (Err fault)
   no_ports [] d long few fault e = let no : ⊥ = omega (arith, long) in absurd no
   no_ports (a ∷ []) d long few fault e = let no : ⊥ = omega (arith, long) in absurd no
   no_ports (a ∷ b ∷ []) d long few fault e = let no : ⊥ = omega (arith, long) in absurd no
   no_ports (a ∷ b ∷ l ∷ rest) d long few fault e =
-      let shape = three a b l rest ∙ ap (λ f. grown (head a) (below a) (grown (head b) (below b) (grown (head l) f (trees rest)))) (bare (out-Term l).children.now few) in
+      let shape = three a b l rest ∙ ap (λ f. grown (head a) (below a) (grown (head b) (below b) (grown (head l) f (trees rest))))
+      (bare (out-Term l).children.now few) in
       subst (λ f. of f (Err fault)) (sym shape) (refused fault e)
 
-  listed : (name datapath list : Token) (x y : Forest) (ts : List Term) (rest : Forest) (r : Result Switch NameFault) → 1 ≤ length ts → IsAnswer (λ switch. switch) r (switch_from bytes before keyword name datapath (trees ts) rest) → of (grown name x (grown datapath y (grown list (trees ts) rest))) r
+  listed : (name datapath list : Token) (x y : Forest) (ts : List Term) (rest : Forest) (r : Result Switch NameFault) → 1 ≤ length ts
+      → IsAnswer (λ switch. switch) r (switch_from bytes before keyword name datapath (trees ts) rest)
+      → of (grown name x (grown datapath y (grown list (trees ts) rest))) r
   listed name datapath list x y [] rest r some answer = let no : ⊥ = omega (arith, some) in absurd no
   listed name datapath list x y (t ∷ ts) rest r some answer = answer
 
-  parted : (ts : List Term) (d e f : Term) → 3 ≤ length ts → 1 ≤ length (out-Term (get_or ts 2 f)).children.now → (r : Result Switch NameFault) → IsAnswer (λ switch. switch) r (switch_from bytes before keyword (head (get_or ts 0 d)) (head (get_or ts 1 e)) (below (get_or ts 2 f)) (trees (drop 3 ts))) → of (trees ts) r
+  parted : (ts : List Term) (d e f : Term) → 3 ≤ length ts → 1 ≤ length (out-Term (get_or ts 2 f)).children.now
+      → (r : Result Switch NameFault)
+      → IsAnswer (λ switch. switch) r (switch_from bytes before keyword (head (get_or ts 0 d)) (head (get_or ts 1 e))
+      (below (get_or ts 2 f)) (trees (drop 3 ts))) → of (trees ts) r
   parted [] d e f long some r answer = let no : ⊥ = omega (arith, long) in absurd no
   parted (a ∷ []) d e f long some r answer = let no : ⊥ = omega (arith, long) in absurd no
   parted (a ∷ b ∷ []) d e f long some r answer = let no : ⊥ = omega (arith, long) in absurd no
@@ -63,7 +71,12 @@ module _ (bytes : List ℕ) (before : Seen) (keyword : Token) where
       subst (λ g. of g r) (sym (three a b l rest)) (listed (head a) (head b) (head l) (below a) (below b) (out-Term l).children.now (trees rest) r some answer)
 
   -- all parts are there
-  pub all_parts : (ts : List Term) (d e f : Term) → 3 ≤ length ts → 1 ≤ length (out-Term (get_or ts 2 f)).children.now → (r : Result Switch NameFault) → IsAnswer (λ switch. switch) r (switch_from bytes before keyword (head (get_or ts 0 d)) (head (get_or ts 1 e)) (below (get_or ts 2 f)) (trees (take (length ts - 3) (drop 3 ts)))) → of (trees ts) r
+  pub all_parts : (ts : List Term) (d e f : Term) → 3 ≤ length ts → 1 ≤ length (out-Term (get_or ts 2 f)).children.now
+      → (r : Result Switch NameFault)
+      → IsAnswer (λ switch. switch) r (switch_from bytes before keyword (head (get_or ts 0 d)) (head (get_or ts 1 e))
+      (below (get_or ts 2 f)) (trees (take (length ts - 3) (drop 3 ts)))) → of (trees ts) r
   all_parts ts d e f long some r answer =
       let rest : take (length ts - 3) (drop 3 ts) ≡ drop 3 ts = take_rest ts 3 in
-      parted ts d e f long some r (subst (λ us. IsAnswer (λ switch. switch) r (switch_from bytes before keyword (head (get_or ts 0 d)) (head (get_or ts 1 e)) (below (get_or ts 2 f)) (trees us))) rest answer)
+      parted ts d e f long some r
+      (subst (λ us. IsAnswer (λ switch. switch) r (switch_from bytes before keyword (head (get_or ts 0 d)) (head (get_or ts 1 e))
+      (below (get_or ts 2 f)) (trees us))) rest answer)

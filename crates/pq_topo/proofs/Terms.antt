@@ -11,7 +11,8 @@ pub trees_first : (t : Term) (ts : List Term) → trees (t ∷ ts) ≡ grown (ou
 trees_first t ts = ap (λ (tree : Tree). grown tree.head tree.below (trees ts)) (tree_out t)
 
 -- the first term that is left, and the terms behind it
-pub trees_left : (ts : List Term) (i : ℕ) (d : Term) → i < length ts → trees (drop i ts) ≡ grown (out-Term (get_or ts i d)).head (trees (out-Term (get_or ts i d)).children.now) (trees (drop (i + 1) ts))
+pub trees_left : (ts : List Term) (i : ℕ) (d : Term) → i < length ts
+    → trees (drop i ts) ≡ grown (out-Term (get_or ts i d)).head (trees (out-Term (get_or ts i d)).children.now) (trees (drop (i + 1) ts))
 trees_left ts i d below =
     let split : trees (drop i ts) ≡ trees (get_or ts i d ∷ drop (suc i) ts) = ap trees (drop-cons ts i d below) in
     let first = trees_first (get_or ts i d) (drop (suc i) ts) in

@@ -103,7 +103,8 @@ switch_from bytes before keyword name datapath ports rest =
 
 -- the switch of a statement, after earlier ones: its name, its datapath number, its ports and its limit; what has other parts is no statement of a sentence
 abbrev pub switch_of : List ℕ → Seen → Token → Forest → Reading Switch
-switch_of bytes before keyword (grown name x (grown datapath y (grown list (grown port z ports) rest))) = switch_from bytes before keyword name datapath (grown port z ports) rest
+switch_of bytes before keyword (grown name x (grown datapath y (grown list (grown port z ports) rest))) =
+    switch_from bytes before keyword name datapath (grown port z ports) rest
 switch_of bytes before keyword _ = faulty keyword BadValue
 
 -- the statement begins with this keyword
@@ -139,7 +140,8 @@ abbrev pub end_of : List ℕ → List Switch → List (ℕ × ℕ) → Token →
 end_of bytes switches ends name port =
     next (switch_at bytes switches name) (λ d.
     let n = number_in bytes port in
-    unless port ((not (is_port (record { switches = switches; links = [] }) d n), UnknownPort) ∷ (list_any (λ e. is_end (d, n) e.0 e.1) ends, Doubled) ∷ []) (d, n))
+    unless port ((not (is_port (record { switches = switches; links = [] }) d n), UnknownPort) ∷
+    (list_any (λ e. is_end (d, n) e.0 e.1) ends, Doubled) ∷ []) (d, n))
 
 -- the link between two ends, each a name and a port, which are different and among no earlier ones
 abbrev pub link_from : List ℕ → List Switch → List (ℕ × ℕ) → Token → Token → Token → Token → Reading Link
@@ -156,7 +158,8 @@ link_of bytes switches ends keyword _ = faulty keyword BadValue
 abbrev pub links_after : List ℕ → List Switch → List Link → Forest → Reading (List Link)
 links_after bytes switches earlier nothing = Ok earlier
 links_after bytes switches earlier (grown head below rest) =
-    if begins_with bytes LinkWord head then next (link_of bytes switches (ends_of earlier) head below) (λ l. links_after bytes switches (earlier ++ l ∷ []) rest)
+    if begins_with bytes LinkWord head then next (link_of bytes switches (ends_of earlier) head below)
+    (λ l. links_after bytes switches (earlier ++ l ∷ []) rest)
     else links_after bytes switches earlier rest
 
 -- the same link, with the smaller end first

@@ -1,9 +1,15 @@
 -- The marks of an edit grow to one tree.
-use Rattle.std.proofs.Common.{◌≡◌, ℕ, zero, suc, ◌+◌, ◌-◌, ◌<◌, Bool, true, false, List, [], ◌∷◌, ◌++◌, length, take, drop, get_or, refl, sym, ◌∙◌, subst, inl, inr, true≢false, arith}
+use Rattle.std.proofs.Common.{◌≡◌, ℕ, zero, suc, ◌+◌, ◌-◌, ◌<◌, Bool, true, false, List, [], ◌∷◌, ◌++◌, length, take, drop, get_or, refl}
+use Rattle.std.proofs.Common.{sym, ◌∙◌, subst, inl, inr, true≢false, arith}
 use Rattle.pq_grammar.specs.declared.class.Class.{Class}
 use Rattle.pq_grammar.specs.declared.class.Class.TheVariants.{PartWord, QueryWord, RemoveWord}
 use Rattle.pq_grammar.specs.declared.sort.Sort.{Sort}
-use Rattle.pq_grammar.specs.declared.sort.Sort.TheVariants.{Document, Switches, PortsMore, LimitOption, Links, Parts, Queries, Edit, Removed, Pred, PredTail, PredMore, Conj, ConjTail, ConjMore, Literal, Test, Field, Value, Policy, PolicyTail, PolicyMore, Steps, StepsTail, StepsMore, Step, Paths, PathsTail, PathsMore, Both, BothTail, BothMore, Chain, ChainTail, ChainMore, Negation, StarOption, Atom, Groups, GroupsOption, GroupsMore, Group, ValuesOption, ValuesMore}
+use Rattle.pq_grammar.specs.declared.sort.Sort.TheVariants.{Document, Switches, PortsMore, LimitOption, Links, Parts, Queries, Edit}
+use Rattle.pq_grammar.specs.declared.sort.Sort.TheVariants.{Removed, Pred, PredTail, PredMore, Conj, ConjTail, ConjMore, Literal, Test}
+use Rattle.pq_grammar.specs.declared.sort.Sort.TheVariants.{Field, Value, Policy, PolicyTail, PolicyMore, Steps, StepsTail, StepsMore, Step}
+use Rattle.pq_grammar.specs.declared.sort.Sort.TheVariants.{Paths, PathsTail, PathsMore, Both, BothTail, BothMore, Chain, ChainTail}
+use Rattle.pq_grammar.specs.declared.sort.Sort.TheVariants.{ChainMore, Negation, StarOption, Atom, Groups, GroupsOption, GroupsMore, Group}
+use Rattle.pq_grammar.specs.declared.sort.Sort.TheVariants.{ValuesOption, ValuesMore}
 use Rattle.pq_grammar.specs.declared.symbol.Role.{Role}
 use Rattle.pq_grammar.specs.declared.symbol.Role.TheVariants.{Leaf, Spelled, Head, Lead}
 use Rattle.pq_grammar.specs.declared.symbol.Symbol.{Symbol}
@@ -134,26 +140,33 @@ alone_close [] ts below = absurd below
 alone_close (o ∷ os) ts below = subst (λ n. IsAlone (forest (take n ts ++ record { head = o.head; below = forest (drop n ts) } ∷ []))) (sym below) tt
 
 -- what the symbols derive ends the tree
-alone : (n : ℕ) (ss : List Symbol) (k depth : ℕ) (ms : List Mark) (g : Growth) → Derives n ss depth ms → ends ss k ≡ true → IsBelow k g.opened → IsAlone (forest (grow ms g).finished)
+alone : (n : ℕ) (ss : List Symbol) (k depth : ℕ) (ms : List Mark) (g : Growth) → Derives n ss depth ms → ends ss k ≡ true
+    → IsBelow k g.opened → IsAlone (forest (grow ms g).finished)
 alone n [] k depth ms g derived last below = absurd (true≢false (sym last))
 alone zero (s ∷ ss) k depth ms g derived last below = absurd derived
 alone (suc n) (Token role class ∷ ss) k depth ms g (x, rest, is, has_class, derived) last below =
-    subst (λ ns. IsAlone (forest (grow ns g).finished)) (sym is) (alone n ss (with_role role k) depth rest (step (TokenMark role x depth) g) derived last (below_token role x depth k g below))
+    subst (λ ns. IsAlone (forest (grow ns g).finished)) (sym is)
+    (alone n ss (with_role role k) depth rest (step (TokenMark role x depth) g) derived last (below_token role x depth k g below))
 alone (suc n) (Opening role class ∷ ss) k depth ms g (x, rest, is, has_class, derived) last below =
-    subst (λ ns. IsAlone (forest (grow ns g).finished)) (sym is) (alone n ss (with_role role k) (depth + 1) rest (step (TokenMark role x (depth + 1)) g) derived last (below_token role x (depth + 1) k g below))
+    subst (λ ns. IsAlone (forest (grow ns g).finished)) (sym is)
+    (alone n ss (with_role role k) (depth + 1) rest (step (TokenMark role x (depth + 1)) g) derived last
+    (below_token role x (depth + 1) k g below))
 alone (suc n) (Leave ∷ ss) k depth ms g derived last below = alone n ss k (depth - 1) ms g derived last below
 alone (suc n) (Close ∷ []) zero depth ms g (rest, is, derived) last below =
-    subst (λ ns. IsAlone (forest (grow ns g).finished)) (sym is) (subst (λ ns. IsAlone (forest (grow ns (step CloseMark g)).finished)) (sym derived) (alone_close g.opened g.finished below))
+    subst (λ ns. IsAlone (forest (grow ns g).finished)) (sym is)
+    (subst (λ ns. IsAlone (forest (grow ns (step CloseMark g)).finished)) (sym derived) (alone_close g.opened g.finished below))
 alone (suc n) (Close ∷ s ∷ ss) zero depth ms g derived last below = absurd (true≢false (sym last))
 alone (suc n) (Close ∷ ss) (suc k) depth ms g (rest, is, derived) last below =
-    subst (λ ns. IsAlone (forest (grow ns g).finished)) (sym is) (alone n ss k depth rest (step CloseMark g) derived last (below_close k g.opened g.finished below))
+    subst (λ ns. IsAlone (forest (grow ns g).finished)) (sym is)
+    (alone n ss k depth rest (step CloseMark g) derived last (below_close k g.opened g.finished below))
 alone (suc n) (Part sort ∷ ss) k depth ms g (a, among, derived) last below =
     alone n (a ++ ss) k depth ms g derived (even_one sort (alternatives sort) a (even sort) among ss k ∙ last) below
 
 -- a head begins the tree, and the other symbols end it
 begins : (n : ℕ) (class : Class) (ss : List Symbol) (ms : List Mark) → Derives n (Token Head class ∷ ss) 0 ms → ends ss zero ≡ true → IsAlone (forest_of ms)
 begins zero class ss ms derived last = absurd derived
-begins (suc n) class ss ms (x, rest, is, has_class, derived) last = subst (λ ns. IsAlone (forest_of ns)) (sym is) (alone n ss zero 0 rest (with_head x.token 0 bare) derived last refl)
+begins (suc n) class ss ms (x, rest, is, has_class, derived) last =
+    subst (λ ns. IsAlone (forest_of ns)) (sym is) (alone n ss zero 0 rest (with_head x.token 0 bare) derived last refl)
 
 -- so it is with each alternative of an edit
 one_edit : (n : ℕ) (ms : List Mark) → Derives n (Part Edit ∷ []) 0 ms → IsAlone (forest_of ms)

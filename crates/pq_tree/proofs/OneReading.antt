@@ -43,17 +43,22 @@ one_place bytes i j first second = ap place_in ((one_division bytes 0 first.0 se
 pub one_forest : (start : Sort) (bytes : List ℕ) (f g : Forest) → IsForestOf start bytes f → IsForestOf start bytes g → f ≡ g
 one_forest start bytes f g first second =
     let same : first.tokens ≡ second.tokens = same_tokens bytes first.tokens second.tokens first.divided second.divided in
-    first.grown ∙ ap forest_of (one_sentence start (lexemes bytes second.tokens) first.marks second.marks (subst (λ ts. IsSentence start (lexemes bytes ts) first.marks) same first.sentence) second.sentence) ∙ sym second.grown
+    first.grown ∙ ap forest_of
+    (one_sentence start (lexemes bytes second.tokens) first.marks second.marks
+    (subst (λ ts. IsSentence start (lexemes bytes ts) first.marks) same first.sentence) second.sentence) ∙ sym second.grown
 
 -- its tokens have one fault
 one_byte : (start : Sort) (bytes : List ℕ) (i j : ℕ) → IsSyntaxFault start bytes i → IsSyntaxFault start bytes j → i ≡ j
 one_byte start bytes i j first second =
     let same : first.tokens ≡ second.tokens = same_tokens bytes first.tokens second.tokens first.divided second.divided in
-    let place : first.place ≡ second.place = one_fault start (lexemes bytes second.tokens) first.place second.place (subst (λ ts. IsFirstFault start (lexemes bytes ts) first.place) same first.fault) second.fault in
-    first.begins ∙ ap (λ ts. first_byte (length bytes) (drop first.place ts)) same ∙ ap (λ k. first_byte (length bytes) (drop k second.tokens)) place ∙ sym second.begins
+    let place : first.place ≡ second.place = one_fault start (lexemes bytes second.tokens) first.place second.place
+    (subst (λ ts. IsFirstFault start (lexemes bytes ts) first.place) same first.fault) second.fault in
+    first.begins ∙ ap (λ ts. first_byte (length bytes) (drop first.place ts)) same
+    ∙ ap (λ k. first_byte (length bytes) (drop k second.tokens)) place ∙ sym second.begins
 
 -- the text has one fault, want of memory aside
-pub one_text_fault : (start : Sort) (bytes : List ℕ) (d e : TermFault) → IsTextFault start bytes d → IsTextFault start bytes e → (d ≡ Memory → ⊥) → (e ≡ Memory → ⊥) → d ≡ e
+pub one_text_fault : (start : Sort) (bytes : List ℕ) (d e : TermFault) → IsTextFault start bytes d → IsTextFault start bytes e
+    → (d ≡ Memory → ⊥) → (e ≡ Memory → ⊥) → d ≡ e
 one_text_fault start bytes (Lex i) (Lex j) first second some other = ap Lex (one_place bytes i j first second)
 one_text_fault start bytes (Lex i) (Syntax j) first second some other = absurd (no_other bytes second.tokens i second.divided first)
 one_text_fault start bytes (Syntax i) (Lex j) first second some other = absurd (no_other bytes first.tokens j first.divided second)
@@ -67,5 +72,6 @@ pub no_text_fault : (start : Sort) (bytes : List ℕ) (f : Forest) (e : TermFaul
 no_text_fault start bytes f (Lex i) whole fault = absurd (no_other bytes whole.tokens i whole.divided fault)
 no_text_fault start bytes f (Syntax i) whole fault =
     let same : whole.tokens ≡ fault.tokens = same_tokens bytes whole.tokens fault.tokens whole.divided fault.divided in
-    absurd (no_fault start (lexemes bytes fault.tokens) fault.place whole.marks fault.fault (subst (λ ts. IsSentence start (lexemes bytes ts) whole.marks) same whole.sentence))
+    absurd (no_fault start (lexemes bytes fault.tokens) fault.place whole.marks fault.fault
+    (subst (λ ts. IsSentence start (lexemes bytes ts) whole.marks) same whole.sentence))
 no_text_fault start bytes f Memory whole fault = refl

@@ -39,7 +39,11 @@ semicolon = record { kind = Symbol; at = 21; len = 1 }
 
 -- its marks
 abbrev marks : List Mark
-marks = TokenMark Head (record { class = PartWord; token = keyword }) 0 ∷ TokenMark Leaf (record { class = Name; token = name }) 0 ∷ TokenMark Spelled (record { class = Equals; token = equals }) 0 ∷ TokenMark Leaf (record { class = DropWord; token = left }) 0 ∷ TokenMark Lead (record { class = Plus; token = plus }) 0 ∷ TokenMark Leaf (record { class = FloodWord; token = right }) 0 ∷ CloseMark ∷ TokenMark Spelled (record { class = Semicolon; token = semicolon }) 0 ∷ CloseMark ∷ []
+marks = TokenMark Head (record { class = PartWord; token = keyword }) 0 ∷ TokenMark Leaf
+    (record { class = Name; token = name }) 0 ∷ TokenMark Spelled (record { class = Equals; token = equals }) 0 ∷ TokenMark Leaf
+    (record { class = DropWord; token = left }) 0 ∷ TokenMark Lead (record { class = Plus; token = plus }) 0 ∷ TokenMark Leaf
+    (record { class = FloodWord; token = right }) 0 ∷ CloseMark ∷ TokenMark Spelled
+    (record { class = Semicolon; token = semicolon }) 0 ∷ CloseMark ∷ []
 
 -- its trees: a part with its name and a sum of two
 abbrev trees : Forest
@@ -52,7 +56,94 @@ worked = record {
   marks = marks;
   divided = (refl, (refl, (refl, (refl, (refl, (refl, (refl, refl)))))));
   sentence = record {
-    derived = (24, (_, inl refl, (_, inl refl, (_, inl refl, (_, inr (inl refl), (_, _, refl, refl, (_, _, refl, refl, (_, _, refl, refl, (_, inl refl, (_, inl refl, (_, inr (inl refl), (_, _, refl, refl, (_, inl refl, (_, inr (inl refl), (_, _, refl, refl, (_, inl refl, (_, inr (inr (inl refl)), (_, _, refl, refl, (_, inl refl, (_, inl refl, (_, refl, (_, _, refl, refl, (_, refl, (_, inl refl, (_, inl refl, refl)))))))))))))))))))))))));
+    derived = (
+      24,
+      (
+        _,
+        inl refl,
+        (
+          _,
+          inl refl,
+          (
+            _,
+            inl refl,
+            (
+              _,
+              inr (inl refl),
+              (
+                _,
+                _,
+                refl,
+                refl,
+                (
+                  _,
+                  _,
+                  refl,
+                  refl,
+                  (
+                    _,
+                    _,
+                    refl,
+                    refl,
+                    (
+                      _,
+                      inl refl,
+                      (
+                        _,
+                        inl refl,
+                        (
+                          _,
+                          inr (inl refl),
+                          (
+                            _,
+                            _,
+                            refl,
+                            refl,
+                            (
+                              _,
+                              inl refl,
+                              (
+                                _,
+                                inr (inl refl),
+                                (
+                                  _,
+                                  _,
+                                  refl,
+                                  refl,
+                                  (
+                                    _,
+                                    inl refl,
+                                    (
+                                      _,
+                                      inr (inr (inl refl)),
+                                      (
+                                        _,
+                                        _,
+                                        refl,
+                                        refl,
+                                        (
+                                          _,
+                                          inl refl,
+                                          (_, inl refl, (_, refl, (_, _, refl, refl, (_, refl, (_, inl refl, (_, inl refl, refl)))))),
+                                        ),
+                                      ),
+                                    ),
+                                  ),
+                                ),
+                              ),
+                            ),
+                          ),
+                        ),
+                      ),
+                    ),
+                  ),
+                ),
+              ),
+            ),
+          ),
+        ),
+      ),
+    );
     spelled = refl;
     shallow = (omega arith, (omega arith, (omega arith, (omega arith, (omega arith, (omega arith, (omega arith, tt)))))));
   };

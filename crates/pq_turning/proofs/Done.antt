@@ -24,7 +24,8 @@ written (Group g ∷ ms) = ([], ms, refl, tt, written ms)
 written (Barrier xid ∷ ms) = ([], ms, refl, refl, written ms)
 
 -- after the install's messages a switch sends as it did
-sends_again : (b : Bool) (ms : List Message) → Found b ms → (t : Tables) → (b ≡ true → AreSame (applies_all no_tables ms) t) → (x : TaggedPacket) → sends (applies_all t ms) x ≡ sends t x
+sends_again : (b : Bool) (ms : List Message) → Found b ms → (t : Tables) → (b ≡ true → AreSame (applies_all no_tables ms) t)
+    → (x : TaggedPacket) → sends (applies_all t ms) x ≡ sends t x
 sends_again true ms r t same x =
     ap (λ u. sends u x) (leaves ms r t)
     ∙ sends-same (renewed r.renewal) t (subst (λ u. AreSame u t) (leaves ms r no_tables) (same refl)) r.numbered.renewing.priorities x
@@ -46,7 +47,8 @@ module _ (d : DocumentTree) (i : Install) (h : IsInstalled d i) (tables : ℕ �
       (h.implements m meaning tables (messages_of i) (λ n. written (messages_of i n)) events fits)
 
 -- the current install is that of the current document
-current : (d : DocumentTree) (i : Install) (es : List AcceptedEdit) → IsInstalled d i → AreEdits d.topology i es → IsInstalled (current_document d es) (current_install i es)
+current : (d : DocumentTree) (i : Install) (es : List AcceptedEdit) → IsInstalled d i → AreEdits d.topology i es
+    → IsInstalled (current_document d es) (current_install i es)
 current d i [] h all = h
 current d i (e ∷ es) h all = current e.document e.install es all.0.installed (subst (λ T. AreEdits T e.install es) (sym all.0.topology) all.1)
 

@@ -28,7 +28,8 @@ with-other : (d n : ℕ) → (d == n) ≡ false → (ms : List Message) (rest : 
 with-other d n other [] rest = refl
 with-other d n other (m ∷ ms) rest = ap (λ b. if b then m ∷ ms else listed_for rest n) other
 
-with-own : (d n : ℕ) → (d == n) ≡ true → (ms : List Message) (rest : List (ℕ × List Message)) → listed_for rest n ≡ [] → listed_for (with_switch d ms rest) n ≡ ms
+with-own : (d n : ℕ) → (d == n) ≡ true → (ms : List Message) (rest : List (ℕ × List Message)) → listed_for rest n ≡ []
+    → listed_for (with_switch d ms rest) n ≡ ms
 with-own d n own [] rest none = none
 with-own d n own (m ∷ ms) rest none = ap (λ b. if b then m ∷ ms else listed_for rest n) own
 

@@ -3,7 +3,8 @@ use Rattle.std.proofs.Common.{◌≡◌, ◌≤◌, ℕ, suc, Bool, true, false,
 use Rattle.std.specs.declared.option.Option.{Option}
 use Rattle.std.proofs.lemmas.List.{length-map}
 use Rattle.std.specs.List.{filter, filter_map}
-use Rattle.pq_layout.specs.Messages.{ArrivingTrees, Buckets, LeavingTrees, each_once, group_needed, groups_from, groups_of, leaving_entries, renewal_of, same_buckets, second_rule}
+use Rattle.pq_layout.specs.Messages.{ArrivingTrees, Buckets, LeavingTrees, each_once, group_needed, groups_from, groups_of, leaving_entries}
+use Rattle.pq_layout.specs.Messages.{renewal_of, same_buckets, second_rule}
 use Rattle.pq_lookup.specs.Sent.{AreFilled}
 use Rattle.pq_lookup.proofs.Renewed.{renewing}
 use Rattle.pq_delta.specs.Turning.{IsNumberedRenewal, numbers_from}

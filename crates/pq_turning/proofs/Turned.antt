@@ -63,7 +63,8 @@ pub leaves : (ms : List Message) (r : Renews ms) (t : Tables) → applies_all t 
 leaves ms r t = ap (applies_all t) r.messages ∙ renewal-leaves r.renewal r.numbered.renewing t
 
 -- what processing them in any lawful order leaves
-installed-same : (b : Bool) (ms : List Message) → Found b ms → b ≡ true → (t : Tables) (order : List Message) → IsLawfulOrder ms order → AreSame (applies_all no_tables ms) (applies_all t order)
+installed-same : (b : Bool) (ms : List Message) → Found b ms → b ≡ true → (t : Tables) (order : List Message) → IsLawfulOrder ms order
+    → AreSame (applies_all no_tables ms) (applies_all t order)
 installed-same true ms r is t order lawful =
     subst (λ s. AreSame s (applies_all t order)) (sym (leaves ms r no_tables))
     (renewal-same r.renewal r.numbered.renewing t order (subst (λ l. IsLawfulOrder l order) r.messages lawful))
@@ -74,7 +75,8 @@ pub delta-listed : (d e : DocumentTree) (i j : Install) → IsInstalled d i → 
     → (n : ℕ) → listed_for (delta i j) n ≡ switch_delta (messages_of i n) (messages_of j n)
 delta-listed d e i j h k same n =
     (λ u. listed_for (deltas (to_old u).switches i.messages j.messages) n)
-    ∙ listed (FilledFor d i h) (FilledFor e j k) d.topology.switches i.messages j.messages (subst (λ T. Ascends (map (λ s. s.datapath) T.switches)) (same_topology d i h) h.lawful.topology.ascending)
+    ∙ listed (FilledFor d i h) (FilledFor e j k) d.topology.switches i.messages j.messages
+    (subst (λ T. Ascends (map (λ s. s.datapath) T.switches)) (same_topology d i h) h.lawful.topology.ascending)
     h.filled (subst (λ T. AllZip (FilledFor e j k) T.switches j.messages) (sym same) k.filled) n
     ∙ (λ u. switch_delta (messages_in (sym (same_topology d i h) u).switches i.messages n) (messages_in (sym to_old u).switches j.messages n))
   where
@@ -110,7 +112,9 @@ module _ (turn : DeltasTurn) where
       (same n (ap (λ T. is_switch T n) (same_topology d i h ∙ sym all.0.topology ∙ sym (same_topology e.document e.install all.0.installed)) ∙ there))
       (subst (λ l. IsLawfulOrder l (e.orders n)) (delta-listed d e.document i e.install h all.0.installed (sym all.0.topology) n) (all.0.orders n)))
 
-pub first-tables : (d : DocumentTree) (i : Install) → IsInstalled d i → (before : ℕ → Tables) (order : ℕ → List Message) → ((n : ℕ) → IsLawfulOrder (messages_of i n) (order n))
+pub first-tables : (d : DocumentTree) (i : Install) → IsInstalled d i → (before : ℕ → Tables) (order : ℕ → List Message)
+    → ((n : ℕ) → IsLawfulOrder (messages_of i n) (order n))
     → AreTablesOf i (installed before order)
 first-tables d i h before order lawful n there =
-    installed-same (is_switch d.topology n) (messages_of i n) (found d i h n) (ap (λ T. is_switch T n) (sym (same_topology d i h)) ∙ there) (before n) (order n) (lawful n)
+    installed-same (is_switch d.topology n) (messages_of i n) (found d i h n) (ap (λ T. is_switch T n) (sym (same_topology d i h))
+    ∙ there) (before n) (order n) (lawful n)

@@ -1,5 +1,6 @@
 -- As many numbers of a field are known as different ones are stated for it.
-use Rattle.std.proofs.Common.{◌≡◌, ◌⊎◌, ℕ, ◌+◌, ◌==◌, Bool, true, false, ◌||◌, ◌&&◌, if◌then◌else◌, List, [], ◌∷◌, ◌++◌, map, length, refl, sym, ap, ◌∙◌, arith, append_assoc, append-nil, inl, inr}
+use Rattle.std.proofs.Common.{◌≡◌, ◌⊎◌, ℕ, ◌+◌, ◌==◌, Bool, true, false, ◌||◌, ◌&&◌, if◌then◌else◌, List, [], ◌∷◌, ◌++◌, map, length, refl}
+use Rattle.std.proofs.Common.{sym, ap, ◌∙◌, arith, append_assoc, append-nil, inl, inr}
 use Rattle.std.specs.List.{filter, list_any}
 use Rattle.std.proofs.lemmas.Bool.Decides.{eqb_tells, nat_tests}
 use Rattle.std.proofs.lemmas.List.{length-append, map-append}
@@ -55,7 +56,8 @@ last_first (k ∷ ks) n =
     swapped false false m = refl
 
     by : (((n == k) ≡ true) × (n ≡ k)) ⊎ (((n == k) ≡ false) × (n ≡ k → ⊥))
-        → one_more ((n == k) || has ks k) (one_more (has ks n) (length (ascending ks))) ≡ one_more ((k == n) || has ks n) (one_more (has ks k) (length (ascending ks)))
+        → one_more ((n == k) || has ks k) (one_more (has ks n) (length (ascending ks))) ≡ one_more ((k == n) || has ks n)
+        (one_more (has ks k) (length (ascending ks)))
     by (inl same) =
         let back : (k == n) ≡ true = grind (arith, nat_tests, same.1) in
         rw (same.0, back) (ap (λ m. one_more (has ks m) (length (ascending ks))) same.1)
@@ -69,7 +71,8 @@ number_counts n ks all = by (has ks n) refl
     by : (b : Bool) → has ks n ≡ b → AllCount (if b then ks else ks ++ n ∷ [])
     by true known = all
     by false new =
-        let counted : length (ascending (ks ++ n ∷ [])) ≡ length (ascending ks) + 1 = last_first ks n ∙ (length_ascending n ks ∙ ap (λ b. one_more b (length (ascending ks))) new) in
+        let counted : length (ascending (ks ++ n ∷ [])) ≡ length (ascending ks) + 1 = last_first ks n
+        ∙ (length_ascending n ks ∙ ap (λ b. one_more b (length (ascending ks))) new) in
         let longer : length (ks ++ n ∷ []) ≡ length ks + 1 = length-append ks (n ∷ []) in
         counted ∙ (ap (λ k. k + 1) all ∙ sym longer)
 
@@ -94,7 +97,8 @@ pub itself : (n : ℕ) → (n == n) ≡ true
 itself n = grind (arith, nat_tests)
 
 pub numbers_append : (f : Field) (ss ts : List Stated) → numbers_for f (ss ++ ts) ≡ numbers_for f ss ++ numbers_for f ts
-numbers_append f ss ts = ap (map (λ s. s.1)) (filter-append (λ s. is_field f s.0) ss ts) ∙ map-append (λ s. s.1) (filter (λ s. is_field f s.0) ss) (filter (λ s. is_field f s.0) ts)
+numbers_append f ss ts = ap (map (λ s. s.1)) (filter-append (λ s. is_field f s.0) ss ts)
+    ∙ map-append (λ s. s.1) (filter (λ s. is_field f s.0) ss) (filter (λ s. is_field f s.0) ts)
 
 -- a number of the field is known where it is one of the field's known numbers
 same_known : (f : Field) (n : ℕ) (known : List Stated) → list_any (is_same (f, n)) known ≡ has (numbers_for f known) n
@@ -102,7 +106,8 @@ same_known f n [] = refl
 same_known f n (s ∷ known) = by (is_field f s.0) (same_known f n known)
   where
     by : (b : Bool) → list_any (is_same (f, n)) known ≡ has (numbers_for f known) n
-        → ((b && (n == s.1)) || list_any (is_same (f, n)) known) ≡ has (map (λ t. t.1) (if b then s ∷ filter (λ t. is_field f t.0) known else filter (λ t. is_field f t.0) known)) n
+        → ((b && (n == s.1)) || list_any (is_same (f, n)) known)
+        ≡ has (map (λ t. t.1) (if b then s ∷ filter (λ t. is_field f t.0) known else filter (λ t. is_field f t.0) known)) n
     by true later = rw (equal-comm n s.1, later) refl
     by false later = later
 
@@ -142,4 +147,5 @@ numbers_gathered f ((g, n) ∷ ss) known = numbers_gathered f ss (with_one (g, n
 
 -- so a field has as many known numbers as different ones are stated
 pub known_counted : (ss : List Stated) (f : Field) → known_count (with_all ss []) f ≡ count_for f ss
-known_counted ss f = ap length (numbers_gathered f ss []) ∙ (all_counted (numbers_for f ss) [] refl ∙ ap (λ ns. length (ascending ns)) (append-nil (numbers_for f ss)))
+known_counted ss f = ap length (numbers_gathered f ss [])
+    ∙ (all_counted (numbers_for f ss) [] refl ∙ ap (λ ns. length (ascending ns)) (append-nil (numbers_for f ss)))

@@ -9,12 +9,15 @@ use Rattle.pq_fields.specs.Pred.{PredTop, Preds, PredTree, preds}
 use Rattle.pq_fields.specs.Pred.PredTop.{Always, Never, Equals, Leads, LeadsWide, Every, Some as AnyOf, Negated}
 use Rattle.pq_fields.specs.Pred.Preds.{none as no_preds, put as add_pred}
 use Rattle.pq_model.specs.Topology.{Switch, Topology}
-use Rattle.pq_policy.specs.Policy.{PolicyTop, Pass, Discard, Spread, Only, Write, Forward, Choose, Either, InTurn, Policies, none as no_policies, put as add_policy, PolicyTree, policies}
+use Rattle.pq_policy.specs.Policy.{PolicyTop, Pass, Discard, Spread, Only, Write, Forward, Choose, Either, InTurn, Policies}
+use Rattle.pq_policy.specs.Policy.{none as no_policies, put as add_policy, PolicyTree, policies}
 use Rattle.pq_query.specs.Groups.{Group}
-use Rattle.pq_query.specs.Query.{QueryTop, Enters, Leaves, Passes, Ends, InTurn as Joined, Either as AnyQuery, Both, Other, Repeated, Queries, none as no_queries, put as add_query, QueryTree, queries}
+use Rattle.pq_query.specs.Query.{QueryTop, Enters, Leaves, Passes, Ends, InTurn as Joined, Either as AnyQuery, Both, Other, Repeated}
+use Rattle.pq_query.specs.Query.{Queries, none as no_queries, put as add_query, QueryTree, queries}
 use Rattle.pq_values.specs.Known.{with_each, with_group, with_numbers, with_one, with_policies, with_policy, with_policy_top}
 use Rattle.pq_values.specs.Known.{with_pred_top, with_preds, with_queries, with_query, with_query_top, with_side, with_switch}
-use Rattle.pq_values.specs.Stated.{Stated, in_group, in_groups, in_policies, in_policy, in_policy_top, in_pred, in_pred_top, in_preds, in_queries, in_query, in_query_top, stated, stated_for}
+use Rattle.pq_values.specs.Stated.{Stated, in_group, in_groups, in_policies, in_policy, in_policy_top, in_pred, in_pred_top, in_preds}
+use Rattle.pq_values.specs.Stated.{in_queries, in_query, in_query_top, stated, stated_for}
 
 -- all of these numbers are added, one after another
 abbrev pub with_all : List Stated → List Stated → List Stated
@@ -30,7 +33,8 @@ three : (rs ss ts known : List Stated) → with_all (rs ++ (ss ++ ts)) known ≡
 three rs ss ts known = both rs (ss ++ ts) known ∙ both ss ts (with_all rs known)
 
 -- steps that add numbers add all of them
-each_known : {A : Type 0} (step : A → List Stated → List Stated) (adds : A → List Stated) → ((x : A) (known : List Stated) → step x known ≡ with_all (adds x) known)
+each_known : {A : Type 0} (step : A → List Stated → List Stated) (adds : A → List Stated)
+    → ((x : A) (known : List Stated) → step x known ≡ with_all (adds x) known)
     → (xs : List A) (known : List Stated) → with_each step xs known ≡ with_all (flat_map adds xs) known
 each_known step adds is [] known = refl
 each_known step adds is (x ∷ xs) known =
@@ -93,7 +97,8 @@ policy_known p known = policies_known (policies (p ∷ [])) known
 group_known : (g : Group) (known : List Stated) → with_group g known ≡ with_all (in_group g) known
 group_known g known = by g.values
   where
-    by : (vs : Option (List ℕ)) → with_group (record { field = g.field; values = vs }) known ≡ with_all (in_group (record { field = g.field; values = vs })) known
+    by : (vs : Option (List ℕ))
+        → with_group (record { field = g.field; values = vs }) known ≡ with_all (in_group (record { field = g.field; values = vs })) known
     by (Some ns) = numbers_known g.field ns known
     by None = refl
 
@@ -149,7 +154,8 @@ pub all_gathered : (T : Topology) (ps : List PolicyTree) (qs : List QueryTree)
 all_gathered T ps qs =
     let ports = stated_for Port (flat_map (λ s. s.ports) T.switches) in
     let parts : with_each with_policy ps (with_each with_switch T.switches []) ≡ with_all (flat_map in_policy ps) (with_all ports []) =
-    each_known with_policy in_policy policy_known ps (with_each with_switch T.switches []) ∙ ap (with_all (flat_map in_policy ps)) (switches_known T.switches []) in
+    each_known with_policy in_policy policy_known ps (with_each with_switch T.switches [])
+    ∙ ap (with_all (flat_map in_policy ps)) (switches_known T.switches []) in
     each_known with_query in_query query_known qs (with_each with_policy ps (with_each with_switch T.switches []))
     ∙ (ap (with_all (flat_map in_query qs)) parts
     ∙ sym (three ports (flat_map in_policy ps) (flat_map in_query qs) []))

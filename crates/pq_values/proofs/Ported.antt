@@ -6,7 +6,8 @@ use Rattle.std.proofs.lemmas.Bool.{true≢false, and_parts}
 use Rattle.std.proofs.lemmas.Bool.Decides.{eqb_tells, nat_tests}
 use Rattle.std.proofs.lemmas.List.Elements.{All-contains_itself, All-weaker}
 use Rattle.pq_fields.specs.declared.field.Field.{Field}
-use Rattle.pq_fields.specs.declared.field.Field.TheVariants.{Switch, Port, EthType, IpProto, EthSrc, EthDst, Ipv4Src, Ipv4Dst, TcpSrc, TcpDst, UdpSrc, UdpDst, Ipv6Src, Ipv6Dst}
+use Rattle.pq_fields.specs.declared.field.Field.TheVariants.{Switch, Port, EthType, IpProto, EthSrc, EthDst, Ipv4Src, Ipv4Dst, TcpSrc}
+use Rattle.pq_fields.specs.declared.field.Field.TheVariants.{TcpDst, UdpSrc, UdpDst, Ipv6Src, Ipv6Dst}
 use Rattle.pq_fields.specs.Packet.{Numbers, Fit}
 use Rattle.pq_fields.specs.Writes.{Written}
 use Rattle.pq_model.specs.MatchFields.{IsPortNumber}
@@ -25,7 +26,8 @@ use Rattle.pq_classes.specs.Room.{IsQueryWithin}
 use Rattle.pq_values.specs.Ports.{HasPorts, TestsPortsOrNone, TestsQueries}
 use Rattle.pq_values.specs.Room.{AreOver}
 use Rattle.pq_values.specs.Stated.{Stated, stated}
-use Rattle.pq_values.proofs.Rooms.{Covers, among, behind, datapaths_in, dropped_in, first, ipv4_in, ipv6_in, numbers_cover, numbers_in, policies_in, queries_in, tcp_in, topology_in, udp_in}
+use Rattle.pq_values.proofs.Rooms.{Covers, among, behind, datapaths_in, dropped_in, first, ipv4_in, ipv6_in, numbers_cover, numbers_in}
+use Rattle.pq_values.proofs.Rooms.{policies_in, queries_in, tcp_in, topology_in, udp_in}
 
 -- a number among these is one that the list has
 had : (ks : List ℕ) (n : ℕ) → IsAmong n ks → has ks n ≡ true
@@ -54,7 +56,8 @@ module _ (keep : ℕ → Bool) where
   only_kept [] n found = absurd (true≢false (sym found))
   only_kept (k ∷ ks) n found = by (keep k) refl found (only_kept ks n)
     where
-      by : (b : Bool) → keep k ≡ b → has (cond b (k ∷ filter keep ks) (filter keep ks)) n ≡ true → (has (filter keep ks) n ≡ true → keep n ≡ true) → keep n ≡ true
+      by : (b : Bool) → keep k ≡ b → has (cond b (k ∷ filter keep ks) (filter keep ks)) n ≡ true
+          → (has (filter keep ks) n ≡ true → keep n ≡ true) → keep n ≡ true
       by true is stayed later = elim (eqb_tells k n) [
         | inl same ↦ ap keep (sym same.1) ∙ is
         | inr other ↦ later (sym (ap (λ b. b || has (filter keep ks) n) other.0) ∙ stayed)
@@ -81,7 +84,8 @@ module _ (keep : ℕ → Bool) where
   -- what is stated is among them, where numbers of ports are kept
   sifted_cover : ((n : ℕ) → IsPortNumber n → keep n ≡ true) → (T : Topology) (ns : Field → List ℕ) (ss : List Stated) → Covers T ns ss → Covers T (sifted ns) ss
   sifted_cover keeps T ns ss covers Switch n found may whole = covers Switch n found may whole
-  sifted_cover keeps T ns ss covers Port n found may whole = among (filter keep (ns Port)) n (stays (ns Port) n (keeps n may) (had (ns Port) n (covers Port n found may whole)))
+  sifted_cover keeps T ns ss covers Port n found may whole =
+      among (filter keep (ns Port)) n (stays (ns Port) n (keeps n may) (had (ns Port) n (covers Port n found may whole)))
   sifted_cover keeps T ns ss covers EthType n found may whole = covers EthType n found may whole
   sifted_cover keeps T ns ss covers IpProto n found may whole = covers IpProto n found may whole
   sifted_cover keeps T ns ss covers EthSrc n found may whole = covers EthSrc n found may whole
@@ -184,11 +188,13 @@ has_ports T ps over t cover = record { tests = tests; writes = writes; written =
     one x fit w (k, within, at) (Some n) is = writes n (x, fit, (k, w, within, at, is))
 
     written : (x : Numbers) → Fit x → All (λ w. IfSome w.port IsPortNumber) (value t x)
-    written x fit = All-weaker (Contains (value t x)) (λ w. IfSome w.port IsPortNumber) (λ w there. one x fit w there w.port refl) (value t x) (All-contains_itself (value t x))
+    written x fit = All-weaker (Contains (value t x)) (λ w. IfSome w.port IsPortNumber) (λ w there. one x fit w there w.port refl)
+        (value t x) (All-contains_itself (value t x))
 
 -- and one that tests only what queries state has only those and port 0
 pub tests_ports : (T : Topology) (qs : List QueryTree) → AreOver T [] qs → (t : Tree ℕ) → TestsQueries T qs t → TestsPortsOrNone t
 tests_ports T qs over t only v tested =
     let own : Within (kept is_port_or_none port_kept_too T [] qs over) t =
-    only (kept is_port_or_none port_kept_too T [] qs over) (dropped_kept is_port_or_none port_kept_too T [] qs over refl) (queries_kept is_port_or_none port_kept_too T [] qs over) in
+    only (kept is_port_or_none port_kept_too T [] qs over) (dropped_kept is_port_or_none port_kept_too T [] qs over refl)
+    (queries_kept is_port_or_none port_kept_too T [] qs over) in
     port_or_none v (port_kept is_port_or_none port_kept_too T [] qs over v (own Port v tested))

@@ -1,5 +1,6 @@
 -- Where no field is above its limit, there is room for all numbers of a document.
-use Rattle.std.proofs.Common.{◌≡◌, ◌≤◌, ℕ, zero, suc, ◌==◌, true, ◌||◌, List, [], ◌∷◌, ◌++◌, map, length, All, Option, Some, None, refl, sym, ap, subst, ◌∙◌, arith}
+use Rattle.std.proofs.Common.{◌≡◌, ◌≤◌, ℕ, zero, suc, ◌==◌, true, ◌||◌, List, [], ◌∷◌, ◌++◌, map, length, All, Option, Some, None, refl}
+use Rattle.std.proofs.Common.{sym, ap, subst, ◌∙◌, arith}
 use Rattle.std.specs.List.{AllByRecursion, Any, flat_map, list_any}
 use Rattle.std.proofs.lemmas.Bool.{true≢false}
 use Rattle.std.proofs.lemmas.List.{length-map}
@@ -8,7 +9,8 @@ use Rattle.std.proofs.lemmas.List.Elements.{All-nil, All-cons, All-head, All-tai
 use Rattle.std.proofs.Math.Bool.{or-true}
 use Rattle.pq_lists.proofs.Holding.{all_back, all_front}
 use Rattle.pq_fields.specs.declared.field.Field.{Field}
-use Rattle.pq_fields.specs.declared.field.Field.TheVariants.{Switch, Port, EthType, IpProto, EthSrc, EthDst, Ipv4Src, Ipv4Dst, TcpSrc, TcpDst, UdpSrc, UdpDst, Ipv6Src, Ipv6Dst}
+use Rattle.pq_fields.specs.declared.field.Field.TheVariants.{Switch, Port, EthType, IpProto, EthSrc, EthDst, Ipv4Src, Ipv4Dst, TcpSrc}
+use Rattle.pq_fields.specs.declared.field.Field.TheVariants.{TcpDst, UdpSrc, UdpDst, Ipv6Src, Ipv6Dst}
 use Rattle.pq_fields.specs.Packet.{rank}
 use Rattle.pq_fields.specs.Pred.{PredTop, Preds, PredTree, preds, ArePredsOver, IsPredOver, IsTopOver as IsPredTopOver}
 use Rattle.pq_fields.specs.Pred.PredTop.{Always, Never, Equals, Leads, LeadsWide, Every, Some as AnyOf, Negated}
@@ -20,11 +22,13 @@ use Rattle.pq_model.proofs.CommutingFlows.{equal-comm}
 use Rattle.pq_topo.specs.Named.{IsNamedTopology}
 use Rattle.pq_pred.specs.Named.{MayStand}
 use Rattle.pq_policy.specs.Policy.{PolicyTop, Pass, Discard, Spread, Only, Write, Forward, Choose, Either}
-use Rattle.pq_policy.specs.Policy.{InTurn, Policies, none as no_policies, put as add_policy, PolicyTree, policies, ArePoliciesOver, IsPolicyOver, IsTopOver as IsPolicyTopOver}
+use Rattle.pq_policy.specs.Policy.{InTurn, Policies, none as no_policies, put as add_policy, PolicyTree, policies, ArePoliciesOver}
+use Rattle.pq_policy.specs.Policy.{IsPolicyOver, IsTopOver as IsPolicyTopOver}
 use Rattle.pq_query.specs.Groups.{Group}
 use Rattle.pq_query.specs.Labels.{ascending, datapath_numbers, port_numbers, group_values, groups_of, listed_values, top_groups}
 use Rattle.pq_query.specs.Lawful.{AreQueriesOver, IsGroupOver, IsQueryOver, IsTopOver as IsQueryTopOver, MayTake}
-use Rattle.pq_query.specs.Query.{QueryTop, Enters, Leaves, Passes, Ends, InTurn as Joined, Either as AnyQuery, Both, Other, Repeated, Queries, none as no_queries, put as add_query, QueryTree, queries}
+use Rattle.pq_query.specs.Query.{QueryTop, Enters, Leaves, Passes, Ends, InTurn as Joined, Either as AnyQuery, Both, Other, Repeated}
+use Rattle.pq_query.specs.Query.{Queries, none as no_queries, put as add_query, QueryTree, queries}
 use Rattle.pq_query.specs.Resolved.{is_field, is_listed}
 use Rattle.pq_query.proofs.Ascending.{has, has_ascending}
 use Rattle.pq_query.proofs.Ports.{either_has}
@@ -37,7 +41,8 @@ use Rattle.pq_forward.specs.Forward.{ArePoliciesWithin, IsPolicyTopWithin, IsPol
 use Rattle.pq_classes.specs.Room.{IsGroupWithin, IsQueryWithin}
 use Rattle.pq_values.specs.Limits.{Limit, count_for, limits, numbers_for}
 use Rattle.pq_values.specs.Room.{AreFewStated, AreOver, AreWithin, HaveRoom}
-use Rattle.pq_values.specs.Stated.{Stated, in_group, in_groups, in_policies, in_policy, in_policy_top, in_pred, in_pred_top, in_preds, in_queries, in_query, in_query_top, stated, stated_for}
+use Rattle.pq_values.specs.Stated.{Stated, in_group, in_groups, in_policies, in_policy, in_policy_top, in_pred, in_pred_top, in_preds}
+use Rattle.pq_values.specs.Stated.{in_queries, in_query, in_query_top, stated, stated_for}
 use Rattle.pq_values.proofs.Counted.{itself, numbers_append}
 
 -- Lists of numbers.
@@ -71,7 +76,8 @@ abbrev States : List Stated → Field → ℕ → Type 0
 States ss f n = has (numbers_for f ss) n ≡ true
 
 states_left : (ss ts : List Stated) (f : Field) (n : ℕ) → States ss f n → States (ss ++ ts) f n
-states_left ss ts f n found = ap (λ ks. has ks n) (numbers_append f ss ts) ∙ (either_has (numbers_for f ss) (numbers_for f ts) n ∙ ap (λ b. b || has (numbers_for f ts) n) found)
+states_left ss ts f n found = ap (λ ks. has ks n) (numbers_append f ss ts)
+    ∙ (either_has (numbers_for f ss) (numbers_for f ts) n ∙ ap (λ b. b || has (numbers_for f ts) n) found)
 
 states_right : (ss ts : List Stated) (f : Field) (n : ℕ) → States ts f n → States (ss ++ ts) f n
 states_right ss ts f n found =
@@ -208,7 +214,8 @@ module _ (T : Topology) (ns : Field → List ℕ) where
       one_pred : (p : PredTree) → IsPredWithin ns p → All (IsPredWithin ns) (p ∷ [])
       one_pred p within = All-cons (IsPredWithin ns) p [] within (All-nil (IsPredWithin ns))
 
-      top_own_within : (top : QueryTop) (below : Queries) → IsQueryTopOver (MayStand T) top below → Covers (in_query_top top) → All (IsPredWithin ns) (top_own top)
+      top_own_within : (top : QueryTop) (below : Queries) → IsQueryTopOver (MayStand T) top below → Covers (in_query_top top)
+          → All (IsPredWithin ns) (top_own top)
       top_own_within (Enters p gs) below over covers = one_pred p (pred_within p over.0 (left (in_pred p) (in_groups gs) covers))
       top_own_within (Leaves p gs) below over covers = one_pred p (pred_within p over.0 (left (in_pred p) (in_groups gs) covers))
       top_own_within (Passes p gs q hs) below over covers =
@@ -223,7 +230,8 @@ module _ (T : Topology) (ns : Field → List ℕ) where
       top_own_within Other below over covers = All-nil (IsPredWithin ns)
       top_own_within Repeated below over covers = All-nil (IsPredWithin ns)
 
-      top_groups_within : (top : QueryTop) (below : Queries) → IsQueryTopOver (MayStand T) top below → Covers (in_query_top top) → All (IsGroupWithin ns T) (top_groups top)
+      top_groups_within : (top : QueryTop) (below : Queries) → IsQueryTopOver (MayStand T) top below → Covers (in_query_top top)
+          → All (IsGroupWithin ns T) (top_groups top)
       top_groups_within (Enters p gs) below over covers = groups_each gs over.1.each (right (in_pred p) (in_groups gs) covers)
       top_groups_within (Leaves p gs) below over covers = groups_each gs over.1.each (right (in_pred p) (in_groups gs) covers)
       top_groups_within (Passes p gs q hs) below over covers =
@@ -353,12 +361,14 @@ switch_among ss n any = among (map (λ s. s.datapath) ss) n (by ss any)
   where
     by : (xs : List SwitchValue) → Any (λ s. s.datapath ≡ n) xs → has (map (λ s. s.datapath) xs) n ≡ true
     by [] (k, s, within, at, is) = absurd (omega arith)
-    by (x ∷ xs) (zero, s, within, at, is) = subst (λ d. has (d ∷ map (λ t. t.datapath) xs) n ≡ true) (sym (ap (λ t. t.datapath) at ∙ is)) (first n (map (λ t. t.datapath) xs))
+    by (x ∷ xs) (zero, s, within, at, is) = subst (λ d. has (d ∷ map (λ t. t.datapath) xs) n ≡ true) (sym (ap (λ t. t.datapath) at ∙ is))
+        (first n (map (λ t. t.datapath) xs))
     by (x ∷ xs) (suc k, s, within, at, is) = behind x.datapath (map (λ t. t.datapath) xs) n (by xs (k, s, omega arith, at, is))
 
 pub numbers_cover : (T : Topology) (ss : List Stated) → Covers T (numbers_in T ss) ss
 numbers_cover T ss Switch n found may whole = switch_among T.switches n may
-numbers_cover T ss Port n found may whole = among (0 ∷ ascending (numbers_for Port ss)) n (behind 0 (ascending (numbers_for Port ss)) n (known_among ss Port n found))
+numbers_cover T ss Port n found may whole =
+    among (0 ∷ ascending (numbers_for Port ss)) n (behind 0 (ascending (numbers_for Port ss)) n (known_among ss Port n found))
 numbers_cover T ss EthType n found may whole =
     among (0x0800 ∷ 0x86dd ∷ ascending (numbers_for EthType ss)) n
     (behind 0x0800 (0x86dd ∷ ascending (numbers_for EthType ss)) n (behind 0x86dd (ascending (numbers_for EthType ss)) n (known_among ss EthType n found)))
@@ -382,7 +392,8 @@ module _ (T : Topology) (ss : List Stated) where
   ipv4_in = among (numbers_in T ss EthType) 0x0800 (first 0x0800 (0x86dd ∷ ascending (numbers_for EthType ss)))
 
   pub ipv6_in : IsAmong 0x86dd (numbers_in T ss EthType)
-  ipv6_in = among (numbers_in T ss EthType) 0x86dd (behind 0x0800 (0x86dd ∷ ascending (numbers_for EthType ss)) 0x86dd (first 0x86dd (ascending (numbers_for EthType ss))))
+  ipv6_in = among (numbers_in T ss EthType) 0x86dd
+      (behind 0x0800 (0x86dd ∷ ascending (numbers_for EthType ss)) 0x86dd (first 0x86dd (ascending (numbers_for EthType ss))))
 
   pub tcp_in : IsAmong 6 (numbers_in T ss IpProto)
   tcp_in = among (numbers_in T ss IpProto) 6 (first 6 (17 ∷ ascending (numbers_for IpProto ss)))

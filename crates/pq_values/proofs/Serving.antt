@@ -23,7 +23,8 @@ policies_fit T ps qs = room_for (λ ns within. (within.topology, together ns ps 
 pub each_fits : (T : Topology) (ps : List PolicyTree) (qs : List QueryTree) → HaveRoom T ps qs → All (FitAsForward T) ps
 each_fits T ps qs room =
     let ns = room.numbers in
-    All-weaker (IsPolicyWithin ns) (FitAsForward T) (λ p within. record { numbers = ns; few = room.few; within = (room.within.topology, within) }) ps room.within.policies
+    All-weaker (IsPolicyWithin ns) (FitAsForward T)
+    (λ p within. record { numbers = ns; few = room.few; within = (room.within.topology, within) }) ps room.within.policies
 
 pub queries_fit : (T : Topology) (ps : List PolicyTree) (qs : List QueryTree) → HaveRoom T ps qs → FitAsQueries T qs
 queries_fit T ps qs = room_for (λ ns within. (within.dropped, within.queries))

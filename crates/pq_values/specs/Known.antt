@@ -7,9 +7,11 @@ use Rattle.pq_fields.specs.Pred.{PredTop, Preds, PredTree, preds}
 use Rattle.pq_fields.specs.Pred.PredTop.{Always, Never, Equals, Leads, LeadsWide, Every, Some as AnyOf, Negated}
 use Rattle.pq_fields.specs.Pred.Preds.{none as no_preds, put as add_pred}
 use Rattle.pq_model.specs.Topology.{Switch}
-use Rattle.pq_policy.specs.Policy.{PolicyTop, Pass, Discard, Spread, Only, Write, Forward, Choose, Either, InTurn, Policies, none as no_policies, put as add_policy, PolicyTree, policies}
+use Rattle.pq_policy.specs.Policy.{PolicyTop, Pass, Discard, Spread, Only, Write, Forward, Choose, Either, InTurn, Policies}
+use Rattle.pq_policy.specs.Policy.{none as no_policies, put as add_policy, PolicyTree, policies}
 use Rattle.pq_query.specs.Groups.{Group}
-use Rattle.pq_query.specs.Query.{QueryTop, Enters, Leaves, Passes, Ends, InTurn as Joined, Either as AnyQuery, Both, Other, Repeated, Queries, none as no_queries, put as add_query, QueryTree, queries}
+use Rattle.pq_query.specs.Query.{QueryTop, Enters, Leaves, Passes, Ends, InTurn as Joined, Either as AnyQuery, Both, Other, Repeated}
+use Rattle.pq_query.specs.Query.{Queries, none as no_queries, put as add_query, QueryTree, queries}
 use Rattle.pq_query.specs.Resolved.{is_field}
 use Rattle.pq_values.specs.Limits.{numbers_for}
 use Rattle.pq_values.specs.Stated.{Stated}

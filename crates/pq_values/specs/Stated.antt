@@ -8,10 +8,12 @@ use Rattle.pq_fields.specs.Pred.PredTop.{Always, Never, Equals, Leads, LeadsWide
 use Rattle.pq_fields.specs.Pred.Preds.{none as no_preds, put as add_pred}
 use Rattle.pq_model.specs.Topology.{Topology}
 use Rattle.pq_policy.specs.declared.policy.Policy.{Policy}
-use Rattle.pq_policy.specs.Policy.{PolicyTop, Pass, Discard, Spread, Only, Write, Forward, Choose, Either, InTurn, Policies, none as no_policies, put as add_policy, PolicyTree, policies, policy_tree}
+use Rattle.pq_policy.specs.Policy.{PolicyTop, Pass, Discard, Spread, Only, Write, Forward, Choose, Either, InTurn, Policies}
+use Rattle.pq_policy.specs.Policy.{none as no_policies, put as add_policy, PolicyTree, policies, policy_tree}
 use Rattle.pq_query.specs.Groups.{Group}
 use Rattle.pq_query.specs.Labels.{port_numbers}
-use Rattle.pq_query.specs.Query.{QueryTop, Enters, Leaves, Passes, Ends, InTurn as Joined, Either as AnyQuery, Both, Other, Repeated, Queries, none as no_queries, put as add_query, QueryTree, queries}
+use Rattle.pq_query.specs.Query.{QueryTop, Enters, Leaves, Passes, Ends, InTurn as Joined, Either as AnyQuery, Both, Other, Repeated}
+use Rattle.pq_query.specs.Query.{Queries, none as no_queries, put as add_query, QueryTree, queries}
 
 -- a number that is stated for a field
 abbrev pub Stated : Type 0

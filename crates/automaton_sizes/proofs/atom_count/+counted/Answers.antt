@@ -10,5 +10,7 @@ atoms_of-loop-query-preserved t c =
     let fits = c.if-room-more.false in
     record {
       few = omega (arith, few, fits);
-      all = one_counted (atoms (queries (map query_tree c.args.operands.now))) c.loop-query.count c.atom_count-more.result c.loop-query.query-index c.args.operands.now c.query-item.result c.loop-query-test.true c.query-item.is c.loop-query.invariant.all (c.atom_count-more.ensures (omega (arith, few, fits)));
+      all = one_counted (atoms (queries (map query_tree c.args.operands.now))) c.loop-query.count c.atom_count-more.result
+          c.loop-query.query-index c.args.operands.now c.query-item.result c.loop-query-test.true c.query-item.is c.loop-query.invariant.all
+          (c.atom_count-more.ensures (omega (arith, few, fits)));
     }

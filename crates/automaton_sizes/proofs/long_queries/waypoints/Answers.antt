@@ -16,7 +16,8 @@ loop-passed-preserved c =
 pub returns : goal.returns
 returns c =
     let all = c.push-2.new.self in
-    let is : query_tree (Cat all) ≡ in_turn (map query_tree all.items) = ap query_tree (sym (rolls-Cat all)) ∙ fold-roll-Query QueryTree query_step (Query-F.Cat all) in
+    let is : query_tree (Cat all) ≡ in_turn (map query_tree all.items) = ap query_tree (sym (rolls-Cat all))
+    ∙ fold-roll-Query QueryTree query_step (Query-F.Cat all) in
     let passed : map query_tree c.loop-passed.operands.items ≡ passing (c.args.last - 1) = search (rules, c.loop-passed.invariant) in
     let built = is ∙ ap in_turn (one_more _ _ _ _ _ c.in_ok-push-3.ensures.items passed (c.in_atom-2.ensures ∙ ap entering c.at_switch-2.ensures)) in
     search (rules, built)

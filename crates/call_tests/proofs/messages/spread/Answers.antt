@@ -22,7 +22,8 @@ untagged_is_lawful port is_port = record {
 }
 
 both_are_lawful : All IsLawfulBucket (untagged 2 ∷ untagged 3 ∷ [])
-both_are_lawful = All-cons IsLawfulBucket (untagged 2) (untagged 3 ∷ []) (untagged_is_lawful 2 (search rules)) (All-cons IsLawfulBucket (untagged 3) [] (untagged_is_lawful 3 (search rules)) (All-nil IsLawfulBucket))
+both_are_lawful = All-cons IsLawfulBucket (untagged 2) (untagged 3 ∷ []) (untagged_is_lawful 2 (search rules))
+    (All-cons IsLawfulBucket (untagged 3) [] (untagged_is_lawful 3 (search rules)) (All-nil IsLawfulBucket))
 
 spread_is_lawful : IsLawfulMessage (Group (record { xid = 4; command = Add; group = 1; buckets = untagged 2 ∷ untagged 3 ∷ [] }))
 unfolding message_bytes with_header group_body bucket_bytes action_bytes

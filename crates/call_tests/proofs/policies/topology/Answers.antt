@@ -14,7 +14,13 @@ abbrev alone : Topology
 alone = record { switches = only ∷ []; links = [] }
 
 only_is_lawful : IsLawfulSwitch only
-only_is_lawful = (omega arith, (λ none. cc), (omega arith, (omega arith, tt)), All-cons IsPortNumber 1 (2 ∷ 3 ∷ []) (search rules) (All-cons IsPortNumber 2 (3 ∷ []) (search rules) (All-cons IsPortNumber 3 [] (search rules) (All-nil IsPortNumber))))
+only_is_lawful = (
+  omega arith,
+  (λ none. cc),
+  (omega arith, (omega arith, tt)),
+  All-cons IsPortNumber 1 (2 ∷ 3 ∷ []) (search rules)
+      (All-cons IsPortNumber 2 (3 ∷ []) (search rules) (All-cons IsPortNumber 3 [] (search rules) (All-nil IsPortNumber))),
+)
 
 alone_is_lawful : IsNamedTopology alone
 unfolding IsDistinct

@@ -15,4 +15,6 @@ then-requires g c =
     }
 
 pub returns-clause-example : goal.returns-clause-example
-returns-clause-example g c = sequence_example c.args.store.now c.args.x c.args.y c.requires.first c.requires.second c.then.new.store c.in_ok-id.id c.in_ok-id.ensures.sequences
+returns-clause-example g c =
+    sequence_example c.args.store.now c.args.x c.args.y c.requires.first c.requires.second c.then.new.store c.in_ok-id.id
+    c.in_ok-id.ensures.sequences

@@ -15,4 +15,6 @@ union-requires g c =
     }
 
 pub returns-clause-example : goal.returns-clause-example
-returns-clause-example g c = union_example c.args.store.now c.args.x c.args.y c.requires.first c.requires.second c.union.new.store c.in_ok-id.id c.in_ok-id.ensures.unites
+returns-clause-example g c =
+    union_example c.args.store.now c.args.x c.args.y c.requires.first c.requires.second c.union.new.store c.in_ok-id.id
+    c.in_ok-id.ensures.unites

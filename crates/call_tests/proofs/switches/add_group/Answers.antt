@@ -21,7 +21,8 @@ sends_to port h = All-cons IsLawfulAction (Output port) [] (inl h) (All-nil IsLa
 
 second_is_lawful : IsLawfulBucket second
 second_is_lawful = record {
-  each = All-cons IsLawfulAction PushVlan (SetVlan 0x1002 ∷ Output 2 ∷ []) tt (All-cons IsLawfulAction (SetVlan 0x1002) (Output 2 ∷ []) (search rules) (sends_to 2 (search rules)));
+  each = All-cons IsLawfulAction PushVlan (SetVlan 0x1002 ∷ Output 2 ∷ []) tt
+      (All-cons IsLawfulAction (SetVlan 0x1002) (Output 2 ∷ []) (search rules) (sends_to 2 (search rules)));
   placed = (omega arith, (omega arith, tt));
   sent = (PushVlan ∷ SetVlan 0x1002 ∷ [], 2, refl);
 }
@@ -34,7 +35,14 @@ unfolding message_bytes with_header group_body bucket_bytes action_bytes
 message_is_lawful = record {
   content = record {
     xid = omega arith;
-    command = (search rules, (search rules, All-cons IsLawfulBucket second (third ∷ []) second_is_lawful (All-cons IsLawfulBucket third [] third_is_lawful (All-nil IsLawfulBucket))));
+    command = (
+      search rules,
+      (
+        search rules,
+        All-cons IsLawfulBucket second (third ∷ []) second_is_lawful
+            (All-cons IsLawfulBucket third [] third_is_lawful (All-nil IsLawfulBucket)),
+      ),
+    );
   };
   short = omega arith;
 }

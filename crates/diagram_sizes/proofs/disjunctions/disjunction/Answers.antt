@@ -20,6 +20,7 @@ pub returns : goal.returns
 returns c =
     let ns = numbers_of c.args.tested c.args.count in
     let tree : PredTree = record { top = AnyOf; below = pred_trees c.loop.operands.items } in
-    let is : pred_tree (Or c.loop.operands) ≡ tree = ap pred_tree (sym (rolls-Or c.loop.operands)) ∙ fold-roll-Pred PredTree pred_step (Pred-F.Or c.loop.operands) in
+    let is : pred_tree (Or c.loop.operands) ≡ tree = ap pred_tree (sym (rolls-Or c.loop.operands))
+    ∙ fold-roll-Pred PredTree pred_step (Pred-F.Or c.loop.operands) in
     subst (NamesOnly ns) (sym is)
     (disjunction_is ns c.loop.operands.items c.loop.invariant.operands (omega (arith, c.loop.invariant.turns, c.loop-test.false, c.requires.some)))

@@ -38,7 +38,8 @@ pub emit-requires-clause-policy : goal.emit-requires-clause-policy
 emit-requires-clause-policy c = slice_get_within c.args.forward.now c.args.total c.requires.total.0 c.requires.total.1
 
 pub emit-requires-clause-idle_free : goal.emit-requires-clause-idle_free
-emit-requires-clause-idle_free c = idle_free_at c.parts_depart.ensures.idle_free (document_tree c.args.document.now) c.args.forward.now c.args.total c.requires.total
+emit-requires-clause-idle_free c =
+    idle_free_at c.parts_depart.ensures.idle_free (document_tree c.args.document.now) c.args.forward.now c.args.total c.requires.total
 
 pub emit-requires-clause-fits : goal.emit-requires-clause-fits
 emit-requires-clause-fits c =

@@ -13,4 +13,5 @@ instances-requires c =
     omega (arith, few, same, long)
 
 pub returns : goal.returns
-returns c = c.in_ok-all.ensures.instances ∙ ap (instances_of c.args.document.now.topology) (queries_are c.args.document.now c.deref.result.now c.deref.ensures.value)
+returns c = c.in_ok-all.ensures.instances
+    ∙ ap (instances_of c.args.document.now.topology) (queries_are c.args.document.now c.deref.result.now c.deref.ensures.value)

@@ -7,4 +7,6 @@ pub size_of-requires-clause-lawful : goal.size_of-requires-clause-lawful
 size_of-requires-clause-lawful c = let example = routes_example c.args.count c.requires in rw c.in_ok-policy.ensures example.lawful
 
 pub size_of-requires-clause-fit : goal.size_of-requires-clause-fit
-size_of-requires-clause-fit c = rw (c.in_ok-policy.ensures, c.nowhere-topology.ensures) (fits_nowhere (any_of (first_routes c.args.count)) (routes_example c.args.count c.requires))
+size_of-requires-clause-fit c =
+    rw (c.in_ok-policy.ensures, c.nowhere-topology.ensures)
+    (fits_nowhere (any_of (first_routes c.args.count)) (routes_example c.args.count c.requires))

@@ -6,7 +6,8 @@ use Rattle.pq_apply.proofs.atoms.equal_number.Goals as goal
 
 pub where_present-requires : goal.where_present-requires
 where_present-requires c = record {
-  inner = inner_at c.of_number.new.store (rank c.args.field) 1 c.in_ok-inner.inner (number_tree c.args.field c.args.value) c.in_ok-inner.ensures.tree (number_inner c.args.field c.args.value);
+  inner = inner_at c.of_number.new.store (rank c.args.field) 1 c.in_ok-inner.inner
+      (number_tree c.args.field c.args.value) c.in_ok-inner.ensures.tree (number_inner c.args.field c.args.value);
 }
 
 pub returns-clause-holds : goal.returns-clause-holds

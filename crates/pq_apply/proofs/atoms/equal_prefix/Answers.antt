@@ -14,10 +14,16 @@ where_present-requires c =
 
 pub returns-clause-holds : goal.returns-clause-holds
 returns-clause-holds c =
-    let tree = bits_tree c.args.field c.args.value 0 c.args.len in
-    (present_tree c.args.field tree, c.in_ok-id.ensures.makes tree c.in_ok-inner.ensures.tree, leads_hold c.args.field c.args.value c.args.len c.requires.fits c.requires.len)
+    let tree = bits_tree c.args.field c.args.value 0 c.args.len in (
+      present_tree c.args.field tree,
+      c.in_ok-id.ensures.makes tree c.in_ok-inner.ensures.tree,
+      leads_hold c.args.field c.args.value c.args.len c.requires.fits c.requires.len,
+    )
 
 pub returns-clause-wide : goal.returns-clause-wide
 returns-clause-wide c =
-    let tree = bits_tree c.args.field c.args.value 0 c.args.len in
-    (present_tree c.args.field tree, c.in_ok-id.ensures.makes tree c.in_ok-inner.ensures.tree, wide_holds c.args.field c.args.value c.args.len c.requires.fits c.requires.len)
+    let tree = bits_tree c.args.field c.args.value 0 c.args.len in (
+      present_tree c.args.field tree,
+      c.in_ok-id.ensures.makes tree c.in_ok-inner.ensures.tree,
+      wide_holds c.args.field c.args.value c.args.len c.requires.fits c.requires.len,
+    )

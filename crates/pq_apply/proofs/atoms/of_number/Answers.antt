@@ -16,7 +16,10 @@ leading_bits-requires-clause-len c = elim c.in-Ipv4Src.is [ inl e ↦ rw e (omeg
 
 pub returns-in-Ipv4Src-clause-tree : goal.returns-in-Ipv4Src-clause-tree
 unfolding number_tree
-returns-in-Ipv4Src-clause-tree c = elim c.in-Ipv4Src.is [ inl e ↦ rw e (rw (c.from.ensures, e) at c.leading_bits.ensures.tree) | inr e ↦ rw e (rw (c.from.ensures, e) at c.leading_bits.ensures.tree) ]
+returns-in-Ipv4Src-clause-tree c = elim c.in-Ipv4Src.is [
+  | inl e ↦ rw e (rw (c.from.ensures, e) at c.leading_bits.ensures.tree)
+  | inr e ↦ rw e (rw (c.from.ensures, e) at c.leading_bits.ensures.tree)
+]
 
 pub returns-in-Ipv6Src-clause-tree : goal.returns-in-Ipv6Src-clause-tree
 unfolding number_tree
@@ -32,16 +35,22 @@ node-requires c =
     record {
       yes = slice_get_within c.leaf-in_default.new.self c.in_ok-yes-in_default.yes (Tip true) yes_is;
       no = slice_get_within c.leaf-in_default.new.self c.in_ok-no-in_default.no (Tip false) no_is;
-      sides = sides_join c.leaf-in_default.new.self (Equal c.args.field c.args.value) c.in_ok-yes-in_default.yes c.in_ok-no-in_default.no (Tip true) (Tip false) yes_is no_is
-          (whole_joins c.args.field c.args.value (not_address c.args.field c.in_default.not-Ipv4Src c.in_default.not-Ipv4Dst c.in_default.not-Ipv6Src c.in_default.not-Ipv6Dst) c.requires.fits);
+      sides = sides_join c.leaf-in_default.new.self (Equal c.args.field c.args.value) c.in_ok-yes-in_default.yes c.in_ok-no-in_default.no
+          (Tip true) (Tip false) yes_is no_is
+          (whole_joins c.args.field c.args.value
+          (not_address c.args.field c.in_default.not-Ipv4Src c.in_default.not-Ipv4Dst c.in_default.not-Ipv6Src c.in_default.not-Ipv6Dst)
+          c.requires.fits);
     }
 
 pub returns-in_ok-id-in_default : goal.returns-in_ok-id-in_default
 returns-in_ok-id-in_default c =
     let yes_is = c.leaf-in_default.ensures.keeps c.in_ok-yes-in_default.yes (Tip true) c.in_ok-yes-in_default.ensures.leaf in
-    let fork = forked c.leaf-in_default.new.self c.node.new.self (Equal c.args.field c.args.value) c.in_ok-yes-in_default.yes c.in_ok-no-in_default.no c.in_ok-id-in_default.id
+    let fork = forked c.leaf-in_default.new.self c.node.new.self
+    (Equal c.args.field c.args.value) c.in_ok-yes-in_default.yes c.in_ok-no-in_default.no c.in_ok-id-in_default.id
     (Tip true) (Tip false) c.in_ok-id-in_default.ensures.tree yes_is c.in_ok-no-in_default.ensures.leaf (λ e. absurd cc) in
     record {
-      tree = fork ∙ ap Some (sym (whole_number c.args.field c.args.value (not_address c.args.field c.in_default.not-Ipv4Src c.in_default.not-Ipv4Dst c.in_default.not-Ipv6Src c.in_default.not-Ipv6Dst)));
+      tree = fork ∙ ap Some
+          (sym (whole_number c.args.field c.args.value
+          (not_address c.args.field c.in_default.not-Ipv4Src c.in_default.not-Ipv4Dst c.in_default.not-Ipv6Src c.in_default.not-Ipv6Dst)));
       keeps = λ k t is. c.node.ensures.keeps k t (c.leaf-in_default.ensures.keeps k t (c.leaf.ensures.keeps k t is));
     }

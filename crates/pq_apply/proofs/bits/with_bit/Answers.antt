@@ -9,7 +9,8 @@ use Rattle.pq_apply.proofs.bits.with_bit.Goals as goal
 pub node-requires-clause-sides : goal.node-requires-clause-sides
 node-requires-clause-sides c = λ y n y_is n_is.
     let e : Tip false ≡ n = cc (c.requires.no) in
-    subst (λ u. IsJoinable (Bit c.args.field c.args.place) y u) e (yes_bit c.args.field c.args.place y c.requires.address c.requires.place (c.requires.behind.1 y y_is))
+    subst (λ u. IsJoinable (Bit c.args.field c.args.place) y u) e
+    (yes_bit c.args.field c.args.place y c.requires.address c.requires.place (c.requires.behind.1 y y_is))
 
 pub returns-then-set-clause-makes : goal.returns-then-set-clause-makes
 returns-then-set-clause-makes c = λ t is.
@@ -22,7 +23,8 @@ node-requires-2-clause-yes c = slice_get_within c.args.store.now c.args.no (Tip 
 pub node-requires-2-clause-sides : goal.node-requires-2-clause-sides
 node-requires-2-clause-sides c = λ y n y_is n_is.
     let e : Tip false ≡ y = cc (c.requires.no) in
-    subst (λ u. IsJoinable (Bit c.args.field c.args.place) u n) e (no_bit c.args.field c.args.place n c.requires.address c.requires.place (c.requires.behind.1 n n_is))
+    subst (λ u. IsJoinable (Bit c.args.field c.args.place) u n) e
+    (no_bit c.args.field c.args.place n c.requires.address c.requires.place (c.requires.behind.1 n n_is))
 
 pub returns-clause-makes : goal.returns-clause-makes
 returns-clause-makes c = λ t is.

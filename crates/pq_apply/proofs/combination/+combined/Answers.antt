@@ -10,21 +10,26 @@ use Rattle.pq_apply.proofs.combination.+combined.Goals.{After-split-y_yes, In_ok
 
 -- the two nodes are split by the first of their tests
 stage_at : (g : Over) (m : ℕ) (c : After-split-y_yes g m)
-    → IsStage c.args.store.now c.args.x c.args.store.now c.args.y c.in-First.test c.split-x_yes.result.0 c.split-x_yes.result.1 c.split-y_yes.result.0 c.split-y_yes.result.1
+    → IsStage c.args.store.now c.args.x c.args.store.now c.args.y c.in-First.test c.split-x_yes.result.0 c.split-x_yes.result.1
+    c.split-y_yes.result.0 c.split-y_yes.result.1
 stage_at g m c =
-    stage c.args.store.now c.args.x c.args.store.now c.args.y c.in-First.test c.split-x_yes.result.0 c.split-x_yes.result.1 c.split-y_yes.result.0 c.split-y_yes.result.1
+    stage c.args.store.now c.args.x c.args.store.now c.args.y c.in-First.test c.split-x_yes.result.0 c.split-x_yes.result.1
+    c.split-y_yes.result.0 c.split-y_yes.result.1
     c.in-First.ensures.left c.in-First.ensures.right c.in-First.ensures.top c.split-x_yes.ensures c.split-y_yes.ensures
 
 -- they are in the store with what is made of their sides
 stage_last : (g : Over) (m : ℕ) (c : In_ok-no-in-First g m)
-    → IsStage c.args.store.now c.args.x c.args.store.now c.args.y c.in-First.test c.split-x_yes.result.0 c.split-x_yes.result.1 c.split-y_yes.result.0 c.split-y_yes.result.1
-    → IsStage c.combined-in-First.new.store c.args.x c.combined-in-First.new.store c.args.y c.in-First.test c.split-x_yes.result.0 c.split-x_yes.result.1 c.split-y_yes.result.0 c.split-y_yes.result.1
+    → IsStage c.args.store.now c.args.x c.args.store.now c.args.y c.in-First.test c.split-x_yes.result.0 c.split-x_yes.result.1
+    c.split-y_yes.result.0 c.split-y_yes.result.1
+    → IsStage c.combined-in-First.new.store c.args.x c.combined-in-First.new.store c.args.y c.in-First.test c.split-x_yes.result.0
+    c.split-x_yes.result.1 c.split-y_yes.result.0 c.split-y_yes.result.1
 stage_last g m c st = stage_still (λ k t h. c.in_ok-no-in-First.ensures.keeps k t (c.in_ok-yes-in-First.ensures.keeps k t h)) st
 
 -- and they may come together there
 fit_last : (g : Over) (m : ℕ) (c : In_ok-no-in-First g m) → FitTogetherAt c.combined-in-First.new.store c.args.x c.combined-in-First.new.store c.args.y
 fit_last g m c =
-    fit_still c.args.store.now c.combined-in-First.new.store c.args.x c.args.y (λ k t h. c.in_ok-no-in-First.ensures.keeps k t (c.in_ok-yes-in-First.ensures.keeps k t h))
+    fit_still c.args.store.now c.combined-in-First.new.store c.args.x c.args.y
+    (λ k t h. c.in_ok-no-in-First.ensures.keeps k t (c.in_ok-yes-in-First.ensures.keeps k t h))
     c.requires.x c.requires.y c.requires.fit
 
 pub returns-in-Some-clause-paired : goal.returns-in-Some-clause-paired
@@ -45,13 +50,22 @@ combined-requires-in-First g m c κs within =
     let later = stage_still keeps st in
     let whole : size_at c.args.store.now c.args.x + size_at c.args.store.now c.args.y ≡ m = c.decreases in
     let falls = no_falls_still c.combined.new.store keeps st in
-    let fit = no_fit later (fit_still c.args.store.now c.combined.new.store c.args.x c.args.y keeps c.requires.x c.requires.y c.requires.fit) in
-    (omega (arith, whole, falls), (within.0, (within.1, (no_within later.left, (no_within later.right, (fit, (c.requires.join, c.in_ok-yes-in-First.ensures.done)))))))
+    let fit = no_fit later (fit_still c.args.store.now c.combined.new.store c.args.x c.args.y keeps c.requires.x c.requires.y c.requires.fit) in (
+      omega (arith, whole, falls),
+      (
+        within.0,
+        (
+          within.1,
+          (no_within later.left, (no_within later.right, (fit, (c.requires.join, c.in_ok-yes-in-First.ensures.done)))),
+        ),
+      ),
+    )
 
 pub node-requires-clause-yes : goal.node-requires-clause-yes
 node-requires-clause-yes g m c =
     let made = c.in_ok-yes-in-First.ensures.paired in
-    slice_get_within c.combined-in-First.new.store c.in_ok-yes-in-First.yes made.paired (c.in_ok-no-in-First.ensures.keeps c.in_ok-yes-in-First.yes made.paired made.is)
+    slice_get_within c.combined-in-First.new.store c.in_ok-yes-in-First.yes made.paired
+    (c.in_ok-no-in-First.ensures.keeps c.in_ok-yes-in-First.yes made.paired made.is)
 
 pub node-requires-clause-no : goal.node-requires-clause-no
 node-requires-clause-no g m c =

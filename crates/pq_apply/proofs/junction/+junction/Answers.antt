@@ -8,21 +8,25 @@ use Rattle.pq_apply.proofs.junction.+junction.Goals.{In_ok-y-in_default}
 pub junction-requires : goal.junction-requires
 junction-requires t c =
     let operands = c.args.operands.now in
-    let ready = front_ready c.args.store.now operands c.split_at.result.0.now (length operands / 2) c.split_at.ensures.front c.requires.within c.requires.fits in
+    let ready = front_ready c.args.store.now operands c.split_at.result.0.now
+    (length operands / 2) c.split_at.ensures.front c.requires.within c.requires.fits in
     (omega (arith, c.decreases, c.split_at.ensures.front_len, c.in_default.len_at_least), (ready.0, ready.1))
 
 pub junction-requires-in_default : goal.junction-requires-in_default
 junction-requires-in_default t c =
     let operands = c.args.operands.now in
-    let ready = back_ready c.args.store.now c.junction.new.store operands c.split_at.result.1.now (length operands / 2) c.split_at.ensures.back c.junction.ensures.keeps
+    let ready = back_ready c.args.store.now c.junction.new.store operands c.split_at.result.1.now
+    (length operands / 2) c.split_at.ensures.back c.junction.ensures.keeps
     c.requires.within c.requires.fits in
     (omega (arith, c.decreases, c.split_at.ensures.back_len, c.in_default.len_at_least), (ready.0, ready.1))
 
 -- the junctions of both halves
 halves : (t : ℕ) (c : In_ok-y-in_default t)
-    → HaveHalves c.args.every (length c.args.operands.now / 2) (trees_at c.args.store.now c.args.operands.now) c.junction-in_default.new.store c.in_ok-x-in_default.x c.in_ok-y-in_default.y
+    → HaveHalves c.args.every (length c.args.operands.now / 2)
+    (trees_at c.args.store.now c.args.operands.now) c.junction-in_default.new.store c.in_ok-x-in_default.x c.in_ok-y-in_default.y
 halves t c =
-    have_halves c.args.every c.args.store.now c.junction.new.store c.junction-in_default.new.store c.args.operands.now c.split_at.result.0.now c.split_at.result.1.now
+    have_halves c.args.every c.args.store.now c.junction.new.store c.junction-in_default.new.store c.args.operands.now
+    c.split_at.result.0.now c.split_at.result.1.now
     (length c.args.operands.now / 2) c.in_ok-x-in_default.x c.in_ok-y-in_default.y c.split_at.ensures.front c.split_at.ensures.back c.requires.within
     c.junction.ensures.keeps c.junction-in_default.ensures.keeps c.in_ok-x-in_default.ensures.joins c.in_ok-y-in_default.ensures.joins
 
@@ -38,7 +42,8 @@ joined-requires-clause-y t c =
 
 pub joined-requires-clause-fits : goal.joined-requires-clause-fits
 joined-requires-clause-fits t c =
-    halves_meet c.args.every (length c.args.operands.now / 2) (trees_at c.args.store.now c.args.operands.now) c.junction-in_default.new.store c.in_ok-x-in_default.x c.in_ok-y-in_default.y
+    halves_meet c.args.every (length c.args.operands.now / 2)
+    (trees_at c.args.store.now c.args.operands.now) c.junction-in_default.new.store c.in_ok-x-in_default.x c.in_ok-y-in_default.y
     c.requires.fits (halves t (goal.at.joined-requires-clause-fits t c).In_ok-y-in_default)
 
 pub returns-in-len1-clause-joins : goal.returns-in-len1-clause-joins
@@ -48,5 +53,9 @@ returns-in-len1-clause-joins t c =
 pub returns-in_ok-id-in_default-clause-joins : goal.returns-in_ok-id-in_default-clause-joins
 returns-in_ok-id-in_default-clause-joins t c =
     let both = halves t (goal.at.returns-in_ok-id-in_default-clause-joins t c).In_ok-y-in_default in
-    let made = c.in_ok-id-in_default.ensures.joins both.x_tree both.y_tree both.x_is both.y_is in
-    (made.0, made.1, halves_joined c.args.every (length c.args.operands.now / 2) (trees_at c.args.store.now c.args.operands.now) both.x_tree both.y_tree made.0 both.front both.back made.2)
+    let made = c.in_ok-id-in_default.ensures.joins both.x_tree both.y_tree both.x_is both.y_is in (
+      made.0,
+      made.1,
+      halves_joined c.args.every (length c.args.operands.now / 2)
+          (trees_at c.args.store.now c.args.operands.now) both.x_tree both.y_tree made.0 both.front both.back made.2,
+    )

@@ -23,10 +23,12 @@ ite-requires-2 c =
 
 pub returns-then-every-clause-joins : goal.returns-then-every-clause-joins
 returns-then-every-clause-joins c =
-    every_chosen c.args.every c.recoded.new.into c.args.store.now c.leaf.new.self c.ite.new.store c.args.x c.args.y c.in_ok-condition.condition c.in_ok-leaf.leaf c.in_ok-id.id
+    every_chosen c.args.every c.recoded.new.into c.args.store.now c.leaf.new.self c.ite.new.store c.args.x c.args.y
+    c.in_ok-condition.condition c.in_ok-leaf.leaf c.in_ok-id.id
     c.if-every.true c.in_ok-condition.ensures.recodes c.leaf.ensures.keeps c.in_ok-leaf.ensures.leaf c.in_ok-id.ensures.chooses
 
 pub returns-clause-joins : goal.returns-clause-joins
 returns-clause-joins c =
-    some_chosen c.args.every c.recoded.new.into c.args.store.now c.leaf.new.self c.ite-2.new.store c.args.x c.args.y c.in_ok-condition.condition c.in_ok-leaf.leaf c.in_ok-id-2.id
+    some_chosen c.args.every c.recoded.new.into c.args.store.now c.leaf.new.self c.ite-2.new.store c.args.x c.args.y
+    c.in_ok-condition.condition c.in_ok-leaf.leaf c.in_ok-id-2.id
     c.if-every.false c.in_ok-condition.ensures.recodes c.leaf.ensures.keeps c.in_ok-leaf.ensures.leaf c.in_ok-id-2.ensures.chooses

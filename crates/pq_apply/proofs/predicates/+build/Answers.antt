@@ -15,7 +15,8 @@ pub build-returns-in_ok-id-in-Not-clause-holds : goal.build-returns-in_ok-id-in-
 build-returns-in_ok-id-in-Not-clause-holds t c =
     let inner = pred_tree c.in-Not.pred.value in
     let tree : PredTree = record { top = Negated; below = preds (inner ∷ []) } in
-    let is : pred_tree c.args.pred.now ≡ tree = ap pred_tree (c.in-Not.is ∙ sym (rolls-Not c.in-Not.pred)) ∙ fold-roll-Pred PredTree pred_step (Pred-F.Not c.in-Not.pred) in
+    let is : pred_tree c.args.pred.now ≡ tree = ap pred_tree (c.in-Not.is ∙ sym (rolls-Not c.in-Not.pred))
+    ∙ fold-roll-Pred PredTree pred_step (Pred-F.Not c.in-Not.pred) in
     subst (λ p. HoldsAt p c.recoded.new.into c.in_ok-id-in-Not.id) (sym is)
     (negated_node inner c.build.new.store c.recoded.new.into c.in_ok-inner-in-Not.inner c.in_ok-id-in-Not.id
     (rw c.deref-in-Not.ensures at c.in_ok-inner-in-Not.ensures.holds) c.in_ok-id-in-Not.ensures.recodes)
@@ -53,7 +54,9 @@ join-junction-requires-clause-within t c =
 
 pub join-junction-requires-clause-fits : goal.join-junction-requires-clause-fits
 join-junction-requires-clause-fits t c =
-    rw c.deref.ensures.value (hold_fit (pred_trees c.args.preds.now) c.build_all.new.store c.in_ok-operands.operands.items c.requires.fits c.in_ok-operands.ensures.hold)
+    rw c.deref.ensures.value
+    (hold_fit (pred_trees c.args.preds.now) c.build_all.new.store c.in_ok-operands.operands.items c.requires.fits
+    c.in_ok-operands.ensures.hold)
 
 pub join-returns-clause-joined : goal.join-returns-clause-joined
 join-returns-clause-joined t c =

@@ -9,7 +9,8 @@ abbrev pub invariant-build_all-loop-pred : goal.invariant-build_all-loop-pred
 invariant-build_all-loop-pred l = record {
   lawful : AreLawful (pred_trees (drop l.pred-index l.preds));
   fits : FitAsNodes (pred_trees (drop l.pred-index l.preds));
-  hold : (us : List (Tree Bool)) → Keeps l.store us → (more : List ℕ) → HoldAt (pred_trees (drop l.pred-index l.preds)) us more → HoldAt (pred_trees l.preds) us (l.nodes.items ++ more);
+  hold : (us : List (Tree Bool)) → Keeps l.store us → (more : List ℕ) → HoldAt (pred_trees (drop l.pred-index l.preds)) us more
+      → HoldAt (pred_trees l.preds) us (l.nodes.items ++ more);
   keeps : Keeps l.fn.store l.store;
   scratch : Keeps l.fn.scratch l.scratch;
 }

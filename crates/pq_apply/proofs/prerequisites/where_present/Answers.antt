@@ -56,8 +56,14 @@ returns-in-TcpSrc-clause-makes c = elim c.in-TcpSrc.is [ inl e ↦ rw e c.where_
 
 pub returns-in-UdpSrc-clause-makes : goal.returns-in-UdpSrc-clause-makes
 unfolding present_tree
-returns-in-UdpSrc-clause-makes c = elim c.in-UdpSrc.is [ inl e ↦ rw e c.where_protocol-in-UdpSrc.ensures.makes | inr e ↦ rw e c.where_protocol-in-UdpSrc.ensures.makes ]
+returns-in-UdpSrc-clause-makes c = elim c.in-UdpSrc.is [
+  | inl e ↦ rw e c.where_protocol-in-UdpSrc.ensures.makes
+  | inr e ↦ rw e c.where_protocol-in-UdpSrc.ensures.makes
+]
 
 pub returns-in-Ipv6Src-clause-makes : goal.returns-in-Ipv6Src-clause-makes
 unfolding present_tree
-returns-in-Ipv6Src-clause-makes c = elim c.in-Ipv6Src.is [ inl e ↦ rw e c.where_type-in-Ipv6Src.ensures.makes | inr e ↦ rw e c.where_type-in-Ipv6Src.ensures.makes ]
+returns-in-Ipv6Src-clause-makes c = elim c.in-Ipv6Src.is [
+  | inl e ↦ rw e c.where_type-in-Ipv6Src.ensures.makes
+  | inr e ↦ rw e c.where_type-in-Ipv6Src.ensures.makes
+]

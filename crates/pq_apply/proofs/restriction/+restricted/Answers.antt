@@ -3,7 +3,8 @@ use Rattle.std.proofs.lemmas.Option.{slice_get_within}
 use Rattle.pq_apply.specs.Restricting.{IsRestrictedAt}
 use Rattle.pq_store.specs.Store.{Keeps}
 use Rattle.pq_apply.proofs.Kept.{keeps_on, within_still}
-use Rattle.pq_apply.proofs.Restricted.{keep_restricted, side_restricted, side_below, restricted_still, sides_restricted, sides_joinable, both_restricted, remembers_restricted}
+use Rattle.pq_apply.proofs.Restricted.{keep_restricted, side_restricted, side_below, restricted_still, sides_restricted, sides_joinable}
+use Rattle.pq_apply.proofs.Restricted.{both_restricted, remembers_restricted}
 use Rattle.pq_apply.proofs.restriction.+restricted.Given.{Over}
 use Rattle.pq_apply.proofs.restriction.+restricted.Goals as goal
 use Rattle.pq_apply.proofs.restriction.+restricted.Goals.{In_ok-new_no-in-Both, In_ok-id-in-Side, In_ok-id-in-Both}
@@ -19,15 +20,18 @@ restricted-requires-in-Both-2 g t c κs within =
     let step = c.in-Both.ensures.step in
     let below = step.0.no_below in
     let whole : c.args.node ≡ t = c.decreases in
-    let inside : c.args.node < length c.restricted-in-Both.new.store = within_still c.args.store.now c.restricted-in-Both.new.store c.args.node c.restricted-in-Both.ensures.keeps c.requires.node in
+    let inside : c.args.node < length c.restricted-in-Both.new.store =
+    within_still c.args.store.now c.restricted-in-Both.new.store c.args.node c.restricted-in-Both.ensures.keeps c.requires.node in
     (omega arith, (within, (omega arith, c.in_ok-new_yes-in-Both.ensures.done)))
 
 -- the trees are kept while both sides are restricted
 keeps : (g : Over) (t : ℕ) (c : In_ok-new_no-in-Both g t) → Keeps c.args.store.now c.restricted-in-Both-2.new.store
-keeps g t c = keeps_on c.args.store.now c.restricted-in-Both.new.store c.restricted-in-Both-2.new.store c.restricted-in-Both.ensures.keeps c.restricted-in-Both-2.ensures.keeps
+keeps g t c = keeps_on c.args.store.now c.restricted-in-Both.new.store c.restricted-in-Both-2.new.store c.restricted-in-Both.ensures.keeps
+    c.restricted-in-Both-2.ensures.keeps
 
 -- the yes side stays restricted
-left : (g : Over) (t : ℕ) (c : In_ok-new_no-in-Both g t) → IsRestrictedAt c.args.field c.args.value c.restricted-in-Both-2.new.store c.in-Both.yes c.in_ok-new_yes-in-Both.new_yes
+left : (g : Over) (t : ℕ) (c : In_ok-new_no-in-Both g t)
+    → IsRestrictedAt c.args.field c.args.value c.restricted-in-Both-2.new.store c.in-Both.yes c.in_ok-new_yes-in-Both.new_yes
 left g t c =
     restricted_still c.args.field c.args.value c.restricted-in-Both.new.store c.restricted-in-Both-2.new.store c.in-Both.yes c.in_ok-new_yes-in-Both.new_yes
     c.restricted-in-Both-2.ensures.keeps c.in_ok-new_yes-in-Both.ensures.restricted
@@ -53,7 +57,8 @@ node-requires-clause-sides g t c = λ y n y_is n_is.
     (left g t at) c.in_ok-new_no-in-Both.ensures.restricted y_is n_is)
 
 pub returns-in-Keep-clause-restricted : goal.returns-in-Keep-clause-restricted
-returns-in-Keep-clause-restricted g t c = keep_restricted c.args.field c.args.value c.args.store.now c.args.node c.in-Keep.ensures.diagrams c.in-Keep.ensures.step
+returns-in-Keep-clause-restricted g t c =
+    keep_restricted c.args.field c.args.value c.args.store.now c.args.node c.in-Keep.ensures.diagrams c.in-Keep.ensures.step
 
 -- where one side is reached, its restriction is that of the whole
 side_made : (g : Over) (t : ℕ) (c : In_ok-id-in-Side g t) → IsRestrictedAt c.args.field c.args.value c.restricted.new.store c.args.node c.in_ok-id-in-Side.id
@@ -66,8 +71,10 @@ returns-in_ok-remember-in-Side-clause-restricted g t c = side_made g t (goal.at.
 
 pub returns-in_ok-remember-in-Side-clause-done : goal.returns-in_ok-remember-in-Side-clause-done
 returns-in_ok-remember-in-Side-clause-done g t c =
-    remembers_restricted c.args.field c.args.value c.restricted.new.store c.restricted.new.store c.args.node c.in_ok-id-in-Side.id c.restricted.new.done c.remember.new.done
-    (λ k u is. is) c.in_ok-id-in-Side.ensures.done (side_made g t (goal.at.returns-in_ok-remember-in-Side-clause-done g t c).In_ok-id-in-Side) c.in_ok-remember-in-Side.ensures
+    remembers_restricted c.args.field c.args.value c.restricted.new.store c.restricted.new.store c.args.node c.in_ok-id-in-Side.id
+    c.restricted.new.done c.remember.new.done
+    (λ k u is. is) c.in_ok-id-in-Side.ensures.done
+    (side_made g t (goal.at.returns-in_ok-remember-in-Side-clause-done g t c).In_ok-id-in-Side) c.in_ok-remember-in-Side.ensures
 
 -- the new node has the restriction of the whole
 both_made : (g : Over) (t : ℕ) (c : In_ok-id-in-Both g t) → Keeps c.args.store.now c.restricted-in-Both-2.new.store
@@ -86,6 +93,7 @@ returns-in_ok-remember-in-Both-clause-restricted g t c =
 pub returns-in_ok-remember-in-Both-clause-done : goal.returns-in_ok-remember-in-Both-clause-done
 returns-in_ok-remember-in-Both-clause-done g t c =
     let at = goal.at.returns-in_ok-remember-in-Both-clause-done g t c in
-    remembers_restricted c.args.field c.args.value c.restricted-in-Both-2.new.store c.node.new.self c.args.node c.in_ok-id-in-Both.id c.restricted-in-Both-2.new.done c.remember-in-Both.new.done
+    remembers_restricted c.args.field c.args.value c.restricted-in-Both-2.new.store c.node.new.self c.args.node c.in_ok-id-in-Both.id
+    c.restricted-in-Both-2.new.done c.remember-in-Both.new.done
     c.node.ensures.keeps c.in_ok-new_no-in-Both.ensures.done
     (both_made g t at.In_ok-id-in-Both (keeps g t at.In_ok-new_no-in-Both) (left g t at.In_ok-new_no-in-Both)) c.in_ok-remember-in-Both.ensures

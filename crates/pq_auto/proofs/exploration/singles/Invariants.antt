@@ -8,7 +8,9 @@ use Rattle.pq_auto.proofs.exploration.singles.Given as goal
 
 abbrev pub invariant-loop-expr : goal.invariant-loop-expr
 invariant-loop-expr g l = record {
-  tell : (more : List Machine) → TellEach (map (λ v. v.items) l.alphabet) more (map expr_tree (drop l.expr-index l.exprs)) → TellEach (map (λ v. v.items) l.alphabet) (l.tables.items ++ more) (map expr_tree l.exprs);
+  tell : (more : List Machine) → TellEach (map (λ v. v.items) l.alphabet) more (map expr_tree (drop l.expr-index l.exprs))
+      → TellEach (map (λ v. v.items) l.alphabet) (l.tables.items ++ more) (map expr_tree l.exprs);
   counted : AreLawful (expr_trees l.exprs) → AreLawful (expr_trees (drop l.expr-index l.exprs))
-      × (l.steps + length l.alphabet * (2 * sum (mosts (expr_trees (drop l.expr-index l.exprs)))) ≤ l.fn.steps + length l.alphabet * (2 * sum (mosts (expr_trees l.exprs))));
+      × (l.steps + length l.alphabet * (2 * sum (mosts (expr_trees (drop l.expr-index l.exprs)))) ≤ l.fn.steps + length l.alphabet *
+      (2 * sum (mosts (expr_trees l.exprs))));
 }

@@ -17,4 +17,5 @@ loop-state-preserved c =
 pub returns : goal.returns
 returns c =
     let led = c.in_ok-leaders.ensures in
-    round_led c.args.table.now c.in_ok-leaders.leaders.items led c.loop-state.parts c.loop-state.invariant.0 (omega (arith, c.loop-state.invariant.1, led.whole, c.loop-state-test.false))
+    round_led c.args.table.now c.in_ok-leaders.leaders.items led c.loop-state.parts c.loop-state.invariant.0
+    (omega (arith, c.loop-state.invariant.1, led.whole, c.loop-state-test.false))

@@ -19,11 +19,13 @@ loop-state-preserved c =
     record {
       long = omega (arith, ap length c.in_ok-push.ensures.items, length-append c.loop-state.next.items (leader ∷ []), inv.long);
       firsts = c.in_ok-leader.ensures.firsts;
-      each = each_more IsIt c.loop-state.next.items c.push.new.self.items c.loop-state.state leader inv.long c.in_ok-push.ensures.items (λ s h. c.in_ok-leader.ensures.stays s _ (inv.each s h)) c.in_ok-leader.ensures.next;
+      each = each_more IsIt c.loop-state.next.items c.push.new.self.items c.loop-state.state leader inv.long c.in_ok-push.ensures.items
+          (λ s h. c.in_ok-leader.ensures.stays s _ (inv.each s h)) c.in_ok-leader.ensures.next;
     }
 
 pub returns : goal.returns
 returns c =
     let inv = c.loop-state.invariant in
     let seen : List (List ℕ) = map (λ k. k.items) c.loop-state.seen.keys in
-    led_next c.args.table.now c.args.leaders.now c.is_lawful.ensures c.requires seen c.loop-state.firsts.items c.loop-state.next.items inv.firsts (omega (arith, inv.long, c.loop-state-test.false)) (λ s h. inv.each s (omega (arith, h, c.loop-state-test.false)))
+    led_next c.args.table.now c.args.leaders.now c.is_lawful.ensures c.requires seen c.loop-state.firsts.items c.loop-state.next.items
+    inv.firsts (omega (arith, inv.long, c.loop-state-test.false)) (λ s h. inv.each s (omega (arith, h, c.loop-state-test.false)))

@@ -10,27 +10,45 @@ use Rattle.pq_auto.proofs.product.product.Goals as goal
 
 pub invariant_of-table : goal.invariant_of-table
 invariant_of-table c =
-    let a : Machine = record { letters = c.args.letters; rows = lists c.in_ok-rows.rows.items; even = c.in_ok-even.even.items; accepted = map (λ list. list.items) c.in_ok-accepted.accepted.items } in
+    let a : Machine = record {
+      letters = c.args.letters;
+      rows = lists c.in_ok-rows.rows.items;
+      even = c.in_ok-even.even.items;
+      accepted = map (λ list. list.items) c.in_ok-accepted.accepted.items;
+    } in
     let keys = lists c.in_ok-rows.states.keys in
     let all = all_rows c.in_ok-rows.states.keys c.in_ok-rows.rows.items c.in_ok-rows.ensures.all in
     let evens = c.in_ok-even.ensures ∙ ap (λ ks. map is_even_key (lists ks)) c.as_slice-keys.ensures.keys in
     let accepts = c.in_ok-accepted.ensures ∙ ap (λ ks. map (accepting c.args.tables.now) (lists ks)) c.as_slice-keys.ensures.keys in
-    is_machine (steps c.args.tables.now) (begin c.args.tables.now) a keys c.in_ok-rows.ensures.searched all is_even_key (accepting c.args.tables.now) evens accepts
+    is_machine (steps c.args.tables.now) (begin c.args.tables.now) a keys c.in_ok-rows.ensures.searched all is_even_key
+    (accepting c.args.tables.now) evens accepts
 
 pub invariant_of-result : goal.invariant_of-result
 invariant_of-result c =
-    let a : Machine = record { letters = c.args.letters; rows = lists c.in_ok-rows.rows.items; even = c.in_ok-even.even.items; accepted = map (λ list. list.items) c.in_ok-accepted.accepted.items } in
+    let a : Machine = record {
+      letters = c.args.letters;
+      rows = lists c.in_ok-rows.rows.items;
+      even = c.in_ok-even.even.items;
+      accepted = map (λ list. list.items) c.in_ok-accepted.accepted.items;
+    } in
     let keys = lists c.in_ok-rows.states.keys in
     let all = all_rows c.in_ok-rows.states.keys c.in_ok-rows.rows.items c.in_ok-rows.ensures.all in
     let evens = c.in_ok-even.ensures ∙ ap (λ ks. map is_even_key (lists ks)) c.as_slice-keys.ensures.keys in
     let accepts = c.in_ok-accepted.ensures ∙ ap (λ ks. map (accepting c.args.tables.now) (lists ks)) c.as_slice-keys.ensures.keys in (
-      is_machine (steps c.args.tables.now) (begin c.args.tables.now) a keys c.in_ok-rows.ensures.searched all is_even_key (accepting c.args.tables.now) evens accepts,
-      is_numbered (steps c.args.tables.now) (begin c.args.tables.now) a keys c.in_ok-rows.ensures.searched all (each_once c.in_ok-rows.states.keys c.as_slice-keys.ensures.unique),
+      is_machine (steps c.args.tables.now) (begin c.args.tables.now) a keys c.in_ok-rows.ensures.searched all is_even_key
+          (accepting c.args.tables.now) evens accepts,
+      is_numbered (steps c.args.tables.now) (begin c.args.tables.now) a keys c.in_ok-rows.ensures.searched all
+          (each_once c.in_ok-rows.states.keys c.as_slice-keys.ensures.unique),
     )
 
 pub returns-clause-even : goal.returns-clause-even
 returns-clause-even c =
-    let a : Machine = record { letters = c.args.letters; rows = lists c.in_ok-rows.rows.items; even = c.in_ok-even.even.items; accepted = map (λ list. list.items) c.in_ok-accepted.accepted.items } in
+    let a : Machine = record {
+      letters = c.args.letters;
+      rows = lists c.in_ok-rows.rows.items;
+      even = c.in_ok-even.even.items;
+      accepted = map (λ list. list.items) c.in_ok-accepted.accepted.items;
+    } in
     let keys = lists c.in_ok-rows.states.keys in
     let all = all_rows c.in_ok-rows.states.keys c.in_ok-rows.rows.items c.in_ok-rows.ensures.all in
     let evens = c.in_ok-even.ensures ∙ ap (λ ks. map is_even_key (lists ks)) c.as_slice-keys.ensures.keys in
@@ -39,7 +57,12 @@ returns-clause-even c =
 
 pub returns-clause-accepted : goal.returns-clause-accepted
 returns-clause-accepted c =
-    let a : Machine = record { letters = c.args.letters; rows = lists c.in_ok-rows.rows.items; even = c.in_ok-even.even.items; accepted = map (λ list. list.items) c.in_ok-accepted.accepted.items } in
+    let a : Machine = record {
+      letters = c.args.letters;
+      rows = lists c.in_ok-rows.rows.items;
+      even = c.in_ok-even.even.items;
+      accepted = map (λ list. list.items) c.in_ok-accepted.accepted.items;
+    } in
     let keys = lists c.in_ok-rows.states.keys in
     let all = all_rows c.in_ok-rows.states.keys c.in_ok-rows.rows.items c.in_ok-rows.ensures.all in
     let evens = c.in_ok-even.ensures ∙ ap (λ ks. map is_even_key (lists ks)) c.as_slice-keys.ensures.keys in
@@ -48,6 +71,11 @@ returns-clause-accepted c =
 
 pub returns-clause-few : goal.returns-clause-few
 returns-clause-few c =
-    let a : Machine = record { letters = c.args.letters; rows = lists c.in_ok-rows.rows.items; even = c.in_ok-even.even.items; accepted = map (λ list. list.items) c.in_ok-accepted.accepted.items } in
+    let a : Machine = record {
+      letters = c.args.letters;
+      rows = lists c.in_ok-rows.rows.items;
+      even = c.in_ok-even.even.items;
+      accepted = map (λ list. list.items) c.in_ok-accepted.accepted.items;
+    } in
     let all = all_rows c.in_ok-rows.states.keys c.in_ok-rows.rows.items c.in_ok-rows.ensures.all in
     few_rows c.args.tables.now a c.in_ok-rows.states.keys c.in_ok-rows.ensures.searched all c.as_slice-keys.ensures.unique

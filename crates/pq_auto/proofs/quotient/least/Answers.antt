@@ -12,7 +12,11 @@ pub returns-clause-least : goal.returns-clause-least
 returns-clause-least c = is_least c.args.table.now c.in_ok-parts.parts c.is_lawful.ensures c.in_ok-parts.ensures c.in_ok-classes.classes c.in_ok-classes.ensures
 
 pub returns-clause-numbered : goal.returns-clause-numbered
-returns-clause-numbered c = is_numbered c.args.table.now c.in_ok-parts.parts c.is_lawful.ensures c.in_ok-parts.ensures c.in_ok-classes.classes c.in_ok-classes.ensures
+returns-clause-numbered c =
+    is_numbered c.args.table.now c.in_ok-parts.parts c.is_lawful.ensures c.in_ok-parts.ensures c.in_ok-classes.classes
+    c.in_ok-classes.ensures
 
 pub returns-clause-joined : goal.returns-clause-joined
-returns-clause-joined c = are_joined c.args.table.now c.in_ok-parts.parts c.is_lawful.ensures c.in_ok-parts.ensures c.in_ok-classes.classes c.in_ok-classes.ensures
+returns-clause-joined c =
+    are_joined c.args.table.now c.in_ok-parts.parts c.is_lawful.ensures c.in_ok-parts.ensures c.in_ok-classes.classes
+    c.in_ok-classes.ensures

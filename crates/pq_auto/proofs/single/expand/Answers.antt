@@ -12,7 +12,8 @@ loop-letter-init g c = record {
   alike = c.requires.alike;
   own = λ e are. are;
   stays = λ r at. at;
-  numbers = λ r at more new numbers. numbers_none (after (map (λ v. v.items) c.args.alphabet.now)) r (length c.args.alphabet.now) (rests c.args.states.now.keys) c.in_ok-row.row.items more new c.in_ok-row.ensures.items numbers;
+  numbers = λ r at more new numbers. numbers_none (after (map (λ v. v.items) c.args.alphabet.now)) r (length c.args.alphabet.now)
+      (rests c.args.states.now.keys) c.in_ok-row.row.items more new c.in_ok-row.ensures.items numbers;
 }
 
 pub bounds-as_slice-place : goal.bounds-as_slice-place
@@ -21,7 +22,8 @@ bounds-as_slice-place g c = rw c.as_slice.ensures.keys c.loop-letter.invariant.w
 pub number-requires : goal.number-requires
 number-requires g c =
     let k = c.index-as_slice-place.result in
-    let at = read_at c.loop-letter.states.keys c.as_slice.result.now c.args.place k c.loop-letter.invariant.within c.as_slice.ensures.keys c.index-as_slice-place.is in
+    let at = read_at c.loop-letter.states.keys c.as_slice.result.now c.args.place k c.loop-letter.invariant.within c.as_slice.ensures.keys
+    c.index-as_slice-place.is in
     like_of c.loop-letter.states.keys c.args.place k c.in_ok-next.next c.loop-letter.invariant.alike at c.in_ok-next.ensures.expr
 
 pub loop-letter-preserved : goal.loop-letter-preserved
@@ -39,16 +41,22 @@ loop-letter-preserved g c =
       counted = omega (arith, c.step_at.ensures.counted, inv.counted);
       within = still_within keys new (rest_of next) n c.args.place number inv.within;
       alike = alike_of new next c.in_ok-number.ensures.alike;
-      own = λ e are. c.in_ok-number.ensures.rests e (inv.own e are) (next_own e keys c.args.place k next (inv.own e are) at_place c.in_ok-next.ensures.expr c.in_ok-next.ensures.own);
+      own = λ e are. c.in_ok-number.ensures.rests e (inv.own e are)
+          (next_own e keys c.args.place k next (inv.own e are) at_place c.in_ok-next.ensures.expr c.in_ok-next.ensures.own);
       stays = λ r at. rest_stays (rests keys) (rests new) (rest_of next) n c.args.place r number (inv.stays r at);
       numbers = λ r at.
-          let is = letter_rest c.args.alphabet.now c.loop-letter.letter c.index-alphabet-letter.result c.deref.result.now k next r c.loop-letter-test.true c.index-alphabet-letter.is c.deref.ensures.value (rest_at keys c.args.place k r at_place (inv.stays r at)) c.in_ok-next.ensures.rest in
-          numbers_more goes r c.loop-letter.letter (length c.args.alphabet.now) (rests keys) (rests new) n c.loop-letter.row.items c.push.new.self.items (rests c.args.states.now.keys) (targets goes r 0 (length c.args.alphabet.now)) c.loop-letter-test.true
+          let is = letter_rest c.args.alphabet.now c.loop-letter.letter c.index-alphabet-letter.result c.deref.result.now k next r
+          c.loop-letter-test.true c.index-alphabet-letter.is c.deref.ensures.value
+          (rest_at keys c.args.place k r at_place (inv.stays r at)) c.in_ok-next.ensures.rest in
+          numbers_more goes r c.loop-letter.letter (length c.args.alphabet.now) (rests keys)
+          (rests new) n c.loop-letter.row.items c.push.new.self.items (rests c.args.states.now.keys)
+          (targets goes r 0 (length c.args.alphabet.now)) c.loop-letter-test.true
           (subst (λ x. IsNumber (rests keys) x n (rests new)) is number) c.in_ok-push.ensures.items (inv.numbers r at);
     }
 
 pub returns-clause-row : goal.returns-clause-row
-returns-clause-row g c r at = numbers_all (after (map (λ v. v.items) c.args.alphabet.now)) r c.loop-letter.letter (length c.args.alphabet.now) (rests c.loop-letter.states.keys) c.loop-letter.row.items (rests c.args.states.now.keys)
+returns-clause-row g c r at = numbers_all (after (map (λ v. v.items) c.args.alphabet.now)) r c.loop-letter.letter
+    (length c.args.alphabet.now) (rests c.loop-letter.states.keys) c.loop-letter.row.items (rests c.args.states.now.keys)
     (targets (after (map (λ v. v.items) c.args.alphabet.now)) r 0 (length c.args.alphabet.now)) c.loop-letter-test.false (c.loop-letter.invariant.numbers r at)
 
 pub returns-clause-counted : goal.returns-clause-counted

@@ -15,18 +15,29 @@ use Rattle.pq_auto.proofs.single.explored.Goals as goal
 pub invariant_of-result : goal.invariant_of-result
 invariant_of-result g c =
     let alphabet = map (λ v. v.items) c.args.alphabet.now in
-    let t : Machine = record { letters = length c.args.alphabet.now; rows = lists c.in_ok-rows.rows.items; even = c.in_ok-even.even.items; accepted = map (λ list. list.items) c.in_ok-accepted.accepted.items } in
+    let t : Machine = record {
+      letters = length c.args.alphabet.now;
+      rows = lists c.in_ok-rows.rows.items;
+      even = c.in_ok-even.even.items;
+      accepted = map (λ list. list.items) c.in_ok-accepted.accepted.items;
+    } in
     let evens = c.in_ok-even.ensures ∙ ap (λ ks. map (λ r. r.even) (rests ks)) c.as_slice-keys.ensures.keys in
     let accepts = c.in_ok-accepted.ensures ∙ ap (λ ks. map held (rests ks)) c.as_slice-keys.ensures.keys in
     let all = all_rests c.in_ok-rows.states.keys c.in_ok-rows.rows.items c.in_ok-rows.ensures.all in
-    is_machine (after alphabet) (whole (expr_tree c.args.expr.now)) t (rests c.in_ok-rows.states.keys) c.in_ok-rows.ensures.searched all (λ r. r.even) held evens accepts
+    is_machine (after alphabet) (whole (expr_tree c.args.expr.now)) t (rests c.in_ok-rows.states.keys) c.in_ok-rows.ensures.searched all
+    (λ r. r.even) held evens accepts
 
 pub returns-clause-table : goal.returns-clause-table
 returns-clause-table g c =
     let alphabet = map (λ v. v.items) c.args.alphabet.now in
     let expr = expr_tree c.args.expr.now in
     let keys = rests c.in_ok-rows.states.keys in
-    let t : Machine = record { letters = length c.args.alphabet.now; rows = lists c.in_ok-rows.rows.items; even = c.in_ok-even.even.items; accepted = map (λ list. list.items) c.in_ok-accepted.accepted.items } in
+    let t : Machine = record {
+      letters = length c.args.alphabet.now;
+      rows = lists c.in_ok-rows.rows.items;
+      even = c.in_ok-even.even.items;
+      accepted = map (λ list. list.items) c.in_ok-accepted.accepted.items;
+    } in
     let evens = c.in_ok-even.ensures ∙ ap (λ ks. map (λ r. r.even) (rests ks)) c.as_slice-keys.ensures.keys in
     let accepts = c.in_ok-accepted.ensures ∙ ap (λ ks. map held (rests ks)) c.as_slice-keys.ensures.keys in
     let count = sym (length-map c.args.alphabet.now (λ v. v.items)) in
@@ -40,5 +51,8 @@ pub returns-clause-counted : goal.returns-clause-counted
 returns-clause-counted g c =
     let alphabet = map (λ v. v.items) c.args.alphabet.now in
     let expr = expr_tree c.args.expr.now in
-    let few = no_more_rows (after alphabet) (whole expr) (length c.args.alphabet.now) c.in_ok-rows.states.keys c.in_ok-rows.rows.items c.in_ok-rows.ensures.searched c.in_ok-rows.ensures.all in
-    steps_within expr c.in_ok-rows.states.keys c.args.steps.now c.search.new.steps (length c.in_ok-rows.rows.items) (length c.args.alphabet.now) c.in_ok-rows.ensures.counted few c.in_ok-rows.ensures.alike c.in_ok-rows.ensures.rests c.as_slice-keys.ensures.unique
+    let few = no_more_rows (after alphabet) (whole expr) (length c.args.alphabet.now) c.in_ok-rows.states.keys c.in_ok-rows.rows.items
+    c.in_ok-rows.ensures.searched c.in_ok-rows.ensures.all in
+    steps_within expr c.in_ok-rows.states.keys c.args.steps.now c.search.new.steps (length c.in_ok-rows.rows.items)
+    (length c.args.alphabet.now) c.in_ok-rows.ensures.counted few c.in_ok-rows.ensures.alike c.in_ok-rows.ensures.rests
+    c.as_slice-keys.ensures.unique

@@ -7,7 +7,9 @@ use Rattle.pq_auto.proofs.single.number.Goals.{in-Ok, in-Err}
 
 pub returns-clause-number : goal.returns-clause-number
 returns-clause-number c = elim c.match-insert_full.branch [
-  | in-Ok w ↦ rw w.result-is (rest_numbers met_eq exact_key c.args.states.now.keys c.insert_full.new.self.keys c.args.state w.in-Ok.ensures.keys w.in-Ok.number c.requires w.in-Ok.ensures.stored w.in-Ok.ensures.index)
+  | in-Ok w ↦ rw w.result-is
+      (rest_numbers met_eq exact_key c.args.states.now.keys c.insert_full.new.self.keys c.args.state w.in-Ok.ensures.keys w.in-Ok.number
+      c.requires w.in-Ok.ensures.stored w.in-Ok.ensures.index)
   | in-Err w ↦ rw w.result-is tt
 ]
 

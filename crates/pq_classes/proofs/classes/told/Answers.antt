@@ -27,7 +27,8 @@ classes_of-requires g c =
     let qs = named_trees c.args.queries.now in
     let is = c.args.all.now in
     let ps = map pred_tree c.in_ok-lowered.lowered.preds.items in
-    few_exprs qs ps is c.deref-2.result.now (subst (λ es. AreLowered qs ps is (map expr_tree es)) (sym c.deref-2.ensures.value) c.in_ok-lowered.ensures.lowered) c.requires.few
+    few_exprs qs ps is c.deref-2.result.now
+    (subst (λ es. AreLowered qs ps is (map expr_tree es)) (sym c.deref-2.ensures.value) c.in_ok-lowered.ensures.lowered) c.requires.few
 
 -- letters, expressions and the automaton together
 pub returns-clause-classes : goal.returns-clause-classes
@@ -38,15 +39,19 @@ returns-clause-classes g c =
     let es = map expr_tree c.deref-2.result.now in
     let lowered : AreLowered qs ps is es =
     subst (λ ds. AreLowered qs (map pred_tree ds) is es) (sym c.deref.ensures.value)
-    (subst (λ ds. AreLowered qs (map pred_tree c.in_ok-lowered.lowered.preds.items) is (map expr_tree ds)) (sym c.deref-2.ensures.value) c.in_ok-lowered.ensures.lowered) in
-    joined qs ps is es c.in_ok-letters.letters c.in_ok-classes.classes (within_trees c.args.queries.now is c.requires.within) lowered c.count.ensures.lettered c.in_ok-letters.ensures.tells c.in_ok-classes.ensures
+    (subst (λ ds. AreLowered qs (map pred_tree c.in_ok-lowered.lowered.preds.items) is (map expr_tree ds))
+    (sym c.deref-2.ensures.value) c.in_ok-lowered.ensures.lowered) in
+    joined qs ps is es c.in_ok-letters.letters c.in_ok-classes.classes
+    (within_trees c.args.queries.now is c.requires.within) lowered c.count.ensures.lettered c.in_ok-letters.ensures.tells
+    c.in_ok-classes.ensures
 
 pub returns-clause-tests : goal.returns-clause-tests
 returns-clause-tests g c = λ t at ns ported within.
     let qs = named_trees c.args.queries.now in
     let is = c.args.all.now in
     let added = subst (λ ps. All (IsAdded qs is) (map pred_tree ps)) (sym c.deref.ensures.value) c.in_ok-lowered.ensures.added in
-    c.in_ok-letters.ensures.tests t at ns (preds_within ns c.args.topology.now qs is (map pred_tree c.deref.result.now) c.requires.instances ported within added)
+    c.in_ok-letters.ensures.tests t at ns
+    (preds_within ns c.args.topology.now qs is (map pred_tree c.deref.result.now) c.requires.instances ported within added)
 
 pub returns-clause-ignores : goal.returns-clause-ignores
 returns-clause-ignores g c = letters_ignore (map pred_tree c.deref.result.now) c.in_ok-letters.letters c.count.ensures.lettered c.in_ok-letters.ensures.tells

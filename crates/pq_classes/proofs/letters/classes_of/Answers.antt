@@ -16,4 +16,5 @@ returns g c =
     let same = ap (map (λ v. v.items)) c.deref.ensures.value ∙ c.in_ok-alphabet.ensures in
     let lawful = c.is_lawful.ensures in
     automaton_of (map expr_tree c.args.exprs.now) c.args.letters.now (map (λ v. v.items) c.deref.result.now) c.in_ok-automaton.automaton c.in_ok-classes.classes
-    c.count.ensures.lettered same c.in_ok-automaton.ensures.explored c.in_ok-classes.ensures.letters c.in_ok-classes.ensures.same lawful.machine lawful.numbered lawful.least
+    c.count.ensures.lettered same c.in_ok-automaton.ensures.explored c.in_ok-classes.ensures.letters c.in_ok-classes.ensures.same
+    lawful.machine lawful.numbered lawful.least

@@ -3,7 +3,8 @@ use Rattle.pq_classes.proofs.Signed.{at_pred, one_node, pred_room}
 use Rattle.pq_classes.proofs.letters.nodes.Goals as goal
 
 pub pred_node-requires-clause-lawful : goal.pred_node-requires-clause-lawful
-pred_node-requires-clause-lawful c = at_pred IsLawfulPred c.args.preds.now c.loop-pred.pred-index c.pred-item.result c.loop-pred-test.true c.pred-item.is c.requires.lawful
+pred_node-requires-clause-lawful c =
+    at_pred IsLawfulPred c.args.preds.now c.loop-pred.pred-index c.pred-item.result c.loop-pred-test.true c.pred-item.is c.requires.lawful
 
 pub pred_node-requires-clause-fits : goal.pred_node-requires-clause-fits
 pred_node-requires-clause-fits c = pred_room c.args.preds.now c.loop-pred.pred-index c.pred-item.result c.loop-pred-test.true c.pred-item.is c.requires.fits
@@ -13,6 +14,8 @@ pub loop-pred-preserved : goal.loop-pred-preserved
 loop-pred-preserved c =
     let keeps = c.pred_node.ensures.keeps in
     record {
-      nodes = one_node c.loop-pred.tests c.pred_node.new.store c.args.preds.now c.loop-pred.pred-index c.pred-item.result c.loop-pred.ids.items c.push.new.self.items c.in_ok-id.id c.loop-pred-test.true c.pred-item.is keeps c.in_ok-push.ensures.items c.in_ok-id.ensures.holds c.loop-pred.invariant.nodes;
+      nodes = one_node c.loop-pred.tests c.pred_node.new.store c.args.preds.now c.loop-pred.pred-index c.pred-item.result
+          c.loop-pred.ids.items c.push.new.self.items c.in_ok-id.id c.loop-pred-test.true c.pred-item.is keeps c.in_ok-push.ensures.items
+          c.in_ok-id.ensures.holds c.loop-pred.invariant.nodes;
       keeps = λ k t at. keeps k t (c.loop-pred.invariant.keeps k t at);
     }

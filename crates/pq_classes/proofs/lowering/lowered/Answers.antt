@@ -19,7 +19,9 @@ loop-instance-preserved c =
     let few = c.in_ok-expr.ensures.few in
     let so_far = c.loop-instance.invariant.few in
     record {
-      lowered = one_more qs is k i old new (added_preds q.0 i.label) c.loop-instance.exprs.items c.push.new.self.items c.in_ok-expr.expr c.loop-instance-test.true c.instance-item.is grown c.in_ok-push.ensures.items c.loop-instance.invariant.lowered c.in_ok-expr.ensures.lowered;
+      lowered = one_more qs is k i old new (added_preds q.0 i.label) c.loop-instance.exprs.items c.push.new.self.items c.in_ok-expr.expr
+          c.loop-instance-test.true c.instance-item.is grown c.in_ok-push.ensures.items c.loop-instance.invariant.lowered
+          c.in_ok-expr.ensures.lowered;
       added = more_added qs is k i q.0 old new c.loop-instance-test.true c.instance-item.is q.1 grown c.loop-instance.invariant.added;
       few = omega (arith, few, so_far);
     }

@@ -29,7 +29,8 @@ returns-clause-added c =
     let qs = named_trees c.args.queries.now in
     let within = subst (λ (i : Instance). i.query < length c.args.queries.now) (sym c.instance.view_is) c.requires.within in
     let at = asked c.args.queries.now c.instance.inside.query c.index-queries-instance.result within in
-    subst (λ (i : Instance). OnOk c.lower.result ((p : QueryTree) → slice_get qs i.query ≡ Some p → map pred_tree c.lower.new.preds.items ≡ map pred_tree c.args.preds.now.items ++ added_preds p i.label)) c.instance.view_is
+    subst (λ (i : Instance). OnOk c.lower.result ((p : QueryTree) → slice_get qs i.query ≡ Some p
+    → map pred_tree c.lower.new.preds.items ≡ map pred_tree c.args.preds.now.items ++ added_preds p i.label)) c.instance.view_is
     (one_added qs _ _ at c.lower.result (map pred_tree c.args.preds.now.items) (map pred_tree c.lower.new.preds.items) c.lower.ensures.added)
 
 pub returns-clause-few : goal.returns-clause-few

@@ -73,10 +73,13 @@ returns-in-Ok-assembled-clause-installed c =
     let depart = c.parts_depart.ensures.departures in
     let tag = c.classes_tag.ensures in
     let named = names_are c.args.document.now c.deref.result.now c.in-Ok.names.items c.deref.ensures.value c.in-Ok.ensures in
-    let at = subst (λ (ts : List SwitchTrees). AreSwitchesAt d.topology (tags depart tag d made) (writes depart tag d made) trees.first trees.second ts) (sym c.deref-4.ensures.value) (switches depart tag d made) in
+    let at = subst (λ (ts : List SwitchTrees). AreSwitchesAt d.topology (tags depart tag d made)
+    (writes depart tag d made) trees.first trees.second ts) (sym c.deref-4.ensures.value) (switches depart tag d made) in
     let emission = c.in-Ok-assembled.ensures.ok made.letters (writes depart tag d made) at in
-    is_installed depart tag d made c.compiled_implements.ensures c.requires.compilable c.deref-2.result.now (c.deref-2.ensures.value ∙ named) c.in-Ok-assembled.install
-    (subst (λ (all : List Instance). IsEmission d.topology c.deref-2.result.now (writes depart tag d made) (tags depart tag d made) all c.in-Ok-assembled.install) c.deref-3.ensures.value emission)
+    is_installed depart tag d made c.compiled_implements.ensures c.requires.compilable c.deref-2.result.now (c.deref-2.ensures.value
+    ∙ named) c.in-Ok-assembled.install
+    (subst (λ (all : List Instance). IsEmission d.topology c.deref-2.result.now (writes depart tag d made)
+    (tags depart tag d made) all c.in-Ok-assembled.install) c.deref-3.ensures.value emission)
     (c.in-Ok-assembled.ensures.filled made.letters (writes depart tag d made) at)
     c.in-Ok-assembled.ensures.lawful
 
@@ -97,7 +100,8 @@ returns-in-Ok-assembled-clause-complete c =
     let trees = c.args.trees.now in
     let depart = c.parts_depart.ensures.departures in
     let tag = c.classes_tag.ensures in
-    let at = subst (λ (ts : List SwitchTrees). AreSwitchesAt d.topology (tags depart tag d made) (writes depart tag d made) trees.first trees.second ts) (sym c.deref-4.ensures.value) (switches depart tag d made) in
+    let at = subst (λ (ts : List SwitchTrees). AreSwitchesAt d.topology (tags depart tag d made)
+    (writes depart tag d made) trees.first trees.second ts) (sym c.deref-4.ensures.value) (switches depart tag d made) in
     all_within depart tag d made c.requires.compilable (c.in-Ok-assembled.ensures.complete made.letters (writes depart tag d made) at)
 
 pub returns-clause-cause : goal.returns-clause-cause
@@ -117,5 +121,6 @@ returns-clause-cause c =
     let trees = c.args.trees.now in
     let depart = c.parts_depart.ensures.departures in
     let tag = c.classes_tag.ensures in
-    let at = subst (λ (ts : List SwitchTrees). AreSwitchesAt d.topology (tags depart tag d made) (writes depart tag d made) trees.first trees.second ts) (sym c.deref-4.ensures.value) (switches depart tag d made) in
+    let at = subst (λ (ts : List SwitchTrees). AreSwitchesAt d.topology (tags depart tag d made)
+    (writes depart tag d made) trees.first trees.second ts) (sym c.deref-4.ensures.value) (switches depart tag d made) in
     tables_fault depart tag d made c.in-Err-assembled.fault (c.in-Err-assembled.ensures.cause made.letters (writes depart tag d made) at)

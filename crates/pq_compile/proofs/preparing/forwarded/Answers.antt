@@ -10,7 +10,8 @@ use Rattle.pq_compile.proofs.preparing.forwarded.Goals as goal
 
 pub parts_forward-requires-clause-lawful : goal.parts_forward-requires-clause-lawful
 parts_forward-requires-clause-lawful g c =
-    subst (All IsLawfulPolicy) (sym (parts_are c.args.document.now c.deref.result.now c.deref.ensures.value)) (lawful_parts (document_tree c.args.document.now) c.requires.compilable)
+    subst (All IsLawfulPolicy) (sym (parts_are c.args.document.now c.deref.result.now c.deref.ensures.value))
+    (lawful_parts (document_tree c.args.document.now) c.requires.compilable)
 
 pub parts_forward-requires-clause-fit : goal.parts_forward-requires-clause-fit
 parts_forward-requires-clause-fit g c =

@@ -25,7 +25,13 @@ returns c = record {
       let lettered = c.count.ensures.lettered in
       let letters = at_place of.letters.trees of.letters.root lettered.root in
       all_sound d c.requires.compilable of.letters of.classes
-      (record { lawful = c.switches.ensures.lawful.lawful; lettered = lettered; letters = told.classes.letters; machine = c.is_lawful.ensures.machine; few = c.requires.told.tags })
+      (record {
+        lawful = c.switches.ensures.lawful.lawful;
+        lettered = lettered;
+        letters = told.classes.letters;
+        machine = c.is_lawful.ensures.machine;
+        few = c.requires.told.tags;
+      })
       c.args.forward.now c.args.policy policy (c.has_diagrams.ensures.diagrams c.args.policy policy.0 policy.1)
       (c.parts_depart.ensures.idle_free d.topology (parts_in d) policy.0 policy.2)
       (c.parts_ignore_lacking.ensures d.topology (parts_in d) policy.0 (lawful_parts d c.requires.compilable) policy.2)

@@ -24,7 +24,8 @@ query_classes-requires-clause-atoms g c =
 pub query_classes-requires-clause-fits : goal.query_classes-requires-clause-fits
 query_classes-requires-clause-fits g c =
     let d = document_tree c.args.document.now in
-    subst (FitAsQueries c.args.document.now.topology) (sym (queries_are c.args.document.now c.deref.result.now c.deref.ensures.value)) (query_room d c.requires.compilable c.requires.values)
+    subst (FitAsQueries c.args.document.now.topology) (sym (queries_are c.args.document.now c.deref.result.now c.deref.ensures.value))
+    (query_room d c.requires.compilable c.requires.values)
 
 pub returns-in-Ok-clause-told : goal.returns-in-Ok-clause-told
 returns-in-Ok-clause-told g c =

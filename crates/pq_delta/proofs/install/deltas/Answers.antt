@@ -8,11 +8,14 @@ use Rattle.pq_delta.proofs.install.deltas.Goals as goal
 
 pub switch_delta-requires-clause-old : goal.switch_delta-requires-clause-old
 switch_delta-requires-clause-old c =
-    rw c.deref.ensures.value (all_map_read c.args.olds.now (λ ms. ms.items) IsLawfulList _ c.index-olds-index.result c.requires.olds (omega (arith, c.requires.old_listed, c.loop-index-test.true)) c.index-olds-index.is)
+    rw c.deref.ensures.value (all_map_read c.args.olds.now (λ ms. ms.items) IsLawfulList _ c.index-olds-index.result c.requires.olds
+    (omega (arith, c.requires.old_listed, c.loop-index-test.true)) c.index-olds-index.is)
 
 pub switch_delta-requires-clause-new : goal.switch_delta-requires-clause-new
 switch_delta-requires-clause-new c =
-    rw c.deref-in-loop-index.ensures.value (all_map_read c.args.news.now (λ ms. ms.items) IsLawfulList _ c.index-news-index.result c.requires.news (omega (arith, c.requires.new_listed, c.loop-index-test.true)) c.index-news-index.is)
+    rw c.deref-in-loop-index.ensures.value
+    (all_map_read c.args.news.now (λ ms. ms.items) IsLawfulList _ c.index-news-index.result c.requires.news
+    (omega (arith, c.requires.new_listed, c.loop-index-test.true)) c.index-news-index.is)
 
 pub loop-index-preserved : goal.loop-index-preserved
 loop-index-preserved c =
@@ -30,12 +33,14 @@ loop-index-preserved c =
     let datapath = ap (λ s. s.datapath) c.switch.view_is in
     let sent = c.in_ok-messages.ensures.messages ∙ (λ j. switch_delta (c.deref.ensures.value j) (c.deref-in-loop-index.ensures.value j)) in
     let more = c.in_ok-push_switch.ensures ∙ (λ j. done ++ with_switch (datapath j) (sent j) []) in (
-      delta_step c.args.switches.now olds news i switch c.index-olds-index.result.items c.index-news-index.result.items c.loop-index-test.true under_old under_new
+      delta_step c.args.switches.now olds news i switch c.index-olds-index.result.items c.index-news-index.result.items
+          c.loop-index-test.true under_old under_new
           c.index-switches-index.is (read_mapped (λ ms. ms.items) c.args.olds.now i c.index-olds-index.result less_old c.index-olds-index.is)
           (read_mapped (λ ms. ms.items) c.args.news.now i c.index-news-index.result less_new c.index-news-index.is)
           done _ more
           ∙ c.loop-index.invariant.0,
-      one_short_more c.switch.inside.datapath c.in_ok-messages.messages.items done _ c.in_ok-push_switch.ensures c.in_ok-messages.ensures.few c.loop-index.invariant.1,
+      one_short_more c.switch.inside.datapath c.in_ok-messages.messages.items done _ c.in_ok-push_switch.ensures
+          c.in_ok-messages.ensures.few c.loop-index.invariant.1,
     )
 
 pub returns : goal.returns

@@ -15,7 +15,8 @@ returns c =
     let h =
     appended c.args.old.now c.args.new.now c.in_ok-old_keys.old_keys.keys c.in_ok-new_keys.new_keys.keys c.group_count.result c.group_count-2.result
     c.in_ok-old_keys.ensures c.in_ok-new_keys.ensures c.group_count.ensures c.group_count-2.ensures m0 m1 m2 m3 m4 m5 m6 m7 c.new-messages.ensures.items
-    c.in_ok-push_removed.ensures c.in_ok-push_group_deletes.ensures c.in_ok-push_barrier.ensures.appended c.in_ok-push_groups.ensures c.in_ok-push_barrier-2.ensures.appended
+    c.in_ok-push_removed.ensures c.in_ok-push_group_deletes.ensures c.in_ok-push_barrier.ensures.appended c.in_ok-push_groups.ensures
+    c.in_ok-push_barrier-2.ensures.appended
     c.in_ok-push_added.ensures c.in_ok-push_barrier-3.ensures.appended in
     record {
       messages = assembled (changes c.args.old.now c.args.new.now) m1 m2 m3 m4 m5 m6 m7 h;

@@ -13,5 +13,6 @@ invariant-all_are_dead-loop-expr l = (w : Word) →
 
 abbrev pub invariant-one_is_dead-loop-expr : goal.invariant-one_is_dead-loop-expr
 invariant-one_is_dead-loop-expr l = (w : Word) →
-    list_all (λ b. b) (each_left (lefts (expr_trees (drop l.expr-index l.exprs))) (parts (length (lefts (expr_trees (drop l.expr-index l.exprs)))) l.left) w) ≡ false
+    list_all (λ b. b) (each_left (lefts (expr_trees (drop l.expr-index l.exprs)))
+    (parts (length (lefts (expr_trees (drop l.expr-index l.exprs)))) l.left) w) ≡ false
     → list_all (λ b. b) (each_left (lefts (expr_trees l.exprs)) (parts (length (lefts (expr_trees l.exprs))) l.rest) w) ≡ false

@@ -27,15 +27,22 @@ member_ends-loop-more-preserved t c =
     rw c.split_part.ensures.behind (rw (← ends) at before)
 
 pub turn_ends-operands-init : goal.turn_ends-operands-init
-turn_ends-operands-init t c = rw (c.split_gap-gap.ensures.gap, c.split_gap-gap.ensures.behind, spread_gap (length (languages (expr_trees c.args.exprs.now))) c.args.rest.now) refl
+turn_ends-operands-init t c =
+    rw (
+      c.split_gap-gap.ensures.gap,
+      c.split_gap-gap.ensures.behind,
+      spread_gap (length (languages (expr_trees c.args.exprs.now))) c.args.rest.now,
+    ) refl
 
 pub turn_ends-returns-then-place-exprs : goal.turn_ends-returns-then-place-exprs
 turn_ends-returns-then-place-exprs t c =
     let es = c.args.exprs.now in
     let skip = c.idle-skip.result in
-    let passed = ends_idle c.operands.begins c.operands.place skip c.operands.gap c.operands.left.now es (omega (arith, c.idle-skip.ensures.few)) c.idle-skip.ensures.begins c.idle-skip.ensures.empty in
+    let passed = ends_idle c.operands.begins c.operands.place skip c.operands.gap c.operands.left.now es
+    (omega (arith, c.idle-skip.ensures.few)) c.idle-skip.ensures.begins c.idle-skip.ensures.empty in
     turn_is es c.args.rest.now (sym c.is_empty.ensures ∙ c.if-is_empty.false) c.operands.begins
-    (sym (ends_over c.operands.begins (c.operands.place + skip) es ((c.operands.gap - skip) ∷ c.operands.left.now) c.if-place-exprs.true) ∙ passed ∙ c.operands.invariant)
+    (sym (ends_over c.operands.begins (c.operands.place + skip) es ((c.operands.gap - skip) ∷ c.operands.left.now) c.if-place-exprs.true)
+    ∙ passed ∙ c.operands.invariant)
 
 pub turn_ends-operands-preserved : goal.turn_ends-operands-preserved
 turn_ends-operands-preserved t c =
@@ -47,8 +54,10 @@ turn_ends-operands-preserved t c =
     let less : c.saturating_sub.result ≡ c.operands.gap - skip = c.saturating_sub.ensures in
     let r = c.saturating_sub.result ∷ c.operands.left.now in
     let first = from_place es i e (omega (arith, c.if-place-exprs.false)) c.index-exprs-place.is in
-    let passed = ends_idle c.operands.begins c.operands.place skip c.operands.gap c.operands.left.now es (omega (arith, c.idle-skip.ensures.few)) c.idle-skip.ensures.begins c.idle-skip.ensures.empty in
+    let passed = ends_idle c.operands.begins c.operands.place skip c.operands.gap c.operands.left.now es
+    (omega (arith, c.idle-skip.ensures.few)) c.idle-skip.ensures.begins c.idle-skip.ensures.empty in
     let before = rw (← less, first) at (passed ∙ c.operands.invariant) in
     let passes = rw c.split_set-next_gap.ensures.set at c.passes-begins.ensures in
     rw (passes, c.split_set-next_gap.ensures.gap, c.split_set-next_gap.ensures.behind, spread_gap (length (languages later)) (behind_set r))
-    (turn_passed c.operands.begins (holds (expr_tree e)) (languages later) (left (expr_tree e)) (members (first_set r)) (turn_left (languages later) (lefts later) (spread (length (languages later)) (behind_set r)) []) ∙ before)
+    (turn_passed c.operands.begins (holds (expr_tree e)) (languages later) (left (expr_tree e)) (members (first_set r))
+    (turn_left (languages later) (lefts later) (spread (length (languages later)) (behind_set r)) []) ∙ before)

@@ -25,7 +25,8 @@ abbrev pub decreases-member_ends-loop-more : goal.decreases-member_ends-loop-mor
 decreases-member_ends-loop-more l = l.more
 
 abbrev pub invariant-turn_ends-operands : goal.invariant-turn_ends-operands
-invariant-turn_ends-operands l = ends_from l.begins (drop l.place l.exprs) (l.gap ∷ l.left) ≡ turn_left (languages (expr_trees l.exprs)) (lefts (expr_trees l.exprs)) (spread (length (languages (expr_trees l.exprs))) l.rest) []
+invariant-turn_ends-operands l = ends_from l.begins (drop l.place l.exprs) (l.gap ∷ l.left) ≡ turn_left (languages (expr_trees l.exprs))
+    (lefts (expr_trees l.exprs)) (spread (length (languages (expr_trees l.exprs))) l.rest) []
 
 abbrev pub decreases-turn_ends-operands : goal.decreases-turn_ends-operands
 decreases-turn_ends-operands l = length l.exprs - l.place

@@ -26,6 +26,7 @@ returns-clause-members c =
     let bound = rw c.deref.ensures.value at c.in-Err.ensures.bound in
     let position = rw c.deref.ensures.value at c.in-Err.ensures.position in
     λ U one members. rw c.in_ok-insert.ensures.items (
-      ascends_put {V = Vec ℕ Global} (λ r. r.items) (slice_cmp nat_cmp) nat_list_cmp_total set rest i members.0 bound (position (searchable {V = Vec ℕ Global} (λ r. r.items) (slice_cmp nat_cmp) nat_list_cmp_total set rest.items members.0)),
+      ascends_put {V = Vec ℕ Global} (λ r. r.items) (slice_cmp nat_cmp) nat_list_cmp_total set rest i members.0 bound
+          (position (searchable {V = Vec ℕ Global} (λ r. r.items) (slice_cmp nat_cmp) nat_list_cmp_total set rest.items members.0)),
       all_put {V = Vec ℕ Global} (λ r. r.items) (IsOneOf U) set rest i members.1 one,
     )

@@ -13,13 +13,15 @@ abbrev pub invariant-step_each-loop-expr : goal.invariant-step_each-loop-expr
 invariant-step_each-loop-expr l =
     ((more : List ℕ) → AreStepped (record { side = l.side; truth = l.signature }) (expr_trees (drop l.expr-index l.exprs)) l.left more
     → AreStepped (record { side = l.side; truth = l.signature }) (expr_trees l.exprs) l.rest (l.out.items ++ more))
-    × ((more : List ℕ) → IsOneOf (in_parts (rests (expr_trees (drop l.expr-index l.exprs)))) more → IsOneOf (in_parts (rests (expr_trees l.exprs))) (l.out.items ++ more))
+    × ((more : List ℕ) → IsOneOf (in_parts (rests (expr_trees (drop l.expr-index l.exprs)))) more
+    → IsOneOf (in_parts (rests (expr_trees l.exprs))) (l.out.items ++ more))
 
 abbrev pub invariant-step_sets-operands : goal.invariant-step_sets-operands
 invariant-step_sets-operands l =
     ((more : List ℕ) → AreSetsStepped (record { side = l.side; truth = l.signature }) (expr_trees (drop l.place l.exprs)) l.begins (l.gap ∷ l.left) more
     → AreSetsStepped (record { side = l.side; truth = l.signature }) (expr_trees l.exprs) false l.rest (l.out.items ++ wide l.empties more))
-    × ((more : List ℕ) → IsOneOf (in_sets (map sets (rests (expr_trees (drop l.place l.exprs))))) more → IsOneOf (in_sets (map sets (rests (expr_trees l.exprs)))) (l.out.items ++ wide l.empties more))
+    × ((more : List ℕ) → IsOneOf (in_sets (map sets (rests (expr_trees (drop l.place l.exprs))))) more
+    → IsOneOf (in_sets (map sets (rests (expr_trees l.exprs)))) (l.out.items ++ wide l.empties more))
     × (l.empties ≤ l.place)
 
 abbrev pub decreases-step_sets-operands : goal.decreases-step_sets-operands
@@ -27,7 +29,9 @@ decreases-step_sets-operands l = length l.exprs - l.place
 
 abbrev pub invariant-step_members-loop-more : goal.invariant-step_members-loop-more
 invariant-step_members-loop-more l =
-    ((P : Language) (w : Word) → (set_left (left (expr_tree l.expr)) P (map (λ r. r.items) l.stepped.items) w || stepped_left (record { side = l.side; truth = l.signature }) (left (expr_tree l.expr)) P (parts l.more l.left) w)
+    ((P : Language) (w : Word)
+    → (set_left (left (expr_tree l.expr)) P (map (λ r. r.items) l.stepped.items) w || stepped_left
+    (record { side = l.side; truth = l.signature }) (left (expr_tree l.expr)) P (parts l.more l.left) w)
     ≡ stepped_left (record { side = l.side; truth = l.signature }) (left (expr_tree l.expr)) P (members l.set) w)
     × AreMembers (all_rests (expr_tree l.expr)) (map (λ r. r.items) l.stepped.items)
 

@@ -9,5 +9,6 @@ use Rattle.pq_edit.proofs.removals.removed_part.Goals as goal
 
 pub returns : goal.returns
 returns c =
-    subst (λ names. IsAnswer (λ (n : List ℕ). n) c.removed_name.result (removed_name UnknownPart names c.args.token.now (name_in (text_in c.args.bytes.now c.args.token.now))))
+    subst (λ names. IsAnswer (λ (n : List ℕ). n) c.removed_name.result
+    (removed_name UnknownPart names c.args.token.now (name_in (text_in c.args.bytes.now c.args.token.now))))
     (ap (map (λ n. n.0)) c.deref.ensures.value ∙ part_names c.args.document.now.parts.items) c.removed_name.ensures

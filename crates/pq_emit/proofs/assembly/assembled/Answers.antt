@@ -14,7 +14,8 @@ pub returns-in-Err-clause-cause : goal.returns-in-Err-clause-cause
 returns-in-Err-clause-cause c = λ a writes at.
     let T = c.args.topology.now in
     let g = tagging_of a c.args.classes.now in
-    fault_told T g writes (trees_of c.args.first.now c.args.second.now c.args.trees.now) (all_located T g writes c.args.first.now c.args.second.now c.args.trees.now at)
+    fault_told T g writes (trees_of c.args.first.now c.args.second.now c.args.trees.now)
+    (all_located T g writes c.args.first.now c.args.second.now c.args.trees.now at)
     c.in-Err.fault c.in-Err.ensures.cause
 
 pub install_of-requires-clause-listed : goal.install_of-requires-clause-listed
@@ -34,7 +35,8 @@ returns-in-Ok-install_of-clause-ok c = λ a writes at.
       queries = made.names;
       report = made.report a;
       messages = subst (λ ms. AllZip (λ s m. AreMessages T g writes s.datapath m) T.switches ms) (sym made.messages)
-          (all_messages_of T g writes all (map (λ ms. ms.items) c.in-Ok.messages.items) (all_located T g writes c.args.first.now c.args.second.now c.args.trees.now at) c.in-Ok.ensures.messages);
+          (all_messages_of T g writes all (map (λ ms. ms.items) c.in-Ok.messages.items)
+          (all_located T g writes c.args.first.now c.args.second.now c.args.trees.now at) c.in-Ok.ensures.messages);
     }
 
 pub returns-in-Ok-install_of-clause-filled : goal.returns-in-Ok-install_of-clause-filled
@@ -43,10 +45,12 @@ returns-in-Ok-install_of-clause-filled c = λ a writes at.
     let g = tagging_of a c.args.classes.now in
     let all = trees_of c.args.first.now c.args.second.now c.args.trees.now in
     subst (λ ms. AllZip (λ s m. (a : AreMessages T g writes s.datapath m) × AreFilled a.first a.second) T.switches ms) (sym c.in-Ok-install_of.ensures.messages)
-    (all_filled T g writes all (map (λ ms. ms.items) c.in-Ok.messages.items) (all_located T g writes c.args.first.now c.args.second.now c.args.trees.now at) c.in-Ok.ensures.messages)
+    (all_filled T g writes all (map (λ ms. ms.items) c.in-Ok.messages.items)
+    (all_located T g writes c.args.first.now c.args.second.now c.args.trees.now at) c.in-Ok.ensures.messages)
 
 pub returns-in-Ok-install_of-clause-complete : goal.returns-in-Ok-install_of-clause-complete
 returns-in-Ok-install_of-clause-complete c = λ a writes at.
     let T = c.args.topology.now in
     let g = tagging_of a c.args.classes.now in
-    no_fault T g writes (trees_of c.args.first.now c.args.second.now c.args.trees.now) (all_located T g writes c.args.first.now c.args.second.now c.args.trees.now at) c.in-Ok.ensures.complete
+    no_fault T g writes (trees_of c.args.first.now c.args.second.now c.args.trees.now)
+    (all_located T g writes c.args.first.now c.args.second.now c.args.trees.now at) c.in-Ok.ensures.complete

@@ -22,7 +22,8 @@ returns-clause-lawful c =
       few_queries = subst (λ ns. length ns ≤ 256) (sym names) c.requires.names;
       names = subst (All (λ name. IsTrue (is_name name))) (sym names) c.are_names.ensures;
       names_differ = subst (IsDistinct bytes_eq) (sym names) c.requires.names_differ;
-      rows = subst (λ ns. All (IsLawfulRow (length ns)) c.in_ok-report.report.items) (sym names) (subst (All (IsLawfulRow (length c.args.names.now))) (sym c.in_ok-report.ensures) rows);
+      rows = subst (λ ns. All (IsLawfulRow (length ns)) c.in_ok-report.report.items) (sym names)
+          (subst (All (IsLawfulRow (length c.args.names.now))) (sym c.in_ok-report.ensures) rows);
       tags_ascend = subst (λ rs. Ascends (map (λ row. row.tag) rs)) (sym c.in_ok-report.ensures) (report_ascends c.args.classes.now c.args.instances.now);
       listed = length-map c.args.messages.items (λ ms. ms.items) ∙ c.requires.listed ∙ ap (λ t. length t.switches) (sym topology);
       messages = c.requires.lawful;

@@ -20,7 +20,8 @@ assembled-requires-clause-listed c =
     let g = tagging_of c.args.letters.now c.args.classes.now in
     let p = at_place c.args.forward.now c.args.policy c.requires.policy in
     ap length c.deref.ensures.value
-    ∙ AllZip-long (IsSwitchAt T g (departing T (value p.0)) c.all_trees-made.new.first c.all_trees-made.new.second) T.switches c.in-Ok.trees.items (c.in-Ok.ensures.trees p.0 p.1)
+    ∙ AllZip-long (IsSwitchAt T g (departing T (value p.0)) c.all_trees-made.new.first c.all_trees-made.new.second) T.switches
+    c.in-Ok.trees.items (c.in-Ok.ensures.trees p.0 p.1)
 
 -- and entries can stand for them
 pub assembled-requires-clause-sound : goal.assembled-requires-clause-sound
@@ -33,7 +34,13 @@ assembled-requires-clause-sound c =
     let p = at_place c.args.forward.now c.args.policy c.requires.policy in
     let letters = at_place a.trees a.root lettered.root in
     let idle_free = c.requires.idle_free p.0 p.1 in
-    let tags : HasTags T a m = record { lawful = lawful; lettered = lettered; letters = c.requires.letters; machine = c.is_lawful.ensures.machine; few = c.requires.classes } in
+    let tags : HasTags T a m = record {
+      lawful = lawful;
+      lettered = lettered;
+      letters = c.requires.letters;
+      machine = c.is_lawful.ensures.machine;
+      few = c.requires.classes;
+    } in
     let ignores = c.requires.letters_ignore letters.0 letters.1 in
     let stand = c.tests_stand_below_prerequisites.ensures in
     let below : StandBelowAll T (tagging_of a m) (departing T (value p.0)) = λ d fits. (
@@ -46,4 +53,5 @@ assembled-requires-clause-sound c =
     let policy_ports : TestPortsAt c.args.forward.now c.args.policy = λ t at v tested. inl (c.requires.policy_ports t at v tested) in
     let ports = c.in-Ok.ensures.ports policy_ports c.requires.letter_ports in
     subst (All (IsSoundAt c.all_trees-made.new.first c.all_trees-made.new.second)) (sym c.deref.ensures.value)
-    (sound_all T (tagging_of a m) (departing T (value p.0)) c.all_trees-made.new.first c.all_trees-made.new.second sound c.in-Ok.trees.items lawful.switches ports (c.in-Ok.ensures.trees p.0 p.1))
+    (sound_all T (tagging_of a m) (departing T (value p.0)) c.all_trees-made.new.first c.all_trees-made.new.second sound c.in-Ok.trees.items
+    lawful.switches ports (c.in-Ok.ensures.trees p.0 p.1))

@@ -14,11 +14,13 @@ use Rattle.pq_emit.proofs.messages.all_messages.Goals as goal
 
 pub rules-requires-clause-arriving_ids : goal.rules-requires-clause-arriving_ids
 rules-requires-clause-arriving_ids c =
-    (subst (IsSoundAt c.args.first.now c.args.second.now) (sym c.index-trees-index.is) (c.requires.sound c.loop-index.index c.index-trees-index.result c.loop-index-test.true)).arriving_ids
+    (subst (IsSoundAt c.args.first.now c.args.second.now) (sym c.index-trees-index.is)
+    (c.requires.sound c.loop-index.index c.index-trees-index.result c.loop-index-test.true)).arriving_ids
 
 pub rules-requires-clause-leaving_ids : goal.rules-requires-clause-leaving_ids
 rules-requires-clause-leaving_ids c =
-    (subst (IsSoundAt c.args.first.now c.args.second.now) (sym c.index-trees-index.is) (c.requires.sound c.loop-index.index c.index-trees-index.result c.loop-index-test.true)).leaving_ids
+    (subst (IsSoundAt c.args.first.now c.args.second.now) (sym c.index-trees-index.is)
+    (c.requires.sound c.loop-index.index c.index-trees-index.result c.loop-index-test.true)).leaving_ids
 
 -- one switch more: its messages, or the first entry with too many copies
 pub loop-index-preserved : goal.loop-index-preserved
@@ -51,7 +53,8 @@ loop-index-preserved c =
           let n = w.in-Err-GroupFull.copies in
           let is : IsRulesFault s.datapath s.limit u.first u.second (GroupFull d n) =
           subst (λ z. IsRulesFault z.datapath z.limit u.first u.second (GroupFull d n)) c.switch.view_is
-          (subst (IsRulesFault c.switch.inside.datapath c.switch.inside.limit u.first u.second) w.in-Err-GroupFull.field-0-is w.in-Err-GroupFull.ensures.cause) in
+          (subst (IsRulesFault c.switch.inside.datapath c.switch.inside.limit u.first u.second) w.in-Err-GroupFull.field-0-is
+          w.in-Err-GroupFull.ensures.cause) in
           record {
             fault = first_next ss all k s u whole full below c.index-switches-index.is among here c.loop-index.invariant.fault c.match-rules.full d n
                 (is_nowhere full w.if-is_none.ensures) w.full-is is;
@@ -63,10 +66,12 @@ loop-index-preserved c =
           let n = w.in-Err-GroupFull.copies in
           let is : IsRulesFault s.datapath s.limit u.first u.second (GroupFull d n) =
           subst (λ z. IsRulesFault z.datapath z.limit u.first u.second (GroupFull d n)) c.switch.view_is
-          (subst (IsRulesFault c.switch.inside.datapath c.switch.inside.limit u.first u.second) w.in-Err-GroupFull.field-0-is w.in-Err-GroupFull.ensures.cause) in
+          (subst (IsRulesFault c.switch.inside.datapath c.switch.inside.limit u.first u.second) w.in-Err-GroupFull.field-0-is
+          w.in-Err-GroupFull.ensures.cause) in
           let some = is_somewhere full w.if-is_none.ensures in
           record {
-            fault = later_next ss all k s u whole full below c.index-switches-index.is among here c.loop-index.invariant.fault c.match-rules.full d n some.0 some.1 w.full-is is;
+            fault = later_next ss all k s u whole full below c.index-switches-index.is among here c.loop-index.invariant.fault
+                c.match-rules.full d n some.0 some.1 w.full-is is;
             lawful = subst (λ v. All IsLawfulList (map (λ ms. ms.items) v.items)) (sym w.all-is) c.loop-index.invariant.lawful;
             filled = λ none. absurd (none-some some.0 (sym none ∙ w.full-is ∙ some.1));
           }
@@ -90,4 +95,5 @@ returns-in-Err-TableFull-clause-cause c =
     subst (λ z. IsRulesFault z.datapath z.limit u.first u.second (TableFull f.switch f.table f.entries)) c.switch.view_is
     (subst (IsRulesFault c.switch.inside.datapath c.switch.inside.limit u.first u.second) f.field-0-is f.ensures.cause) in
     inr (ap (λ zs. fault_of zs all) (sym c.switches-switches.ensures.switches)
-    ∙ full_next ss all k s u (fault_of ss all) c.loop-index.full below c.index-switches-index.is among here c.loop-index.invariant.fault f.switch f.table f.entries is)
+    ∙ full_next ss all k s u (fault_of ss all) c.loop-index.full below c.index-switches-index.is among here c.loop-index.invariant.fault
+    f.switch f.table f.entries is)

@@ -10,7 +10,8 @@ use Rattle.pq_emit.proofs.messages.all_messages.Given as goal
 
 abbrev pub invariant-loop-index : goal.invariant-loop-index
 invariant-loop-index l = record {
-  fault : with_met (met_fault l.full) (drop l.index l.switches) (drop l.index (trees_of l.first l.second l.trees)) ≡ fault_of l.switches (trees_of l.first l.second l.trees);
+  fault : with_met (met_fault l.full) (drop l.index l.switches) (drop l.index (trees_of l.first l.second l.trees))
+      ≡ fault_of l.switches (trees_of l.first l.second l.trees);
   lawful : All IsLawfulList (map (λ ms. ms.items) l.all.items);
   filled : l.full ≡ None → AllZip IsFilledBy (take l.index (trees_of l.first l.second l.trees)) (map (λ ms. ms.items) l.all.items);
 }

@@ -12,4 +12,5 @@ loop-number-preserved c =
     ap (λ l. record { query = c.instance.inside.query; label = l }) c.in_ok-copy.ensures ∙ c.instance.view_is in
     c.in_ok-push.ensures.items
     ∙ ap₂ (λ xs y. xs ++ y ∷ []) c.loop-number.invariant made
-    ∙ sym (one_instance c.args.instances.now c.args.numbers.now k x c.loop-number-test.true (c.requires k 0 c.loop-number-test.true) c.index-instances-number.is)
+    ∙ sym (one_instance c.args.instances.now c.args.numbers.now k x c.loop-number-test.true
+    (c.requires k 0 c.loop-number-test.true) c.index-instances-number.is)

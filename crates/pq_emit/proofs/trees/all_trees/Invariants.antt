@@ -13,7 +13,8 @@ use Rattle.pq_emit.proofs.trees.all_trees.Given as goal
 abbrev pub invariant-loop-switch : goal.invariant-loop-switch
 invariant-loop-switch l = record {
   trees : (p : Tree (List Written)) → slice_get l.forward l.policy ≡ Some p
-      → AllZip (IsSwitchAt l.topology (tagging_of l.letters l.classes) (departing l.topology (value p)) l.first l.second) (take l.switch-index l.switches) l.all.items;
+      → AllZip (IsSwitchAt l.topology (tagging_of l.letters l.classes) (departing l.topology (value p)) l.first l.second)
+      (take l.switch-index l.switches) l.all.items;
   ports : AllTestPortsOf l.forward l.policy l.letters l.first l.second l.all.items;
   first : Keeps l.initial.first l.first;
   second : Keeps l.initial.second l.second;

@@ -17,5 +17,6 @@ loop-place-preserved g c =
     let within : c.loop-place.place < length ps = omega (arith, test, end, len, long) in
     subst (AreParts d.topology c.part_diagram.new.store (take (c.loop-place.place + 1) ps)) (sym c.in_ok-push.ensures.items)
     (parts_more d.topology c.part_diagram.new.store c.loop-place.place ps c.loop-place.ids.items c.in_ok-id.id within
-    (parts_still d.topology c.loop-place.store c.part_diagram.new.store c.part_diagram.ensures.keeps (take c.loop-place.place ps) c.loop-place.ids.items c.loop-place.invariant)
+    (parts_still d.topology c.loop-place.store c.part_diagram.new.store c.part_diagram.ensures.keeps
+    (take c.loop-place.place ps) c.loop-place.ids.items c.loop-place.invariant)
     c.in_ok-id.ensures.part)

@@ -10,35 +10,55 @@ part_diagram-requires-clause-place g c = awaited_within c.args.document.now c.ar
 pub put-requires : goal.put-requires
 put-requires g c =
     let d = document_tree c.args.document.now in
-    let copied = put_copied d c.args.forward.now c.in_ok-store.store c.args.sum.now c.in_ok-store.sum c.args.place c.in_ok-store.ensures.same c.requires.awaits in
-    record { topology = d.topology; parts = copied.before; part = copied.part; put = (puttable d c.requires.compilable c.requires.values c.in_ok-store.store c.part_diagram.new.store c.in_ok-store.sum c.args.place c.in_ok-part.part copied c.part_diagram.ensures.keeps c.in_ok-part.ensures.part) }
+    let copied = put_copied d c.args.forward.now c.in_ok-store.store c.args.sum.now c.in_ok-store.sum c.args.place
+    c.in_ok-store.ensures.same c.requires.awaits in
+    record {
+      topology = d.topology;
+      parts = copied.before;
+      part = copied.part;
+      put =
+          (puttable d c.requires.compilable c.requires.values c.in_ok-store.store c.part_diagram.new.store c.in_ok-store.sum c.args.place
+          c.in_ok-part.part copied c.part_diagram.ensures.keeps c.in_ok-part.ensures.part);
+    }
 
 pub returns-in_err-put-clause-steps : goal.returns-in_err-put-clause-steps
 returns-in_err-put-clause-steps g c =
     let d = document_tree c.args.document.now in
-    let copied = put_copied d c.args.forward.now c.in_ok-store.store c.args.sum.now c.in_ok-store.sum c.args.place c.in_ok-store.ensures.same c.requires.awaits in
+    let copied = put_copied d c.args.forward.now c.in_ok-store.store c.args.sum.now c.in_ok-store.sum c.args.place
+    c.in_ok-store.ensures.same c.requires.awaits in
     let few = awaited_few c.args.document.now c.in_ok-store.store c.in_ok-store.sum c.args.place copied in
     let long = replaced_long c.args.document.now c.in_ok-store.store c.in_ok-store.sum c.args.place copied in
     let before = c.part_diagram.ensures.steps in
     λ k within.
-    let after = c.put.ensures.steps d.topology copied.before copied.part (puttable d c.requires.compilable c.requires.values c.in_ok-store.store c.part_diagram.new.store c.in_ok-store.sum c.args.place c.in_ok-part.part copied c.part_diagram.ensures.keeps c.in_ok-part.ensures.part) k (omega (arith, few, within)) (omega (arith, long, within)) in
+    let after = c.put.ensures.steps d.topology copied.before copied.part
+    (puttable d c.requires.compilable c.requires.values c.in_ok-store.store c.part_diagram.new.store c.in_ok-store.sum c.args.place
+    c.in_ok-part.part copied c.part_diagram.ensures.keeps c.in_ok-part.ensures.part) k (omega (arith, few, within))
+    (omega (arith, long, within)) in
     omega (arith, before, after)
 
 pub returns-clause-sum : goal.returns-clause-sum
 returns-clause-sum g c =
     let d = document_tree c.args.document.now in
-    let copied = put_copied d c.args.forward.now c.in_ok-store.store c.args.sum.now c.in_ok-store.sum c.args.place c.in_ok-store.ensures.same c.requires.awaits in
-    subst (λ ps. IsSummed d.topology c.put.new.store ps c.put.new.self) (sym copied.put) (c.in_ok-put.ensures.sum d.topology copied.before copied.part (puttable d c.requires.compilable c.requires.values c.in_ok-store.store c.part_diagram.new.store c.in_ok-store.sum c.args.place c.in_ok-part.part copied c.part_diagram.ensures.keeps c.in_ok-part.ensures.part))
+    let copied = put_copied d c.args.forward.now c.in_ok-store.store c.args.sum.now c.in_ok-store.sum c.args.place
+    c.in_ok-store.ensures.same c.requires.awaits in
+    subst (λ ps. IsSummed d.topology c.put.new.store ps c.put.new.self) (sym copied.put)
+    (c.in_ok-put.ensures.sum d.topology copied.before copied.part
+    (puttable d c.requires.compilable c.requires.values c.in_ok-store.store c.part_diagram.new.store c.in_ok-store.sum c.args.place
+    c.in_ok-part.part copied c.part_diagram.ensures.keeps c.in_ok-part.ensures.part))
 
 pub returns-clause-steps : goal.returns-clause-steps
 returns-clause-steps g c =
     let d = document_tree c.args.document.now in
-    let copied = put_copied d c.args.forward.now c.in_ok-store.store c.args.sum.now c.in_ok-store.sum c.args.place c.in_ok-store.ensures.same c.requires.awaits in
+    let copied = put_copied d c.args.forward.now c.in_ok-store.store c.args.sum.now c.in_ok-store.sum c.args.place
+    c.in_ok-store.ensures.same c.requires.awaits in
     let few = awaited_few c.args.document.now c.in_ok-store.store c.in_ok-store.sum c.args.place copied in
     let long = replaced_long c.args.document.now c.in_ok-store.store c.in_ok-store.sum c.args.place copied in
     let before = c.part_diagram.ensures.steps in
     λ k within.
-    let after = c.put.ensures.steps d.topology copied.before copied.part (puttable d c.requires.compilable c.requires.values c.in_ok-store.store c.part_diagram.new.store c.in_ok-store.sum c.args.place c.in_ok-part.part copied c.part_diagram.ensures.keeps c.in_ok-part.ensures.part) k (omega (arith, few, within)) (omega (arith, long, within)) in
+    let after = c.put.ensures.steps d.topology copied.before copied.part
+    (puttable d c.requires.compilable c.requires.values c.in_ok-store.store c.part_diagram.new.store c.in_ok-store.sum c.args.place
+    c.in_ok-part.part copied c.part_diagram.ensures.keeps c.in_ok-part.ensures.part) k (omega (arith, few, within))
+    (omega (arith, long, within)) in
     omega (arith, before, after)
 
 -- the diagram of all parts before stays where it is
@@ -52,5 +72,6 @@ returns-clause-before g c ps summed =
 pub total-before-requires : goal.total-before-requires
 total-before-requires g c =
     let d = document_tree c.args.document.now in
-    let copied = put_copied d c.args.forward.now c.in_ok-store.store c.args.sum.now c.in_ok-store.sum c.args.place c.in_ok-store.ensures.same c.requires.awaits in
+    let copied = put_copied d c.args.forward.now c.in_ok-store.store c.args.sum.now c.in_ok-store.sum c.args.place
+    c.in_ok-store.ensures.same c.requires.awaits in
     record { topology = d.topology; trees = c.in_ok-store.store; parts = copied.before; summed = copied.summed }

@@ -14,14 +14,18 @@ pub returns-in-Err-installed-clause-cause : goal.returns-in-Err-installed-clause
 returns-in-Err-installed-clause-cause g c =
     let d = document_tree c.args.document.now in
     subst (IsCompileFault d) (sym c.of_rules.ensures)
-    (rules_cause d (is_within d c.args.told.instances.items c.args.told.letters c.args.told.classes c.requires.values c.requires.told) c.in-Err-installed.fault c.in-Err-installed.ensures.cause)
+    (rules_cause d (is_within d c.args.told.instances.items c.args.told.letters c.args.told.classes c.requires.values c.requires.told)
+    c.in-Err-installed.fault c.in-Err-installed.ensures.cause)
 
 pub returns-in-Ok-copied-clause-kept : goal.returns-in-Ok-copied-clause-kept
 returns-in-Ok-copied-clause-kept g c =
     let d = document_tree c.args.document.now in
     record {
       compilable = c.requires.compilable;
-      within = record { within = is_within d c.args.told.instances.items c.args.told.letters c.args.told.classes c.requires.values c.requires.told; tables = c.in-Ok-installed.ensures.complete };
+      within = record {
+        within = is_within d c.args.told.instances.items c.args.told.letters c.args.told.classes c.requires.values c.requires.told;
+        tables = c.in-Ok-installed.ensures.complete;
+      };
       installed = c.in-Ok-installed.ensures.installed;
       summed = c.in-Ok-copied.ensures.same d.topology (parts_in d) c.in-Ok.ensures;
       classified = c.requires.told;

@@ -23,7 +23,8 @@ part_put-requires-clause-renewable g c =
     let at = c.place_of-place.ensures ∙ ap (λ (xs : List (List ℕ × Policy)). place_in c.args.name (map (λ n. n.0) xs)) c.deref.ensures.value in
     let e : Document = record { topology = d.topology; parts = c.put_at.new.named; queries = d.queries } in
     let same = part_put_tree d e c.args.name c.place_of-place.result at refl refl c.args.policy c.in-Ok.ensures.put in
-    renewable_after c.edited_documents_are_lawful.ensures (document_tree d) c.args.kept.now c.requires.kept (PartPut (c.args.name, policy_tree c.args.policy)) c.requires.lawful (document_tree e) same
+    renewable_after c.edited_documents_are_lawful.ensures (document_tree d) c.args.kept.now c.requires.kept
+    (PartPut (c.args.name, policy_tree c.args.policy)) c.requires.lawful (document_tree e) same
 
 pub part_put-requires-clause-awaits : goal.part_put-requires-clause-awaits
 part_put-requires-clause-awaits g c =
@@ -36,13 +37,15 @@ pub put_back-requires-clause-place : goal.put_back-requires-clause-place
 put_back-requires-clause-place g c =
     let d = c.args.document.now in
     let at = c.place_of-place.ensures ∙ ap (λ (xs : List (List ℕ × Policy)). place_in c.args.name (map (λ n. n.0) xs)) c.deref.ensures.value in
-    back_within d.parts.items c.put_at.new.named.items c.place_of-place.result (c.args.name, c.args.policy) c.in-Ok.old (place_long policy_tree c.args.name c.place_of-place.result d.parts.items at) c.in-Ok.ensures.put c.in-Ok.ensures.old
+    back_within d.parts.items c.put_at.new.named.items c.place_of-place.result (c.args.name, c.args.policy) c.in-Ok.old
+    (place_long policy_tree c.args.name c.place_of-place.result d.parts.items at) c.in-Ok.ensures.put c.in-Ok.ensures.old
 
 pub put_back-requires-clause-last : goal.put_back-requires-clause-last
 put_back-requires-clause-last g c =
     let d = c.args.document.now in
     let at = c.place_of-place.ensures ∙ ap (λ (xs : List (List ℕ × Policy)). place_in c.args.name (map (λ n. n.0) xs)) c.deref.ensures.value in
-    back_last d.parts.items c.put_at.new.named.items c.place_of-place.result (c.args.name, c.args.policy) c.in-Ok.old (place_long policy_tree c.args.name c.place_of-place.result d.parts.items at) c.in-Ok.ensures.put c.in-Ok.ensures.old
+    back_last d.parts.items c.put_at.new.named.items c.place_of-place.result (c.args.name, c.args.policy) c.in-Ok.old
+    (place_long policy_tree c.args.name c.place_of-place.result d.parts.items at) c.in-Ok.ensures.put c.in-Ok.ensures.old
 
 pub returns-in-Ok-part_put-clause-document : goal.returns-in-Ok-part_put-clause-document
 returns-in-Ok-part_put-clause-document g c =
@@ -65,21 +68,26 @@ returns-in-Ok-part_put-clause-unions g c =
     let d = c.args.document.now in
     let at = c.place_of-place.ensures ∙ ap (λ (xs : List (List ℕ × Policy)). place_in c.args.name (map (λ n. n.0) xs)) c.deref.ensures.value in
     let e : Document = record { topology = d.topology; parts = c.put_at.new.named; queries = d.queries } in
-    part_work d e c.args.name c.place_of-place.result at refl refl c.args.policy c.in-Ok.ensures.put c.args.unions.now c.part_put.new.unions c.part_put.ensures.steps
+    part_work d e c.args.name c.place_of-place.result at refl refl c.args.policy c.in-Ok.ensures.put c.args.unions.now c.part_put.new.unions
+    c.part_put.ensures.steps
 
 pub returns-in-Err-part_put-clause-unions : goal.returns-in-Err-part_put-clause-unions
 returns-in-Err-part_put-clause-unions g c =
     let d = c.args.document.now in
     let at = c.place_of-place.ensures ∙ ap (λ (xs : List (List ℕ × Policy)). place_in c.args.name (map (λ n. n.0) xs)) c.deref.ensures.value in
     let e : Document = record { topology = d.topology; parts = c.put_at.new.named; queries = d.queries } in
-    part_work d e c.args.name c.place_of-place.result at refl refl c.args.policy c.in-Ok.ensures.put c.args.unions.now c.part_put.new.unions c.part_put.ensures.steps
+    part_work d e c.args.name c.place_of-place.result at refl refl c.args.policy c.in-Ok.ensures.put c.args.unions.now c.part_put.new.unions
+    c.part_put.ensures.steps
 
 pub returns-in-Err-part_put-clause-kept : goal.returns-in-Err-part_put-clause-kept
 returns-in-Err-part_put-clause-kept g c =
     let d = c.args.document.now in
     let at = c.place_of-place.ensures ∙ ap (λ (xs : List (List ℕ × Policy)). place_in c.args.name (map (λ n. n.0) xs)) c.deref.ensures.value in
     let e : Document = record { topology = d.topology; parts = c.put_back.new.named; queries = d.queries } in
-    same_document d e refl (put_undone d.parts.items c.put_at.new.named.items c.place_of-place.result (c.args.name, c.args.policy) c.in-Ok.old (place_long policy_tree c.args.name c.place_of-place.result d.parts.items at) c.in-Ok.ensures.put c.in-Ok.ensures.old c.put_back.new.named.items c.put_back.ensures) refl
+    same_document d e refl
+    (put_undone d.parts.items c.put_at.new.named.items c.place_of-place.result (c.args.name, c.args.policy) c.in-Ok.old
+    (place_long policy_tree c.args.name c.place_of-place.result d.parts.items at) c.in-Ok.ensures.put c.in-Ok.ensures.old
+    c.put_back.new.named.items c.put_back.ensures) refl
 
 pub returns-in-Err-part_put-clause-cause : goal.returns-in-Err-part_put-clause-cause
 returns-in-Err-part_put-clause-cause g c =

@@ -23,7 +23,8 @@ part_removed-requires-clause-renewable g c =
     let at = c.place_of-place.ensures ∙ ap (λ (xs : List (List ℕ × Policy)). place_in c.args.name (map (λ n. n.0) xs)) c.deref.ensures.value in
     let e : Document = record { topology = d.topology; parts = c.remove_at-old.new.named; queries = d.queries } in
     let same = part_removed_tree d e c.args.name c.place_of-place.result at refl refl c.remove_at-old.ensures.removed in
-    renewable_after c.edited_documents_are_lawful.ensures (document_tree d) c.args.kept.now c.requires.kept (PartRemoved c.args.name) c.requires.lawful (document_tree e) same
+    renewable_after c.edited_documents_are_lawful.ensures (document_tree d) c.args.kept.now c.requires.kept
+    (PartRemoved c.args.name) c.requires.lawful (document_tree e) same
 
 pub part_removed-requires-clause-awaits : goal.part_removed-requires-clause-awaits
 part_removed-requires-clause-awaits g c =
@@ -53,21 +54,26 @@ returns-in-Ok-clause-unions g c =
     let d = c.args.document.now in
     let at = c.place_of-place.ensures ∙ ap (λ (xs : List (List ℕ × Policy)). place_in c.args.name (map (λ n. n.0) xs)) c.deref.ensures.value in
     let e : Document = record { topology = d.topology; parts = c.remove_at-old.new.named; queries = d.queries } in
-    part_removal_work d e c.args.name c.place_of-place.result at refl refl c.remove_at-old.ensures.removed c.requires.lawful c.args.unions.now c.part_removed.new.unions c.part_removed.ensures.steps
+    part_removal_work d e c.args.name c.place_of-place.result at refl refl c.remove_at-old.ensures.removed c.requires.lawful
+    c.args.unions.now c.part_removed.new.unions c.part_removed.ensures.steps
 
 pub returns-in-Err-clause-unions : goal.returns-in-Err-clause-unions
 returns-in-Err-clause-unions g c =
     let d = c.args.document.now in
     let at = c.place_of-place.ensures ∙ ap (λ (xs : List (List ℕ × Policy)). place_in c.args.name (map (λ n. n.0) xs)) c.deref.ensures.value in
     let e : Document = record { topology = d.topology; parts = c.remove_at-old.new.named; queries = d.queries } in
-    part_removal_work d e c.args.name c.place_of-place.result at refl refl c.remove_at-old.ensures.removed c.requires.lawful c.args.unions.now c.part_removed.new.unions c.part_removed.ensures.steps
+    part_removal_work d e c.args.name c.place_of-place.result at refl refl c.remove_at-old.ensures.removed c.requires.lawful
+    c.args.unions.now c.part_removed.new.unions c.part_removed.ensures.steps
 
 pub returns-in-Err-clause-kept : goal.returns-in-Err-clause-kept
 returns-in-Err-clause-kept g c =
     let d = c.args.document.now in
     let at = c.place_of-place.ensures ∙ ap (λ (xs : List (List ℕ × Policy)). place_in c.args.name (map (λ n. n.0) xs)) c.deref.ensures.value in
     let e : Document = record { topology = d.topology; parts = c.insert_back.new.named; queries = d.queries } in
-    same_document d e refl (removal_undone d.parts.items c.remove_at-old.new.named.items c.insert_back.new.named.items c.place_of-place.result c.remove_at-old.result (plain_within policy_tree c.args.name c.place_of-place.result d.parts.items at c.requires.lawful) c.remove_at-old.ensures.removed c.remove_at-old.ensures.old c.insert_back.ensures) refl
+    same_document d e refl
+    (removal_undone d.parts.items c.remove_at-old.new.named.items c.insert_back.new.named.items c.place_of-place.result
+    c.remove_at-old.result (plain_within policy_tree c.args.name c.place_of-place.result d.parts.items at c.requires.lawful)
+    c.remove_at-old.ensures.removed c.remove_at-old.ensures.old c.insert_back.ensures) refl
 
 pub returns-in-Err-clause-cause : goal.returns-in-Err-clause-cause
 returns-in-Err-clause-cause g c =

@@ -16,4 +16,5 @@ returns-in-Err-classified-clause-cause g c =
     subst (IsCompileFault d) (sym c.of_prepare-in-Err-classified.ensures) (prepare_cause d c.in-Err-classified.fault c.in-Err-classified.ensures.cause)
 
 pub renew-requires-clause-policy : goal.renew-requires-clause-policy
-renew-requires-clause-policy g c = c.total.ensures c.args.document.now.topology c.args.kept.now.forward (parts_in (document_tree c.args.document.now)) c.requires.summed
+renew-requires-clause-policy g c = c.total.ensures c.args.document.now.topology c.args.kept.now.forward
+    (parts_in (document_tree c.args.document.now)) c.requires.summed

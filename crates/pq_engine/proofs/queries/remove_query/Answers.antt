@@ -23,7 +23,8 @@ queries_changed-requires-clause-renewable g c =
     let at = c.place_of-place.ensures ∙ ap (λ (xs : List (List ℕ × Query)). place_in c.args.name (map (λ n. n.0) xs)) c.deref.ensures.value in
     let e : Document = record { topology = d.topology; parts = d.parts; queries = c.remove_at-old.new.named } in
     let same = query_removed_tree d e c.args.name c.place_of-place.result at refl refl c.remove_at-old.ensures.removed in
-    renewable_after c.edited_documents_are_lawful.ensures (document_tree d) c.args.kept.now c.requires.kept (QueryRemoved c.args.name) c.requires.lawful (document_tree e) same
+    renewable_after c.edited_documents_are_lawful.ensures (document_tree d) c.args.kept.now c.requires.kept
+    (QueryRemoved c.args.name) c.requires.lawful (document_tree e) same
 
 pub returns-in-Ok-clause-document : goal.returns-in-Ok-clause-document
 returns-in-Ok-clause-document g c =
@@ -46,7 +47,10 @@ returns-in-Err-clause-kept g c =
     let d = c.args.document.now in
     let at = c.place_of-place.ensures ∙ ap (λ (xs : List (List ℕ × Query)). place_in c.args.name (map (λ n. n.0) xs)) c.deref.ensures.value in
     let e : Document = record { topology = d.topology; parts = d.parts; queries = c.insert_back.new.named } in
-    same_document d e refl refl (removal_undone d.queries.items c.remove_at-old.new.named.items c.insert_back.new.named.items c.place_of-place.result c.remove_at-old.result (plain_within query_tree c.args.name c.place_of-place.result d.queries.items at c.requires.lawful) c.remove_at-old.ensures.removed c.remove_at-old.ensures.old c.insert_back.ensures)
+    same_document d e refl refl
+    (removal_undone d.queries.items c.remove_at-old.new.named.items c.insert_back.new.named.items c.place_of-place.result
+    c.remove_at-old.result (plain_within query_tree c.args.name c.place_of-place.result d.queries.items at c.requires.lawful)
+    c.remove_at-old.ensures.removed c.remove_at-old.ensures.old c.insert_back.ensures)
 
 pub returns-in-Err-clause-cause : goal.returns-in-Err-clause-cause
 returns-in-Err-clause-cause g c =

@@ -17,15 +17,19 @@ pub returns-in_default-action_of : goal.returns-in_default-action_of
 returns-in_default-action_of c =
     let left = some_left c.loop-rest.rest.now c.is_empty.result c.is_empty.ensures c.loop-rest-test.true in
     none_read action_bytes IsLawfulAction c.args.bytes.now c.loop-rest.actions.items c.loop-rest.rest.now left
-    (λ a more law is. no_action c.loop-rest.rest.now c.in-Some.size a more law is (c.in-Some.ensures.told a more law is) (sym c.action_of.ensures ∙ c.in_default-action_of.is))
+    (λ a more law is. no_action c.loop-rest.rest.now c.in-Some.size a more law is (c.in-Some.ensures.told a more law is)
+    (sym c.action_of.ensures ∙ c.in_default-action_of.is))
     c.loop-rest.invariant
 
 -- one more action
 pub loop-rest-preserved : goal.loop-rest-preserved
 loop-rest-preserved c =
     let left = some_left c.loop-rest.rest.now c.is_empty.result c.is_empty.ensures c.loop-rest-test.true in
-    rw c.in_ok-push.ensures.items (one_read action_bytes IsLawfulAction c.args.bytes.now c.loop-rest.actions.items c.loop-rest.rest.now c.in-Some-action_of.action _ left
-    (λ a more law is. action_is c.loop-rest.rest.now c.in-Some.size c.in-Some-action_of.action a more law is (c.in-Some.ensures.told a more law is) (sym c.action_of.ensures ∙ c.in-Some-action_of.is))
+    rw c.in_ok-push.ensures.items
+    (one_read action_bytes IsLawfulAction c.args.bytes.now c.loop-rest.actions.items c.loop-rest.rest.now c.in-Some-action_of.action _
+    left
+    (λ a more law is. action_is c.loop-rest.rest.now c.in-Some.size c.in-Some-action_of.action a more law is
+    (c.in-Some.ensures.told a more law is) (sym c.action_of.ensures ∙ c.in-Some-action_of.is))
     c.loop-rest.invariant)
 
 -- nothing is left

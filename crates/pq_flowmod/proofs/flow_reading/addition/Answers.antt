@@ -19,7 +19,8 @@ returns-in_default-2-clause-said c = λ f law add xid short is.
     let parts = flow_parted c.args.body.now f is in
     let command : IsLawfulCommand AddFlow f = rw add at law.command in
     let read = rw c.in-Some.is at c.in_ok-matching.ensures.said f.matching _ law.matching parts.rest in
-    let found = c.in_ok-instructions.ensures f.actions f.goto command.1 (instructions_short c.args.body.now f is short) (take_rest c.args.body.now c.in-Some.matching.1 ∙ read.1) in
+    let found = c.in_ok-instructions.ensures f.actions f.goto command.1 (instructions_short c.args.body.now f is short)
+    (take_rest c.args.body.now c.in-Some.matching.1 ∙ read.1) in
     absurd (rw c.in_default-2.is at found)
 
 -- these may not be added
@@ -28,9 +29,11 @@ returns-then-not-is_addition-clause-said c = λ f law add xid short is.
     let parts = flow_parted c.args.body.now f is in
     let command : IsLawfulCommand AddFlow f = rw add at law.command in
     let read = rw c.in-Some.is at c.in_ok-matching.ensures.said f.matching _ law.matching parts.rest in
-    let found = c.in_ok-instructions.ensures f.actions f.goto command.1 (instructions_short c.args.body.now f is short) (take_rest c.args.body.now c.in-Some.matching.1 ∙ read.1) in
+    let found = c.in_ok-instructions.ensures f.actions f.goto command.1 (instructions_short c.args.body.now f is short)
+    (take_rest c.args.body.now c.in-Some.matching.1 ∙ read.1) in
     let instructions = rw c.in-Some-2.is at found in
-    absurd (both_ways c.is_addition.result c.if-not-is_addition.true (c.is_addition.ensures.1 (rw (parts.table, c.deref.ensures.value, instructions.0, instructions.1) command)))
+    absurd (both_ways c.is_addition.result c.if-not-is_addition.true
+    (c.is_addition.ensures.1 (rw (parts.table, c.deref.ensures.value, instructions.0, instructions.1) command)))
 
 -- all is read
 pub returns-clause-said : goal.returns-clause-said
@@ -38,6 +41,8 @@ returns-clause-said c = λ f law add xid short is.
     let parts = flow_parted c.args.body.now f is in
     let command : IsLawfulCommand AddFlow f = rw add at law.command in
     let read = rw c.in-Some.is at c.in_ok-matching.ensures.said f.matching _ law.matching parts.rest in
-    let found = c.in_ok-instructions.ensures f.actions f.goto command.1 (instructions_short c.args.body.now f is short) (take_rest c.args.body.now c.in-Some.matching.1 ∙ read.1) in
+    let found = c.in_ok-instructions.ensures f.actions f.goto command.1 (instructions_short c.args.body.now f is short)
+    (take_rest c.args.body.now c.in-Some.matching.1 ∙ read.1) in
     let instructions = rw c.in-Some-2.is at found in
-    ap Some (flow_is f _ _ _ _ _ _ _ _ (sym xid) (c.u64_of.ensures ∙ parts.cookie law.cookie) parts.table (sym add) (c.u16_of.ensures ∙ parts.priority law.priority) read.0 instructions.0 instructions.1)
+    ap Some (flow_is f _ _ _ _ _ _ _ _ (sym xid) (c.u64_of.ensures ∙ parts.cookie law.cookie) parts.table (sym add) (c.u16_of.ensures
+    ∙ parts.priority law.priority) read.0 instructions.0 instructions.1)

@@ -25,4 +25,5 @@ returns-clause-said c = λ f law strict xid is.
     let parts = flow_parted c.args.body.now f is in
     let command : IsLawfulCommand DeleteStrict f = rw strict at law.command in
     let read = rw c.in-Some.is at c.in_ok-matching.ensures.said f.matching _ law.matching parts.rest in
-    ap Some (flow_is f _ _ _ _ _ _ _ _ (sym xid) (sym command.0) parts.table (sym strict) (c.u16_of.ensures ∙ parts.priority law.priority) read.0 (c.new.ensures.items ∙ sym command.2.0) (sym command.2.1))
+    ap Some (flow_is f _ _ _ _ _ _ _ _ (sym xid) (sym command.0) parts.table (sym strict) (c.u16_of.ensures
+    ∙ parts.priority law.priority) read.0 (c.new.ensures.items ∙ sym command.2.0) (sym command.2.1))

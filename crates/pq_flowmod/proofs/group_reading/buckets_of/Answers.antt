@@ -29,7 +29,8 @@ loop-rest-preserved c =
     let left = some_left c.loop-rest.rest.now c.is_empty.result c.is_empty.ensures c.loop-rest-test.true in
     let longer : map (λ b. b.items) c.push.new.self.items ≡ map (λ b. b.items) c.loop-rest.buckets.items ++ c.in-Some-2.actions.items ∷ [] =
     ap (map (λ b. b.items)) c.in_ok-push.ensures.items ∙ map-append (λ b. b.items) c.loop-rest.buckets.items (c.in-Some-2.actions ∷ []) in
-    rw longer (one_read bucket_bytes IsReadable c.args.bytes.now (map (λ b. b.items) c.loop-rest.buckets.items) c.loop-rest.rest.now c.in-Some-2.actions.items _ left
+    rw longer (one_read bucket_bytes IsReadable c.args.bytes.now (map (λ b. b.items) c.loop-rest.buckets.items) c.loop-rest.rest.now
+    c.in-Some-2.actions.items _ left
     (λ a more law is.
     let next = bucket_next c.loop-rest.rest.now c.in-Some.size a more law is (c.in-Some.ensures.told a more law.1 is) in
     ((rw c.in-Some-2.is at c.in_ok-actions.ensures a law.0 next.0), next.1))

@@ -37,5 +37,7 @@ returns-in-Some-Modify-clause-said c = if_ok c.filled-in-Some-Modify.result _ _
 pub returns-in-Some-Delete-clause-said : goal.returns-in-Some-Delete-clause-said
 returns-in-Some-Delete-clause-said c = λ g law xid short is.
     let parts = group_parted c.args.body.now g is in
-    c.removal.ensures.said g law (group_command_is c.in-Some-Delete.field-0 g.command Delete (c.in-Some-Delete.ensures g.command parts.command) c.in-Some-Delete.field-0-is) xid
+    c.removal.ensures.said g law
+    (group_command_is c.in-Some-Delete.field-0 g.command Delete
+    (c.in-Some-Delete.ensures g.command parts.command) c.in-Some-Delete.field-0-is) xid
     (sym (c.u32_of-group.ensures ∙ parts.group (group_below g law)))

@@ -25,5 +25,6 @@ returns-clause-said c = if_ok c.content.result _ _
     (λ found said m more law is.
     let parts = message_parted c.args.bytes.now m more law is in
     let size : c.from-length.result - 8 ≡ length (message_body m) = omega (arith, parts.told, c.from_be_bytes.ensures, c.from-length.ensures) in
-    said m law.content parts.kind (c.u32_of-xid.ensures ∙ parts.xid) (omega (arith, parts.short)) (ap (λ k. take k (drop 8 c.args.bytes.now)) size ∙ parts.body))
+    said m law.content parts.kind (c.u32_of-xid.ensures ∙ parts.xid) (omega (arith, parts.short))
+    (ap (λ k. take k (drop 8 c.args.bytes.now)) size ∙ parts.body))
     c.content.ensures.said

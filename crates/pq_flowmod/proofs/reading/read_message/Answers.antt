@@ -10,6 +10,7 @@ pub returns-then-bytes-at-clause-err : goal.returns-then-bytes-at-clause-err
 returns-then-bytes-at-clause-err c = (
   refl,
   λ m law there.
-      let parts = message_parted (drop c.args.at c.args.bytes.now) m (drop (length (message_bytes m)) (drop c.args.at c.args.bytes.now)) law (followed c.args.bytes.now c.args.at (message_bytes m) there) in
+      let parts = message_parted (drop c.args.at c.args.bytes.now) m (drop (length (message_bytes m)) (drop c.args.at c.args.bytes.now)) law
+      (followed c.args.bytes.now c.args.at (message_bytes m) there) in
       omega (arith, parts.within, length-drop c.args.at c.args.bytes.now, c.if-bytes-at.true),
 )

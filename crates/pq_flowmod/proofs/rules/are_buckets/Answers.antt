@@ -12,5 +12,7 @@ returns-then-is_empty c =
 -- there are some
 pub returns : goal.returns
 returns c =
-    let some = eqb-false (length c.args.buckets.now) 0 (sym c.is_empty.ensures ∙ c.if-is_empty.false) in
-    ((λ t. ((λ empty. some (sym (length-map c.args.buckets.now (λ b. b.items)) ∙ ap length empty)), c.each_is_bucket.ensures.0 t)), λ law. c.each_is_bucket.ensures.1 law.1)
+    let some = eqb-false (length c.args.buckets.now) 0 (sym c.is_empty.ensures ∙ c.if-is_empty.false) in (
+      (λ t. ((λ empty. some (sym (length-map c.args.buckets.now (λ b. b.items)) ∙ ap length empty)), c.each_is_bucket.ensures.0 t)),
+      λ law. c.each_is_bucket.ensures.1 law.1,
+    )

@@ -9,7 +9,10 @@ use Rattle.pq_flowmod.proofs.rules.each_is_bucket.Goals as goal
 pub returns-then-not-is_bucket : goal.returns-then-not-is_bucket
 returns-then-not-is_bucket c = (
   (λ t. absurd (false≢true t)),
-  λ all. sym c.if-not-is_bucket.true ∙ c.is_bucket.ensures.1 (rw c.deref.ensures.value (all_map_read c.args.buckets.now (λ b. b.items) IsLawfulBucket _ c.bucket-item.result all c.loop-bucket-test.true c.bucket-item.is)),
+  λ all. sym c.if-not-is_bucket.true
+      ∙ c.is_bucket.ensures.1
+      (rw c.deref.ensures.value
+      (all_map_read c.args.buckets.now (λ b. b.items) IsLawfulBucket _ c.bucket-item.result all c.loop-bucket-test.true c.bucket-item.is)),
 )
 
 -- one more bucket is lawful
@@ -21,4 +24,9 @@ loop-bucket-preserved c =
 
 -- all are
 pub returns : goal.returns
-returns c = ((λ t. all_inside (λ b. b.items) IsLawfulBucket c.args.buckets.now (all_done (λ b. IsLawfulBucket b.items) c.args.buckets.now c.loop-bucket.bucket-index (omega (arith, c.loop-bucket-test.false)) c.loop-bucket.invariant)), λ all. refl)
+returns c = (
+  (λ t. all_inside (λ b. b.items) IsLawfulBucket c.args.buckets.now
+      (all_done (λ b. IsLawfulBucket b.items) c.args.buckets.now c.loop-bucket.bucket-index
+      (omega (arith, c.loop-bucket-test.false)) c.loop-bucket.invariant)),
+  λ all. refl,
+)

@@ -15,10 +15,13 @@ use Rattle.pq_forward.proofs.flood.spread.Goals as goal
 use Rattle.pq_forward.proofs.flood.spread.Goals.{In_ok-others}
 
 -- the tree so far stays
-behind : (c : In_ok-others) → IsSpreadBehind (push c.next.new.self.iter.rest.now c.in-Some.port.now) c.args.ports.now c.at_others-in-loop-port.new.store c.loop-port.id
+behind : (c : In_ok-others)
+    → IsSpreadBehind (push c.next.new.self.iter.rest.now c.in-Some.port.now) c.args.ports.now c.at_others-in-loop-port.new.store
+    c.loop-port.id
 behind c =
     subst (λ left. IsSpreadBehind left c.args.ports.now c.at_others-in-loop-port.new.store c.loop-port.id) c.in-Some.ensures.steps
-    (behind_still c.loop-port.port-iterator.iter.rest.now c.args.ports.now c.loop-port.store c.at_others-in-loop-port.new.store c.loop-port.id c.at_others-in-loop-port.ensures.keeps
+    (behind_still c.loop-port.port-iterator.iter.rest.now c.args.ports.now c.loop-port.store c.at_others-in-loop-port.new.store
+    c.loop-port.id c.at_others-in-loop-port.ensures.keeps
     c.loop-port.invariant.spread)
 
 -- so do all trees
@@ -35,7 +38,9 @@ loop-port-init c =
     }
 
 pub returns-in_err-others-clause-keeps : goal.returns-in_err-others-clause-keeps
-returns-in_err-others-clause-keeps c = keeps_on c.args.store.now c.loop-port.store c.at_others-in-loop-port.new.store c.loop-port.invariant.keeps c.at_others-in-loop-port.ensures.keeps
+returns-in_err-others-clause-keeps c =
+    keeps_on c.args.store.now c.loop-port.store c.at_others-in-loop-port.new.store c.loop-port.invariant.keeps
+    c.at_others-in-loop-port.ensures.keeps
 
 pub node-requires-clause-yes : goal.node-requires-clause-yes
 node-requires-clause-yes c =
@@ -48,28 +53,33 @@ node-requires-clause-no c =
 
 pub node-requires-clause-sides : goal.node-requires-clause-sides
 node-requires-clause-sides c =
-    subst (λ n. (y m : Tree (List Written)) → slice_get c.at_others-in-loop-port.new.store c.in_ok-others.others ≡ Some y → slice_get c.at_others-in-loop-port.new.store c.loop-port.id ≡ Some m
+    subst (λ n. (y m : Tree (List Written)) → slice_get c.at_others-in-loop-port.new.store c.in_ok-others.others ≡ Some y
+    → slice_get c.at_others-in-loop-port.new.store c.loop-port.id ≡ Some m
     → IsJoinable (Equal Port n) y m) (sym c.from.ensures)
     (behind_joins c.next.new.self.iter.rest.now c.in-Some.port.now c.args.ports.now c.at_others-in-loop-port.new.store c.in_ok-others.others c.loop-port.id
     (behind (goal.at.node-requires-clause-sides c).In_ok-others) c.in_ok-others.ensures.leaf c.requires.ascend c.requires.numbers c.requires.few)
 
 pub returns-in_err-id-2-clause-keeps : goal.returns-in_err-id-2-clause-keeps
 returns-in_err-id-2-clause-keeps c =
-    keeps_on c.args.store.now c.at_others-in-loop-port.new.store c.node.new.self (kept (goal.at.returns-in_err-id-2-clause-keeps c).In_ok-others) c.node.ensures.keeps
+    keeps_on c.args.store.now c.at_others-in-loop-port.new.store c.node.new.self
+    (kept (goal.at.returns-in_err-id-2-clause-keeps c).In_ok-others) c.node.ensures.keeps
 
 pub loop-port-preserved : goal.loop-port-preserved
 loop-port-preserved c =
     let at = (goal.at.loop-port-preserved c).In_ok-others in
     record {
-      spread = behind_more c.next.new.self.iter.rest.now c.in-Some.port.now c.args.ports.now c.at_others-in-loop-port.new.store c.in_ok-others.others c.loop-port.id
+      spread = behind_more c.next.new.self.iter.rest.now c.in-Some.port.now c.args.ports.now c.at_others-in-loop-port.new.store
+          c.in_ok-others.others c.loop-port.id
           (behind at) c.in_ok-others.ensures.leaf c.requires.ascend c.requires.numbers c.node.new.self c.in_ok-id-2.id
-          (subst (λ n. JoinsAt c.at_others-in-loop-port.new.store (Equal Port n) c.in_ok-others.others c.loop-port.id c.node.new.self c.in_ok-id-2.id) c.from.ensures c.in_ok-id-2.ensures.tree);
+          (subst (λ n. JoinsAt c.at_others-in-loop-port.new.store (Equal Port n) c.in_ok-others.others c.loop-port.id c.node.new.self
+          c.in_ok-id-2.id) c.from.ensures c.in_ok-id-2.ensures.tree);
       keeps = keeps_on c.args.store.now c.at_others-in-loop-port.new.store c.node.new.self (kept at) c.node.ensures.keeps;
     }
 
 pub returns-clause-spreads : goal.returns-clause-spreads
 returns-clause-spreads c =
-    behind_none c.loop-port.port-iterator.iter.rest.now c.args.ports.now c.loop-port.store c.loop-port.id c.in-None.ensures.steps.0 c.requires.ascend c.requires.numbers
+    behind_none c.loop-port.port-iterator.iter.rest.now c.args.ports.now c.loop-port.store c.loop-port.id c.in-None.ensures.steps.0
+    c.requires.ascend c.requires.numbers
     c.loop-port.invariant.spread
 
 pub returns-clause-keeps : goal.returns-clause-keeps

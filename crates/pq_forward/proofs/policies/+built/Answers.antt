@@ -6,8 +6,10 @@ use Rattle.pq_fields.specs.Pred.{pred_tree}
 use Rattle.pq_fields.specs.Writes.{no_writes}
 use Rattle.pq_policy.specs.declared.policy.Policy.TheFolds.{fold-roll-Policy}
 use Rattle.pq_policy.specs.declared.policy.Policy.TheOpen.{Policy-F}
-use Rattle.pq_policy.specs.declared.policy.Policy.TheVariants.{rolls-Identity, rolls-Flood, rolls-Filter, rolls-Mod, rolls-Fwd, rolls-If, rolls-Union, rolls-Seq}
-use Rattle.pq_policy.specs.Policy.{AnyOne, AreLawfulPolicies, Chained, Either, Forward, InTurn, IsLawfulPolicy, Only, Pass, PolicyTree, Spread, Write, leaf, none, policies, policy_step, policy_tree, policy_trees}
+use Rattle.pq_policy.specs.declared.policy.Policy.TheVariants.{rolls-Identity, rolls-Flood, rolls-Filter, rolls-Mod, rolls-Fwd, rolls-If}
+use Rattle.pq_policy.specs.declared.policy.Policy.TheVariants.{rolls-Union, rolls-Seq}
+use Rattle.pq_policy.specs.Policy.{AnyOne, AreLawfulPolicies, Chained, Either, Forward, InTurn, IsLawfulPolicy, Only, Pass, PolicyTree}
+use Rattle.pq_policy.specs.Policy.{Spread, Write, leaf, none, policies, policy_step, policy_tree, policy_trees}
 use Rattle.pq_store.specs.Tree.Tree.{Tip}
 use Rattle.pq_store.specs.Store.{HasAt}
 use Rattle.pq_rewrite.specs.Calls.{IsWriting}
@@ -15,8 +17,10 @@ use Rattle.pq_rewrite.proofs.Standing.{has_still}
 use Rattle.pq_forward.specs.Flood.{IsFlood}
 use Rattle.pq_forward.specs.Forward.{FitAsForward, FitAsForwards, IsFiltered, IsForward, IsForwards, joint, work_of}
 use Rattle.pq_forward.proofs.Halves.{halves_fall, halves_fit, halves_lawful, halves_steps, none_listed, one_listed, size}
-use Rattle.pq_forward.proofs.Joining.{HaveHalves, back_idle_free, back_within, front_idle_free, front_within, halves_in_sequence, halves_together, have_halves, sequenced_at, united_at}
-use Rattle.pq_forward.proofs.Tops.{choice_at, choice_of, either_forward, gives_too, none_at, one_forwards, only_forward, pass_forward, port_forward, sides_fit, spread_forward, turn_forward, write_forward}
+use Rattle.pq_forward.proofs.Joining.{HaveHalves, back_idle_free, back_within, front_idle_free, front_within, halves_in_sequence}
+use Rattle.pq_forward.proofs.Joining.{halves_together, have_halves, sequenced_at, united_at}
+use Rattle.pq_forward.proofs.Tops.{choice_at, choice_of, either_forward, gives_too, none_at, one_forwards, only_forward, pass_forward}
+use Rattle.pq_forward.proofs.Tops.{port_forward, sides_fit, spread_forward, turn_forward, write_forward}
 use Rattle.pq_forward.proofs.policies.+built.Given.{Over}
 use Rattle.pq_forward.proofs.policies.+built.Goals as goal
 use Rattle.pq_forward.proofs.policies.+built.Goals.{built-In_ok-failed-in-If, joined-After-split_at, joined-In_ok-y-in_default}
@@ -26,7 +30,8 @@ use Rattle.pq_forward.proofs.policies.+built.Goals.{built-In_ok-failed-in-If, jo
 pub built-returns-in-Identity-clause-forwards : goal.built-returns-in-Identity-clause-forwards
 built-returns-in-Identity-clause-forwards g t c =
     let T = c.args.topology.now in
-    let is : policy_tree c.args.policy.now ≡ leaf Pass = ap policy_tree (c.in-Identity.is ∙ sym rolls-Identity) ∙ fold-roll-Policy PolicyTree policy_step Policy-F.Identity in
+    let is : policy_tree c.args.policy.now ≡ leaf Pass = ap policy_tree (c.in-Identity.is ∙ sym rolls-Identity)
+    ∙ fold-roll-Policy PolicyTree policy_step Policy-F.Identity in
     subst (λ p. IfOk c.single.result (HasAt (IsForward T p) c.single.new.store)) (sym is)
     (IfOk-weaker c.single.result (λ id. slice_get c.single.new.store id ≡ Some (Tip (no_writes ∷ []))) (HasAt (IsForward T (leaf Pass)) c.single.new.store)
     (λ id there. (Tip (no_writes ∷ []), there, pass_forward T)) (rw c.none.ensures at c.single.ensures.leaf))
@@ -34,23 +39,28 @@ built-returns-in-Identity-clause-forwards g t c =
 pub built-returns-in-Flood-clause-forwards : goal.built-returns-in-Flood-clause-forwards
 built-returns-in-Flood-clause-forwards g t c =
     let T = c.args.topology.now in
-    let is : policy_tree c.args.policy.now ≡ (leaf Spread) = ap policy_tree (c.in-Flood.is ∙ sym rolls-Flood) ∙ fold-roll-Policy PolicyTree policy_step Policy-F.Flood in
+    let is : policy_tree c.args.policy.now ≡ (leaf Spread) = ap policy_tree (c.in-Flood.is ∙ sym rolls-Flood)
+    ∙ fold-roll-Policy PolicyTree policy_step Policy-F.Flood in
     subst (λ p. IfOk c.flood.result (HasAt (IsForward T p) c.flood.new.store)) (sym is)
     (gives_too (IsFlood T.switches) (IsForward T (leaf Spread)) (spread_forward T) c.flood.new.store c.flood.result c.flood.ensures.floods)
 
 pub built-returns-in-Filter-clause-forwards : goal.built-returns-in-Filter-clause-forwards
 built-returns-in-Filter-clause-forwards g t c =
     let T = c.args.topology.now in
-    let is : policy_tree c.args.policy.now ≡ (leaf (Only (pred_tree c.in-Filter.pred))) = ap policy_tree (c.in-Filter.is ∙ sym (rolls-Filter c.in-Filter.pred)) ∙ fold-roll-Policy PolicyTree policy_step (Policy-F.Filter c.in-Filter.pred) in
+    let is : policy_tree c.args.policy.now ≡ (leaf (Only (pred_tree c.in-Filter.pred))) =
+    ap policy_tree (c.in-Filter.is ∙ sym (rolls-Filter c.in-Filter.pred))
+    ∙ fold-roll-Policy PolicyTree policy_step (Policy-F.Filter c.in-Filter.pred) in
     subst (λ p. IfOk c.filtered.result (HasAt (IsForward T p) c.filtered.new.store)) (sym is)
-    (gives_too (IsFiltered (pred_tree c.in-Filter.pred)) (IsForward T (leaf (Only (pred_tree c.in-Filter.pred)))) (only_forward T (pred_tree c.in-Filter.pred)) c.filtered.new.store c.filtered.result c.filtered.ensures.filters)
+    (gives_too (IsFiltered (pred_tree c.in-Filter.pred)) (IsForward T (leaf (Only (pred_tree c.in-Filter.pred))))
+    (only_forward T (pred_tree c.in-Filter.pred)) c.filtered.new.store c.filtered.result c.filtered.ensures.filters)
 
 pub built-returns-in-Mod-clause-forwards : goal.built-returns-in-Mod-clause-forwards
 built-returns-in-Mod-clause-forwards g t c =
     let T = c.args.topology.now in
     let f = c.in-Mod.field in
     let n = c.in-Mod.number in
-    let is : policy_tree c.args.policy.now ≡ (leaf (Write f n)) = ap policy_tree (c.in-Mod.is ∙ sym (rolls-Mod f n)) ∙ fold-roll-Policy PolicyTree policy_step (Policy-F.Mod f n) in
+    let is : policy_tree c.args.policy.now ≡ (leaf (Write f n)) = ap policy_tree (c.in-Mod.is ∙ sym (rolls-Mod f n))
+    ∙ fold-roll-Policy PolicyTree policy_step (Policy-F.Mod f n) in
     let lawful = (subst IsLawfulPolicy is c.requires.lawful).0 in
     subst (λ p. IfOk c.write.result (HasAt (IsForward T p) c.write.new.store)) (sym is)
     (gives_too (IsWriting f n) (IsForward T (leaf (Write f n))) (λ u. write_forward T f n u lawful.0) c.write.new.store c.write.result c.write.ensures.writes)
@@ -59,21 +69,25 @@ pub built-returns-in-Fwd-clause-forwards : goal.built-returns-in-Fwd-clause-forw
 built-returns-in-Fwd-clause-forwards g t c =
     let T = c.args.topology.now in
     let n = c.in-Fwd.port in
-    let is : policy_tree c.args.policy.now ≡ (leaf (Forward n)) = ap policy_tree (c.in-Fwd.is ∙ sym (rolls-Fwd n)) ∙ fold-roll-Policy PolicyTree policy_step (Policy-F.Fwd n) in
+    let is : policy_tree c.args.policy.now ≡ (leaf (Forward n)) = ap policy_tree (c.in-Fwd.is ∙ sym (rolls-Fwd n))
+    ∙ fold-roll-Policy PolicyTree policy_step (Policy-F.Fwd n) in
     subst (λ p. IfOk c.write-in-Fwd.result (HasAt (IsForward T p) c.write-in-Fwd.new.store)) (sym is)
-    (gives_too (IsWriting Port n) (IsForward T (leaf (Forward n))) (port_forward T n) c.write-in-Fwd.new.store c.write-in-Fwd.result (rw c.from.ensures at c.write-in-Fwd.ensures.writes))
+    (gives_too (IsWriting Port n) (IsForward T (leaf (Forward n))) (port_forward T n) c.write-in-Fwd.new.store c.write-in-Fwd.result
+    (rw c.from.ensures at c.write-in-Fwd.ensures.writes))
 
 -- a choice is one between two policies
 choice_is : (g : Over) (t : ℕ) (c : built-In_ok-failed-in-If g t)
     → policy_tree c.args.policy.now ≡ choice_of (pred_tree c.in-If.pred) (policy_tree c.in-If.yes.value) (policy_tree c.in-If.no.value)
 choice_is g t c =
-    ap policy_tree (c.in-If.is ∙ sym (rolls-If c.in-If.pred c.in-If.yes c.in-If.no)) ∙ fold-roll-Policy PolicyTree policy_step (Policy-F.If c.in-If.pred c.in-If.yes c.in-If.no)
+    ap policy_tree (c.in-If.is ∙ sym (rolls-If c.in-If.pred c.in-If.yes c.in-If.no))
+    ∙ fold-roll-Policy PolicyTree policy_step (Policy-F.If c.in-If.pred c.in-If.yes c.in-If.no)
 
 -- the tree of the first stands where the second is made
 yes_has : (g : Over) (t : ℕ) (c : built-In_ok-failed-in-If g t)
     → HasAt (IsForward c.args.topology.now (policy_tree c.in-If.yes.value)) c.built-in-If.new.store c.in_ok-passed-in-If.passed
 yes_has g t c =
-    has_still (IsForward c.args.topology.now (policy_tree c.in-If.yes.value)) c.built.new.store c.built-in-If.new.store c.in_ok-passed-in-If.passed c.built-in-If.ensures.keeps
+    has_still (IsForward c.args.topology.now (policy_tree c.in-If.yes.value)) c.built.new.store c.built-in-If.new.store
+    c.in_ok-passed-in-If.passed c.built-in-If.ensures.keeps
     (rw c.deref.ensures at c.in_ok-passed-in-If.ensures.forwards)
 
 -- and that of the second
@@ -85,7 +99,8 @@ pub built-chosen-requires-clause-fit : goal.built-chosen-requires-clause-fit
 built-chosen-requires-clause-fit g t c =
     let at = (goal.at.built-chosen-requires-clause-fit g t c).In_ok-failed-in-If in
     let T = c.args.topology.now in
-    sides_fit T (pred_tree c.in-If.pred) (policy_tree c.in-If.yes.value) (policy_tree c.in-If.no.value) (subst (FitAsForward T) (choice_is g t at) c.requires.fit)
+    sides_fit T (pred_tree c.in-If.pred) (policy_tree c.in-If.yes.value) (policy_tree c.in-If.no.value)
+    (subst (FitAsForward T) (choice_is g t at) c.requires.fit)
     c.built-in-If.new.store c.in_ok-passed-in-If.passed c.in_ok-failed-in-If.failed (yes_has g t at) (no_has g t at)
 
 pub built-returns-in_ok-id-in-If-clause-forwards : goal.built-returns-in_ok-id-in-If-clause-forwards
@@ -101,18 +116,24 @@ built-returns-in-Union-clause-forwards g t c =
     let T = c.args.topology.now in
     let operands = c.in-Union.policies.items in
     let tree : PolicyTree = record { top = Either; below = policy_trees operands } in
-    let is : policy_tree c.args.policy.now ≡ tree = ap policy_tree (c.in-Union.is ∙ sym (rolls-Union c.in-Union.policies)) ∙ fold-roll-Policy PolicyTree policy_step (Policy-F.Union c.in-Union.policies) in
+    let is : policy_tree c.args.policy.now ≡ tree = ap policy_tree (c.in-Union.is ∙ sym (rolls-Union c.in-Union.policies))
+    ∙ fold-roll-Policy PolicyTree policy_step (Policy-F.Union c.in-Union.policies) in
     subst (λ p. IfOk c.joined.result (HasAt (IsForward T p) c.joined.new.store)) (sym is)
-    (gives_too (IsForwards T AnyOne (policy_trees operands)) (IsForward T tree) (either_forward T (map policy_tree operands)) c.joined.new.store c.joined.result (rw c.deref-in-Union.ensures.value at c.joined.ensures.forwards))
+    (gives_too (IsForwards T AnyOne (policy_trees operands)) (IsForward T tree)
+    (either_forward T (map policy_tree operands)) c.joined.new.store c.joined.result
+    (rw c.deref-in-Union.ensures.value at c.joined.ensures.forwards))
 
 pub built-returns-in-Seq-clause-forwards : goal.built-returns-in-Seq-clause-forwards
 built-returns-in-Seq-clause-forwards g t c =
     let T = c.args.topology.now in
     let operands = c.in-Seq.policies.items in
     let tree : PolicyTree = record { top = InTurn; below = policy_trees operands } in
-    let is : policy_tree c.args.policy.now ≡ tree = ap policy_tree (c.in-Seq.is ∙ sym (rolls-Seq c.in-Seq.policies)) ∙ fold-roll-Policy PolicyTree policy_step (Policy-F.Seq c.in-Seq.policies) in
+    let is : policy_tree c.args.policy.now ≡ tree = ap policy_tree (c.in-Seq.is ∙ sym (rolls-Seq c.in-Seq.policies))
+    ∙ fold-roll-Policy PolicyTree policy_step (Policy-F.Seq c.in-Seq.policies) in
     subst (λ p. IfOk c.joined-in-Seq.result (HasAt (IsForward T p) c.joined-in-Seq.new.store)) (sym is)
-    (gives_too (IsForwards T Chained (policy_trees operands)) (IsForward T tree) (turn_forward T (map policy_tree operands)) c.joined-in-Seq.new.store c.joined-in-Seq.result (rw c.deref-in-Seq.ensures.value at c.joined-in-Seq.ensures.forwards))
+    (gives_too (IsForwards T Chained (policy_trees operands)) (IsForward T tree)
+    (turn_forward T (map policy_tree operands)) c.joined-in-Seq.new.store c.joined-in-Seq.result
+    (rw c.deref-in-Seq.ensures.value at c.joined-in-Seq.ensures.forwards))
 
 -- The diagram of policies.
 
@@ -120,8 +141,10 @@ pub joined-returns-in-empty-clause-forwards : goal.joined-returns-in-empty-claus
 joined-returns-in-empty-clause-forwards g t c =
     let T = c.args.topology.now in
     let b = c.args.in_turn in
-    subst (λ ps. IfOk c.none_joined.result (HasAt (IsForwards T (joint b) ps) c.none_joined.new.store)) (sym (none_listed c.args.policies.now c.in-empty.len_below))
-    (IfOk-weaker c.none_joined.result (λ id. slice_get c.none_joined.new.store id ≡ Some (Tip (if b then no_writes ∷ [] else []))) (HasAt (IsForwards T (joint b) none) c.none_joined.new.store)
+    subst (λ ps. IfOk c.none_joined.result (HasAt (IsForwards T (joint b) ps) c.none_joined.new.store))
+    (sym (none_listed c.args.policies.now c.in-empty.len_below))
+    (IfOk-weaker c.none_joined.result (λ id. slice_get c.none_joined.new.store id ≡ Some (Tip (if b then no_writes ∷ [] else [])))
+    (HasAt (IsForwards T (joint b) none) c.none_joined.new.store)
     (none_at T b c.none_joined.new.store) c.none_joined.ensures.leaf)
 
 pub joined-returns-in-len1-clause-forwards : goal.joined-returns-in-len1-clause-forwards
@@ -135,9 +158,11 @@ joined-returns-in-len1-clause-forwards g t c =
 
 -- both halves are smaller than all
 falls : (g : Over) (t : ℕ) (c : joined-After-split_at g t)
-    → (size (policy_trees c.split_at.result.0.now) < size (policy_trees c.args.policies.now)) × (size (policy_trees c.split_at.result.1.now) < size (policy_trees c.args.policies.now))
+    → (size (policy_trees c.split_at.result.0.now) < size (policy_trees c.args.policies.now))
+    × (size (policy_trees c.split_at.result.1.now) < size (policy_trees c.args.policies.now))
 falls g t c =
-    halves_fall c.args.policies.now c.split_at.result.0.now c.split_at.result.1.now (length c.args.policies.now / 2) c.split_at.ensures.front c.split_at.ensures.back
+    halves_fall c.args.policies.now c.split_at.result.0.now c.split_at.result.1.now
+    (length c.args.policies.now / 2) c.split_at.ensures.front c.split_at.ensures.back
     (omega (arith, c.split_at.ensures.front_len, c.in_default.len_at_least)) (omega (arith, c.split_at.ensures.back_len, c.in_default.len_at_least))
 
 -- they are lawful and fit where all do
@@ -208,19 +233,24 @@ joined-union-requires-clause-fit g t c = halves_together (halves g t (goal.at.jo
 
 pub joined-returns-then-in_turn-clause-forwards : goal.joined-returns-then-in_turn-clause-forwards
 joined-returns-then-in_turn-clause-forwards g t c =
-    sequenced_at c.args.topology.now c.args.policies.now c.joined-in_default.new.store c.in_ok-x-in_default.x c.in_ok-y-in_default.y c.then.new.store c.in_ok-id-in_default.id
-    c.args.in_turn c.if-in_turn.true (halves g t (goal.at.joined-returns-then-in_turn-clause-forwards g t c).In_ok-y-in_default) c.in_ok-id-in_default.ensures.sequences
+    sequenced_at c.args.topology.now c.args.policies.now c.joined-in_default.new.store c.in_ok-x-in_default.x c.in_ok-y-in_default.y
+    c.then.new.store c.in_ok-id-in_default.id
+    c.args.in_turn c.if-in_turn.true (halves g t (goal.at.joined-returns-then-in_turn-clause-forwards g t c).In_ok-y-in_default)
+    c.in_ok-id-in_default.ensures.sequences
 
 pub joined-returns-in_ok-id-in_default-2-clause-forwards : goal.joined-returns-in_ok-id-in_default-2-clause-forwards
 joined-returns-in_ok-id-in_default-2-clause-forwards g t c =
-    united_at c.args.topology.now c.args.policies.now c.joined-in_default.new.store c.in_ok-x-in_default.x c.in_ok-y-in_default.y c.union.new.store c.in_ok-id-in_default-2.id
-    c.args.in_turn c.if-in_turn.false (halves g t (goal.at.joined-returns-in_ok-id-in_default-2-clause-forwards g t c).In_ok-y-in_default) c.in_ok-id-in_default-2.ensures.unites
+    united_at c.args.topology.now c.args.policies.now c.joined-in_default.new.store c.in_ok-x-in_default.x c.in_ok-y-in_default.y
+    c.union.new.store c.in_ok-id-in_default-2.id
+    c.args.in_turn c.if-in_turn.false (halves g t (goal.at.joined-returns-in_ok-id-in_default-2-clause-forwards g t c).In_ok-y-in_default)
+    c.in_ok-id-in_default-2.ensures.unites
 
 -- the steps to all are one more than those to both halves
 steps : (g : Over) (t : ℕ) (c : joined-After-split_at g t)
     → work_of (policy_trees c.args.policies.now) ≡ work_of (policy_trees c.split_at.result.0.now) + work_of (policy_trees c.split_at.result.1.now) + 1
 steps g t c =
-    halves_steps c.args.policies.now c.split_at.result.0.now c.split_at.result.1.now (length c.args.policies.now / 2) c.split_at.ensures.front c.split_at.ensures.back
+    halves_steps c.args.policies.now c.split_at.result.0.now c.split_at.result.1.now
+    (length c.args.policies.now / 2) c.split_at.ensures.front c.split_at.ensures.back
     (omega (arith, c.split_at.ensures.front_len, c.in_default.len_at_least)) (omega (arith, c.split_at.ensures.back_len, c.in_default.len_at_least))
 
 pub joined-returns-in_err-x-in_default-clause-steps : goal.joined-returns-in_err-x-in_default-clause-steps

@@ -13,9 +13,11 @@ ite-requires-clause-cond c =
 
 pub ite-requires-clause-fit : goal.ite-requires-clause-fit
 ite-requires-clause-fit c =
-    choice_fits (pred_tree c.args.pred.now) c.args.store.now c.args.yes c.args.no c.requires.fit c.pred_node.new.store c.in_ok-condition.condition c.in_ok-condition.ensures.holds
+    choice_fits (pred_tree c.args.pred.now) c.args.store.now c.args.yes c.args.no c.requires.fit c.pred_node.new.store
+    c.in_ok-condition.condition c.in_ok-condition.ensures.holds
 
 pub returns-clause-chooses : goal.returns-clause-chooses
 returns-clause-chooses c =
-    chooses_by_pred (pred_tree c.args.pred.now) c.args.store.now c.args.yes c.args.no c.requires.fit c.pred_node.new.store c.in_ok-condition.condition c.in_ok-condition.ensures.holds
+    chooses_by_pred (pred_tree c.args.pred.now) c.args.store.now c.args.yes c.args.no c.requires.fit c.pred_node.new.store
+    c.in_ok-condition.condition c.in_ok-condition.ensures.holds
     c.ite.new.store c.in_ok-id.id c.in_ok-id.ensures.chooses

@@ -5,4 +5,5 @@ use Rattle.pq_grammar.proofs.classes.class_of.Goals as goal
 
 -- a word is a name where it is not reserved
 pub returns-clause-name : goal.returns-clause-name
-returns-clause-name c = is_unreserved c.args.token.now.kind _ c.class_of_text.result (c.class_of_text.ensures ∙ ap (class_of_text c.args.token.now.kind) c.text.ensures)
+returns-clause-name c = is_unreserved c.args.token.now.kind _ c.class_of_text.result (c.class_of_text.ensures
+    ∙ ap (class_of_text c.args.token.now.kind) c.text.ensures)

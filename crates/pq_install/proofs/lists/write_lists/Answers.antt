@@ -5,7 +5,9 @@ use Rattle.pq_flowmod.proofs.BucketSteps.{flat_map-map_more}
 use Rattle.pq_install.proofs.lists.write_lists.Goals as goal
 
 pub write_list-requires : goal.write_list-requires
-write_list-requires c = rw c.deref.ensures.value (all_map_read c.args.lists.now (λ ms. ms.items) IsLawfulList _ c.list-item.result c.requires c.loop-list-test.true c.list-item.is)
+write_list-requires c =
+    rw c.deref.ensures.value
+    (all_map_read c.args.lists.now (λ ms. ms.items) IsLawfulList _ c.list-item.result c.requires c.loop-list-test.true c.list-item.is)
 
 pub loop-list-preserved : goal.loop-list-preserved
 loop-list-preserved c =

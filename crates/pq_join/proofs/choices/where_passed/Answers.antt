@@ -7,4 +7,5 @@ ite-requires-clause-fit g c =
 
 pub returns-clause-chooses : goal.returns-clause-chooses
 returns-clause-chooses g c =
-    test_chooses c.args.test c.passing.new.tests c.in_ok-passing.passing c.args.store.now c.ite.new.store c.args.yes c.args.no c.in_ok-id.id c.in_ok-passing.ensures.tree c.in_ok-id.ensures.chooses
+    test_chooses c.args.test c.passing.new.tests c.in_ok-passing.passing c.args.store.now c.ite.new.store c.args.yes c.args.no c.in_ok-id.id
+    c.in_ok-passing.ensures.tree c.in_ok-id.ensures.chooses

@@ -6,4 +6,5 @@ product-requires-clause-fit g c = fits_with_leaf c.args.from.now c.args.node c.l
 
 pub returns-clause-maps : goal.returns-clause-maps
 returns-clause-maps g c =
-    product_maps _ c.args.from.now c.args.node c.leaf.new.self c.in_ok-leaf.leaf c.product.new.into c.in_ok-id.id c.in_ok-leaf.ensures.leaf c.in_ok-id.ensures.product
+    product_maps _ c.args.from.now c.args.node c.leaf.new.self c.in_ok-leaf.leaf c.product.new.into c.in_ok-id.id c.in_ok-leaf.ensures.leaf
+    c.in_ok-id.ensures.product

@@ -6,9 +6,11 @@ use Rattle.pq_letters.proofs.signing.one_signed.Goals as goal
 use Rattle.pq_letters.proofs.signing.one_signed.Goals.{In_ok-no}
 
 -- the two leaves have the signatures of one predicate
-leaves : (c : In_ok-no) → (slice_get c.leaf-2.new.self c.in_ok-yes.yes ≡ Some (Tip (true ∷ []))) × (slice_get c.leaf-2.new.self c.in_ok-no.no ≡ Some (Tip (false ∷ [])))
+leaves : (c : In_ok-no) → (slice_get c.leaf-2.new.self c.in_ok-yes.yes ≡ Some (Tip (true ∷ [])))
+    × (slice_get c.leaf-2.new.self c.in_ok-no.no ≡ Some (Tip (false ∷ [])))
 leaves c = (
-  c.leaf-2.ensures.keeps c.in_ok-yes.yes (Tip (true ∷ [])) (c.in_ok-yes.ensures.leaf ∙ ap (λ s. Some (Tip s)) (c.signature.ensures ∙ c.in_ok-vec.ensures.items)),
+  c.leaf-2.ensures.keeps c.in_ok-yes.yes (Tip (true ∷ [])) (c.in_ok-yes.ensures.leaf
+      ∙ ap (λ s. Some (Tip s)) (c.signature.ensures ∙ c.in_ok-vec.ensures.items)),
   c.in_ok-no.ensures.leaf ∙ ap (λ s. Some (Tip s)) (c.signature-2.ensures ∙ c.in_ok-vec-2.ensures.items),
 )
 

@@ -5,4 +5,5 @@ use Rattle.pq_local.proofs.switches.all_served.Given as goal
 
 abbrev pub invariant-loop-index : goal.invariant-loop-index
 invariant-loop-index l =
-    AllZip (IsServedAt l.document.topology l.forward l.policy l.told.letters l.told.classes) (take l.index l.document.topology.switches) (map (λ ms. ms.items) l.all.items)
+    AllZip (IsServedAt l.document.topology l.forward l.policy l.told.letters l.told.classes) (take l.index l.document.topology.switches)
+    (map (λ ms. ms.items) l.all.items)

@@ -36,7 +36,8 @@ returns c s there p at =
     let policy : HasAt (IsUnionOfParts T (parts_in d)) c.args.forward.now c.args.policy =
     (p, at, of_at (IsUnionOfParts T (parts_in d)) c.args.forward.now c.args.policy p at c.requires.policy) in
     let same = c.switch.view_is
-    ∙ one_of T.switches c.switches-switches.result.now c.switches-switches.ensures.switches c.args.index c.index-switches-index.result s c.requires.index c.index-switches-index.is there in
+    ∙ one_of T.switches c.switches-switches.result.now c.switches-switches.ensures.switches c.args.index c.index-switches-index.result s
+    c.requires.index c.index-switches-index.is there in
     let made = c.in_ok-trees in
     let firsts = c.switch_trees.new.first in
     let seconds = c.switch_trees.new.second in
@@ -49,7 +50,13 @@ returns c s there p at =
     record {
       trees = are;
       sound = one_sound d c.requires.compilable of.letters of.classes
-          (record { lawful = c.switches-switches.ensures.lawful.lawful; lettered = lettered; letters = told.classes.letters; machine = c.is_lawful.ensures.machine; few = c.requires.told.tags })
+          (record {
+            lawful = c.switches-switches.ensures.lawful.lawful;
+            lettered = lettered;
+            letters = told.classes.letters;
+            machine = c.is_lawful.ensures.machine;
+            few = c.requires.told.tags;
+          })
           c.args.forward.now c.args.policy policy (c.has_diagrams.ensures.diagrams c.args.policy p at)
           (c.parts_depart.ensures.idle_free T (parts_in d) p policy.2)
           (c.parts_ignore_lacking.ensures T (parts_in d) p (lawful_parts d c.requires.compilable) policy.2)
@@ -57,5 +64,7 @@ returns c s there p at =
           c.trees_are_sound.ensures.arriving c.trees_are_sound.ensures.leaving
           c.tests_stand_below_prerequisites.ensures.arriving c.tests_stand_below_prerequisites.ensures.leaving
           c.trees_test_ports.ensures.arriving c.trees_test_ports.ensures.leaving
-          firsts seconds s made.trees (all_there IsLawfulSwitch T.switches c.switches-switches.ensures.lawful.lawful.switches c.args.index s there).0 are made.ensures.ports;
+          firsts seconds s made.trees
+          (all_there IsLawfulSwitch T.switches c.switches-switches.ensures.lawful.lawful.switches c.args.index s there).0 are
+          made.ensures.ports;
     }

@@ -10,12 +10,17 @@ use Rattle.pq_lower.proofs.expression.lower.Goals as goal
 
 pub returns : goal.returns
 returns c =
-    let begun : map pred_tree c.push.new.self.items ≡ leaf Always ∷ [] = rw (c.in_ok-push.ensures.items, c.new-added.ensures.items) (ap (λ z. z ∷ []) c.every_packet.ensures) in
+    let begun : map pred_tree c.push.new.self.items ≡ leaf Always ∷ [] =
+    rw (c.in_ok-push.ensures.items, c.new-added.ensures.items) (ap (λ z. z ∷ []) c.every_packet.ensures) in
     let one : length c.push.new.self.items ≡ 1 = rw (c.in_ok-push.ensures.items, c.new-added.ensures.items) refl in
-    let l : IsLowered c.len-base.result (query_tree c.args.query.now) c.args.label.now c.args.preds.now.items c.lower_query.new.added.items c.append.new.self.items (expr_tree c.in_ok-expr.expr) = record {
+    let l : IsLowered c.len-base.result (query_tree c.args.query.now) c.args.label.now c.args.preds.now.items c.lower_query.new.added.items
+    c.append.new.self.items (expr_tree c.in_ok-expr.expr) = record {
       based = first_of (search (c.len-base.ensures, rules), omega (arith, c.len-base.ensures));
       expr = c.in_ok-expr.ensures.expr ∙ ap {A = ℕ} {B = ExprTree} (λ n. lowered c.len-base.result (c.len-base.result + n) (query_tree c.args.query.now)) one;
-      gained = c.in_ok-expr.ensures.added ∙ ap {A = List ℕ} {B = List PredTree} (λ z. map pred_tree c.push.new.self.items ++ query_preds (query_tree c.args.query.now) z) c.values.ensures ∙ ap {A = List PredTree} {B = List PredTree} (λ z. z ++ query_preds (query_tree c.args.query.now) c.args.label.now) begun;
+      gained = c.in_ok-expr.ensures.added
+          ∙ ap {A = List ℕ} {B = List PredTree} (λ z. map pred_tree c.push.new.self.items ++ query_preds (query_tree c.args.query.now) z)
+          c.values.ensures ∙ ap {A = List PredTree} {B = List PredTree}
+          (λ z. z ++ query_preds (query_tree c.args.query.now) c.args.label.now) begun;
       joined = c.in_ok-append.ensures.items;
     } in
     let good = whole_good _ _ _ _ _ _ _ l in

@@ -4,7 +4,8 @@ use Rattle.pq_policy.specs.Policy.{policy_tree}
 use Rattle.pq_store.specs.Store.{HasAt}
 use Rattle.pq_forward.specs.Forward.{IsForward}
 use Rattle.pq_meaning.specs.Parts.{AreLawful, FitAsParts, IsUnionOfParts, part_trees}
-use Rattle.pq_meaning.proofs.PartsHalves.{HaveHalves, back_idle_free, back_within, front_idle_free, front_within, halves_fit, halves_lawful, halves_together, have_halves, one_at, united_at}
+use Rattle.pq_meaning.proofs.PartsHalves.{HaveHalves, back_idle_free, back_within, front_idle_free, front_within, halves_fit, halves_lawful}
+use Rattle.pq_meaning.proofs.PartsHalves.{halves_together, have_halves, one_at, united_at}
 use Rattle.pq_meaning.proofs.parts.+parts_forward.Given.{Over}
 use Rattle.pq_meaning.proofs.parts.+parts_forward.Goals as goal
 use Rattle.pq_meaning.proofs.parts.+parts_forward.Goals.{After-split_at, In_ok-y-in_default}
@@ -50,7 +51,8 @@ halves : (g : Over) (t : ℕ) (c : In_ok-y-in_default g t)
     → HaveHalves c.args.topology.now (part_trees c.args.parts.now) c.parts_forward-in_default.new.store c.in_ok-x-in_default.x c.in_ok-y-in_default.y
 halves g t c =
     have_halves c.args.topology.now c.args.parts.now c.split_at.result.0.now c.split_at.result.1.now (length c.args.parts.now / 2)
-    c.parts_forward.new.store c.parts_forward-in_default.new.store c.in_ok-x-in_default.x c.in_ok-y-in_default.y c.split_at.ensures.front c.split_at.ensures.back
+    c.parts_forward.new.store c.parts_forward-in_default.new.store c.in_ok-x-in_default.x c.in_ok-y-in_default.y c.split_at.ensures.front
+    c.split_at.ensures.back
     c.parts_forward-in_default.ensures.keeps c.in_ok-x-in_default.ensures.forwards c.in_ok-y-in_default.ensures.forwards
 
 pub union-requires-clause-x : goal.union-requires-clause-x
@@ -71,9 +73,11 @@ union-requires-clause-fit g t c = halves_together (halves g t (goal.at.union-req
 pub returns-in-len1-clause-forwards : goal.returns-in-len1-clause-forwards
 returns-in-len1-clause-forwards g t c =
     let T = c.args.topology.now in
-    IfOk-weaker c.forward.result (HasAt (IsForward T (policy_tree c.part-item.result.1)) c.forward.new.store) (HasAt (IsUnionOfParts T (part_trees c.args.parts.now)) c.forward.new.store)
+    IfOk-weaker c.forward.result (HasAt (IsForward T (policy_tree c.part-item.result.1)) c.forward.new.store)
+    (HasAt (IsUnionOfParts T (part_trees c.args.parts.now)) c.forward.new.store)
     (one_at T c.args.parts.now c.part-item.result c.in-len1.len_below c.in-len1.len_at_least c.part-item.is c.forward.new.store) c.forward.ensures.forwards
 
 pub returns-in_ok-id-in_default-clause-forwards : goal.returns-in_ok-id-in_default-clause-forwards
 returns-in_ok-id-in_default-clause-forwards g t c =
-    united_at (halves g t (goal.at.returns-in_ok-id-in_default-clause-forwards g t c).In_ok-y-in_default) c.union.new.store c.in_ok-id-in_default.id c.in_ok-id-in_default.ensures.unites
+    united_at (halves g t (goal.at.returns-in_ok-id-in_default-clause-forwards g t c).In_ok-y-in_default) c.union.new.store
+    c.in_ok-id-in_default.id c.in_ok-id-in_default.ensures.unites

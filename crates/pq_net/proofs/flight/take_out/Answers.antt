@@ -8,4 +8,6 @@ returns-clause-left c = ap (drop c.args.first) c.remove.ensures.items ∙ later_
 
 pub returns-then-place-eq0-clause-left : goal.returns-then-place-eq0-clause-left
 returns-then-place-eq0-clause-left c =
-    c.without_front.ensures.left ∙ (first_removed c.args.first c.args.flight.now.items ∙ ap (remove (drop c.args.first c.args.flight.now.items)) (sym c.if-place-eq0.true))
+    c.without_front.ensures.left
+    ∙ (first_removed c.args.first c.args.flight.now.items
+    ∙ ap (remove (drop c.args.first c.args.flight.now.items)) (sym c.if-place-eq0.true))

@@ -8,7 +8,8 @@ pub returns-in-Some : goal.returns-in-Some
 returns-in-Some c =
     let number = ap (λ x. x.packet.switch) c.x-inside.view_is ∙ ap (λ x. x.packet.switch) c.x.view_is in
     let at = rw number at c.in-Some.ensures.place in
-    let told = switch_found c.args.wiring.now.switches c.args.tables.now c.args.x.now.packet.switch c.in-Some.index c.index-tables-index.result c.in-Some.ensures.ascending c.requires at in
+    let told = switch_found c.args.wiring.now.switches c.args.tables.now c.args.x.now.packet.switch c.in-Some.index
+    c.index-tables-index.result c.in-Some.ensures.ascending c.requires at in
     rw (told ∙ sym c.index-tables-index.is) c.hop.ensures
 
 -- where there is no such switch nothing is sent

@@ -11,7 +11,10 @@ at_once f g [] = refl
 at_once f g (x ∷ xs) = λ i. g (f x) ∷ at_once f g xs i
 
 pub tables_after-requires : goal.tables_after-requires
-tables_after-requires c = rw c.deref.ensures.value (all_map_read c.args.lists.now (λ ms. ms.items) IsLawfulList _ c.messages-item.result c.requires c.loop-messages-test.true c.messages-item.is)
+tables_after-requires c =
+    rw c.deref.ensures.value
+    (all_map_read c.args.lists.now (λ ms. ms.items) IsLawfulList _ c.messages-item.result c.requires c.loop-messages-test.true
+    c.messages-item.is)
 
 pub returns : goal.returns
 returns c =

@@ -13,7 +13,14 @@ returns-then-bytes-lt4 c = λ m more law is. absurd (omega (arith, (spelled c.ar
 
 -- its length counts the header
 pub returns-then-length-lt4 : goal.returns-then-length-lt4
-returns-then-length-lt4 c = λ m more law is. absurd (omega (arith, (spelled c.args.bytes.now m more is).count, c.from_be_bytes.ensures, c.from-length.ensures, c.if-length-lt4.true))
+returns-then-length-lt4 c =
+    λ m more law is. absurd (omega (
+      arith,
+      (spelled c.args.bytes.now m more is).count,
+      c.from_be_bytes.ensures,
+      c.from-length.ensures,
+      c.if-length-lt4.true,
+    ))
 
 -- it lies within the bytes
 pub returns-then-bytes-length : goal.returns-then-bytes-length
@@ -26,6 +33,7 @@ pub returns : goal.returns
 returns c = λ m more law is.
     let parts = spelled c.args.bytes.now m more is in
     let count : c.from-length.result - 4 ≡ length (match_oxms m) = omega (arith, parts.count, c.from_be_bytes.ensures, c.from-length.ensures) in
-    let said : c.fields_of.result ≡ m = c.fields_of.ensures ∙ ap (λ k. fields_of (take k (drop 4 c.args.bytes.now))) count ∙ ap fields_of parts.oxms ∙ fields_read m law in
+    let said : c.fields_of.result ≡ m = c.fields_of.ensures ∙ ap (λ k. fields_of (take k (drop 4 c.args.bytes.now))) count
+    ∙ ap fields_of parts.oxms ∙ fields_read m law in
     let lawful : IsLawfulMatch c.fields_of.result = subst IsLawfulMatch (sym said) law in
     c.lawful.ensures.whole lawful ∙ ap Some said

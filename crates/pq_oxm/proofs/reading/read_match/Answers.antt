@@ -10,7 +10,8 @@ pub returns-then-bytes-at-clause-err : goal.returns-then-bytes-at-clause-err
 returns-then-bytes-at-clause-err c = (
   refl,
   λ m law there.
-      let parts = spelled (drop c.args.at c.args.bytes.now) m (drop (length (match_bytes m)) (drop c.args.at c.args.bytes.now)) (followed c.args.bytes.now c.args.at (match_bytes m) there) in
+      let parts = spelled (drop c.args.at c.args.bytes.now) m (drop (length (match_bytes m)) (drop c.args.at c.args.bytes.now))
+      (followed c.args.bytes.now c.args.at (match_bytes m) there) in
       omega (arith, parts.long, length-drop c.args.at c.args.bytes.now, c.if-bytes-at.true),
 )
 
@@ -19,7 +20,8 @@ pub returns-in_default-clause-err : goal.returns-in_default-clause-err
 returns-in_default-clause-err c = (
   refl,
   λ m law there.
-      let read = c.in_default.ensures m (drop (length (match_bytes m)) (drop c.args.at c.args.bytes.now)) law (take_rest c.args.bytes.now c.args.at ∙ followed c.args.bytes.now c.args.at (match_bytes m) there) in
+      let read = c.in_default.ensures m (drop (length (match_bytes m)) (drop c.args.at c.args.bytes.now)) law
+      (take_rest c.args.bytes.now c.args.at ∙ followed c.args.bytes.now c.args.at (match_bytes m) there) in
       absurd cc,
 )
 
@@ -28,8 +30,10 @@ pub returns-in-Ok-None-clause-err : goal.returns-in-Ok-None-clause-err
 returns-in-Ok-None-clause-err c = (
   refl,
   λ m law there.
-      let rest : take (length c.args.bytes.now - c.args.at) (drop c.args.at c.args.bytes.now) ≡ drop c.args.at c.args.bytes.now = take_rest c.args.bytes.now c.args.at in
-      let read = c.in-Some.ensures m (drop (length (match_bytes m)) (drop c.args.at c.args.bytes.now)) law (rest ∙ followed c.args.bytes.now c.args.at (match_bytes m) there) in
+      let rest : take (length c.args.bytes.now - c.args.at) (drop c.args.at c.args.bytes.now) ≡ drop c.args.at c.args.bytes.now =
+      take_rest c.args.bytes.now c.args.at in
+      let read = c.in-Some.ensures m (drop (length (match_bytes m)) (drop c.args.at c.args.bytes.now)) law (rest
+      ∙ followed c.args.bytes.now c.args.at (match_bytes m) there) in
       let other = rw c.in-Ok-None.field-0-is at c.in-Ok-None.ensures in
       let found : c.in-Some.found ≡ m = cc in
       other (rw (found, rest) there),

@@ -10,34 +10,44 @@ loop-index-init c = record { gone = goes_nowhere c.args.line c.args.piece.now.it
 pub returns-in-Ok-None-clause-found : goal.returns-in-Ok-None-clause-found
 returns-in-Ok-None-clause-found c =
     let i = c.loop-index.invariant in
-    let takes = subst (Takes c.loop-index.now c.loop-index.piece.items (get_or c.args.bytes.now c.loop-index.index 0) c.take.new.piece.items) c.in-Ok-None.field-0-is c.in-Ok-None.ensures in
-    next_ends c.args.line c.args.piece.now.items c.args.bytes.now c.loop-index.index c.loop-index.now c.loop-index.piece.items c.take.new.piece.items c.loop-index-test.true i.gone takes
+    let takes = subst (Takes c.loop-index.now c.loop-index.piece.items
+    (get_or c.args.bytes.now c.loop-index.index 0) c.take.new.piece.items) c.in-Ok-None.field-0-is c.in-Ok-None.ensures in
+    next_ends c.args.line c.args.piece.now.items c.args.bytes.now c.loop-index.index c.loop-index.now c.loop-index.piece.items
+    c.take.new.piece.items c.loop-index-test.true i.gone takes
 
 pub returns-in-Ok-None-clause-short : goal.returns-in-Ok-None-clause-short
 returns-in-Ok-None-clause-short c =
-    let takes = subst (Takes c.loop-index.now c.loop-index.piece.items (get_or c.args.bytes.now c.loop-index.index 0) c.take.new.piece.items) c.in-Ok-None.field-0-is c.in-Ok-None.ensures in
+    let takes = subst (Takes c.loop-index.now c.loop-index.piece.items
+    (get_or c.args.bytes.now c.loop-index.index 0) c.take.new.piece.items) c.in-Ok-None.field-0-is c.in-Ok-None.ensures in
     subst (λ p. length p ≤ c.args.limit) (sym takes.1) c.loop-index.invariant.short
 
 pub returns-then-len-limit-clause-stopped : goal.returns-then-len-limit-clause-stopped
 returns-then-len-limit-clause-stopped c rest =
     let i = c.loop-index.invariant in
-    let takes = subst (Takes c.loop-index.now c.loop-index.piece.items (get_or c.args.bytes.now c.loop-index.index 0) c.take.new.piece.items) c.in-Ok-Some.field-0-is c.in-Ok-Some.ensures in
-    let gone = next_goes c.args.line c.args.piece.now.items c.args.bytes.now c.loop-index.index c.loop-index.now c.loop-index.piece.items c.in-Ok-Some.next c.take.new.piece.items c.loop-index-test.true i.gone takes in
-    long_with c.args.limit c.args.line c.args.piece.now.items c.args.bytes.now (c.loop-index.index + 1) c.in-Ok-Some.next c.take.new.piece.items gone (omega (arith, c.if-len-limit.true, c.len.ensures, c.take.new.piece.ok)) rest
+    let takes = subst (Takes c.loop-index.now c.loop-index.piece.items
+    (get_or c.args.bytes.now c.loop-index.index 0) c.take.new.piece.items) c.in-Ok-Some.field-0-is c.in-Ok-Some.ensures in
+    let gone = next_goes c.args.line c.args.piece.now.items c.args.bytes.now c.loop-index.index c.loop-index.now c.loop-index.piece.items
+    c.in-Ok-Some.next c.take.new.piece.items c.loop-index-test.true i.gone takes in
+    long_with c.args.limit c.args.line c.args.piece.now.items c.args.bytes.now
+    (c.loop-index.index + 1) c.in-Ok-Some.next c.take.new.piece.items gone
+    (omega (arith, c.if-len-limit.true, c.len.ensures, c.take.new.piece.ok)) rest
 
 pub loop-index-preserved : goal.loop-index-preserved
 loop-index-preserved c =
     let i = c.loop-index.invariant in
-    let takes = subst (Takes c.loop-index.now c.loop-index.piece.items (get_or c.args.bytes.now c.loop-index.index 0) c.take.new.piece.items) c.in-Ok-Some.field-0-is c.in-Ok-Some.ensures in
+    let takes = subst (Takes c.loop-index.now c.loop-index.piece.items
+    (get_or c.args.bytes.now c.loop-index.index 0) c.take.new.piece.items) c.in-Ok-Some.field-0-is c.in-Ok-Some.ensures in
     record {
-      gone = next_goes c.args.line c.args.piece.now.items c.args.bytes.now c.loop-index.index c.loop-index.now c.loop-index.piece.items c.in-Ok-Some.next c.take.new.piece.items c.loop-index-test.true i.gone takes;
+      gone = next_goes c.args.line c.args.piece.now.items c.args.bytes.now c.loop-index.index c.loop-index.now c.loop-index.piece.items
+          c.in-Ok-Some.next c.take.new.piece.items c.loop-index-test.true i.gone takes;
       short = omega (arith, c.if-len-limit.false, c.len.ensures, c.take.new.piece.ok);
     }
 
 pub returns-clause-found : goal.returns-clause-found
 returns-clause-found c =
     let i = c.loop-index.invariant in
-    subst (λ t. GoesOn c.args.line c.args.piece.now.items t c.loop-index.now c.loop-index.piece.items) (take_all c.loop-index.index c.args.bytes.now c.loop-index-test.false) i.gone
+    subst (λ t. GoesOn c.args.line c.args.piece.now.items t c.loop-index.now c.loop-index.piece.items)
+    (take_all c.loop-index.index c.args.bytes.now c.loop-index-test.false) i.gone
 
 pub returns-clause-short : goal.returns-clause-short
 returns-clause-short c = c.loop-index.invariant.short

@@ -15,4 +15,6 @@ returns c =
     let x = c.args.x.now in
     let laws = c.packets_are_ordered_by_numbers.ensures in
     let given = c.in_ok-add.ensures ∙ ap (grown t p x) c.new-given.ensures.empty in
-    IfOk-weaker c.listed.result (λ ys. ys.items ≡ c.add.new.into.keys) (λ ys. IsListOf (yields t p x) ys.items) (λ ys is. list_of_yields laws.compares laws.precedes t p x ys.items (is ∙ given) (subst (IsStrictlySortedBy packet_cmp) (sym is) c.listed.ensures.ordered)) c.listed.ensures.packets
+    IfOk-weaker c.listed.result (λ ys. ys.items ≡ c.add.new.into.keys) (λ ys. IsListOf (yields t p x) ys.items)
+    (λ ys is. list_of_yields laws.compares laws.precedes t p x ys.items (is
+    ∙ given) (subst (IsStrictlySortedBy packet_cmp) (sym is) c.listed.ensures.ordered)) c.listed.ensures.packets

@@ -6,4 +6,5 @@ use Rattle.pq_pred.specs.Predicates.{pred_readings}
 use Rattle.pq_pred.proofs.predicates.+resolve.Given as goal
 
 abbrev pub invariant-resolve_all-loop-term : goal.invariant-resolve_all-loop-term
-invariant-resolve_all-loop-term l = next (gathered (pred_readings l.topology l.bytes (trees (drop l.term-index l.terms)))) (λ ps. Ok (map pred_tree l.found.items ++ ps)) ≡ gathered (pred_readings l.topology l.bytes (trees l.terms))
+invariant-resolve_all-loop-term l = next (gathered (pred_readings l.topology l.bytes (trees (drop l.term-index l.terms))))
+    (λ ps. Ok (map pred_tree l.found.items ++ ps)) ≡ gathered (pred_readings l.topology l.bytes (trees l.terms))

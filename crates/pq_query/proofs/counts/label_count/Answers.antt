@@ -5,4 +5,6 @@ use Rattle.pq_query.proofs.Counted.{labels_counted}
 use Rattle.pq_query.proofs.counts.label_count.Goals as goal
 
 pub returns : goal.returns
-returns c = c.count_labels.ensures ∙ (ap (λ s. counted s (query_tree c.args.query.now)) c.sizes_of.ensures ∙ labels_counted c.args.topology.now (query_tree c.args.query.now))
+returns c = c.count_labels.ensures
+    ∙ (ap (λ s. counted s (query_tree c.args.query.now)) c.sizes_of.ensures
+    ∙ labels_counted c.args.topology.now (query_tree c.args.query.now))

@@ -5,4 +5,5 @@ use Rattle.pq_query.proofs.sizes.count_others.Given as goal
 
 -- the ports that are left make the whole of the count
 abbrev pub invariant-loop-port : goal.invariant-loop-port
-invariant-loop-port l = count_others (drop l.port-index l.ports) (flat_map (λ s. s.ports) l.switches) l.total ≡ count_others l.ports (flat_map (λ s. s.ports) l.switches) l.count
+invariant-loop-port l = count_others (drop l.port-index l.ports) (flat_map (λ s. s.ports) l.switches) l.total
+    ≡ count_others l.ports (flat_map (λ s. s.ports) l.switches) l.count

@@ -20,9 +20,11 @@ nothing_is c = c.in_ok-no.ensures.leaf ∙ ap (λ ws. Some (Tip ws)) (c.of-2.ens
 pub ite-requires-clause-fit : goal.ite-requires-clause-fit
 ite-requires-clause-fit c =
     let at = (goal.at.ite-requires-clause-fit c).In_ok-no in
-    leaves_fit c.args.tests.now c.leaf-2.new.self c.args.cond c.in_ok-yes.yes c.in_ok-no.no (no_writes ∷ []) [] c.requires.fits (unchanged_is at) (nothing_is at)
+    leaves_fit c.args.tests.now c.leaf-2.new.self c.args.cond c.in_ok-yes.yes c.in_ok-no.no (no_writes ∷ []) [] c.requires.fits
+    (unchanged_is at) (nothing_is at)
 
 pub returns-clause-keeps_where : goal.returns-clause-keeps_where
 returns-clause-keeps_where c =
     let at = (goal.at.returns-clause-keeps_where c).In_ok-no in
-    keeps_where c.args.tests.now c.leaf-2.new.self c.ite.new.store c.args.cond c.in_ok-yes.yes c.in_ok-no.no c.in_ok-id.id (unchanged_is at) (nothing_is at) c.in_ok-id.ensures.chooses
+    keeps_where c.args.tests.now c.leaf-2.new.self c.ite.new.store c.args.cond c.in_ok-yes.yes c.in_ok-no.no c.in_ok-id.id (unchanged_is at)
+    (nothing_is at) c.in_ok-id.ensures.chooses

@@ -9,7 +9,8 @@ use Rattle.pq_rewrite.proofs.presence.where_present.Goals as goal
 use Rattle.pq_rewrite.proofs.presence.where_present.Goals.{In_ok-has-in-Some}
 
 -- the diagram of the predicate says whether a packet has the field
-has_node : (g : Over) (c : In_ok-has-in-Some g) → HasAt (IsCondition (has_field c.args.field) (field_needs c.args.field)) c.pred_node.new.store c.in_ok-has-in-Some.has
+has_node : (g : Over) (c : In_ok-has-in-Some g)
+    → HasAt (IsCondition (has_field c.args.field) (field_needs c.args.field)) c.pred_node.new.store c.in_ok-has-in-Some.has
 has_node g c =
     let is = c.in-Some.ensures in
     predicate_condition (has_field c.args.field) (field_needs c.args.field) (pred_tree c.in-Some.pred) c.pred_node.new.store c.in_ok-has-in-Some.has
@@ -32,5 +33,6 @@ ite-requires-clause-fit g c =
 
 pub returns-in_ok-id-in-Some-clause-chooses : goal.returns-in_ok-id-in-Some-clause-chooses
 returns-in_ok-id-in-Some-clause-chooses g c =
-    chooses_by (has_field c.args.field) (field_needs c.args.field) c.pred_node.new.store c.in_ok-has-in-Some.has c.args.store.now c.ite.new.store c.args.yes c.args.no c.in_ok-id-in-Some.id
+    chooses_by (has_field c.args.field) (field_needs c.args.field) c.pred_node.new.store c.in_ok-has-in-Some.has c.args.store.now
+    c.ite.new.store c.args.yes c.args.no c.in_ok-id-in-Some.id
     (has_node g (goal.at.returns-in_ok-id-in-Some-clause-chooses g c).In_ok-has-in-Some) c.in_ok-id-in-Some.ensures.chooses

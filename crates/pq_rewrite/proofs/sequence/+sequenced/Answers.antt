@@ -25,7 +25,8 @@ sequenced-requires t c =
     let below = shows.yes_below in
     let whole : c.args.node ≡ t = c.decreases in
     let within = slice_get_within c.args.store.now c.in-Node.yes shows.yes_tree shows.yes_is in
-    let fits = yes_behind c.args.store.now c.args.store.now c.args.node c.in-Node.yes c.in-Node.no c.args.second c.in-Node.test c.requires.second (λ k u is. is) shows c.requires.fit in
+    let fits = yes_behind c.args.store.now c.args.store.now c.args.node c.in-Node.yes c.in-Node.no c.args.second c.in-Node.test
+    c.requires.second (λ k u is. is) shows c.requires.fit in
     (omega arith, (within, (c.requires.second, (fits, (c.requires.moved, c.requires.done)))))
 
 pub sequenced-requires-in-Node : goal.sequenced-requires-in-Node
@@ -36,7 +37,8 @@ sequenced-requires-in-Node t c =
     let kept = c.sequenced.ensures.keeps in
     let within = slice_get_within c.sequenced.new.store c.in-Node.no shows.no_tree (kept c.in-Node.no shows.no_tree shows.no_is) in
     let inside = within_still c.args.store.now c.sequenced.new.store c.args.second kept c.requires.second in
-    let fits = no_behind c.args.store.now c.sequenced.new.store c.args.node c.in-Node.yes c.in-Node.no c.args.second c.in-Node.test c.requires.second kept shows c.requires.fit in
+    let fits = no_behind c.args.store.now c.sequenced.new.store c.args.node c.in-Node.yes c.in-Node.no c.args.second c.in-Node.test
+    c.requires.second kept shows c.requires.fit in
     (omega arith, (within, (inside, (fits, (c.in_ok-passed-in-Node.ensures.moved, c.in_ok-passed-in-Node.ensures.done)))))
 
 -- the trees are kept while both sides are sequenced
@@ -46,7 +48,8 @@ keeps t c = keeps_on c.args.store.now c.sequenced.new.store c.sequenced-in-Node.
 -- the sequence of the yes side stays
 left : (t : ℕ) (c : In_ok-failed-in-Node t) → IsSequencedAt c.sequenced-in-Node.new.store c.in-Node.yes c.args.second c.in_ok-passed-in-Node.passed
 left t c =
-    sequenced_still c.sequenced.new.store c.sequenced-in-Node.new.store c.in-Node.yes c.args.second c.in_ok-passed-in-Node.passed c.sequenced-in-Node.ensures.keeps
+    sequenced_still c.sequenced.new.store c.sequenced-in-Node.new.store c.in-Node.yes c.args.second c.in_ok-passed-in-Node.passed
+    c.sequenced-in-Node.ensures.keeps
     c.in_ok-passed-in-Node.ensures.sequenced
 
 pub where_passed-requires-clause-lawful : goal.where_passed-requires-clause-lawful
@@ -67,15 +70,21 @@ where_passed-requires-clause-no t c =
 pub where_passed-requires-clause-fit : goal.where_passed-requires-clause-fit
 where_passed-requires-clause-fit t c =
     let at = (goal.at.where_passed-requires-clause-fit t c).In_ok-failed-in-Node in
-    subst (λ w. FitByAt (test_needs w c.in-Node.test) c.sequenced-in-Node.new.store c.in_ok-passed-in-Node.passed c.in_ok-failed-in-Node.failed) (sym c.none.ensures)
-    (both_meet c.args.store.now c.sequenced-in-Node.new.store c.args.node c.in-Node.yes c.in-Node.no c.args.second c.in_ok-passed-in-Node.passed c.in_ok-failed-in-Node.failed
+    subst (λ w. FitByAt (test_needs w c.in-Node.test) c.sequenced-in-Node.new.store c.in_ok-passed-in-Node.passed
+    c.in_ok-failed-in-Node.failed) (sym c.none.ensures)
+    (both_meet c.args.store.now c.sequenced-in-Node.new.store c.args.node c.in-Node.yes c.in-Node.no c.args.second
+    c.in_ok-passed-in-Node.passed c.in_ok-failed-in-Node.failed
     c.in-Node.test c.requires.second (keeps t at) c.in-Node.ensures.shows (left t at) c.in_ok-failed-in-Node.ensures.sequenced c.requires.fit)
 
 -- the sequence of a leaf
-leaf_made : (t : ℕ) (c : In_ok-id-in-Leaf t) → c.deref.result.now ≡ c.in-Leaf.set.now → IsSequencedAt c.followed_by_each.new.store c.args.node c.args.second c.in_ok-id-in-Leaf.id
+leaf_made : (t : ℕ) (c : In_ok-id-in-Leaf t) → c.deref.result.now ≡ c.in-Leaf.set.now
+    → IsSequencedAt c.followed_by_each.new.store c.args.node c.args.second c.in_ok-id-in-Leaf.id
 leaf_made t c same =
-    leaf_sequenced c.args.store.now c.followed_by_each.new.store c.args.node c.args.second c.in_ok-id-in-Leaf.id c.in-Leaf.set.now c.requires.second c.followed_by_each.ensures.keeps
-    c.in-Leaf.ensures.shows (subst (λ vs. FollowsEachAt vs c.args.store.now c.args.second c.followed_by_each.new.store c.in_ok-id-in-Leaf.id) same c.in_ok-id-in-Leaf.ensures.follows)
+    leaf_sequenced c.args.store.now c.followed_by_each.new.store c.args.node c.args.second c.in_ok-id-in-Leaf.id c.in-Leaf.set.now
+    c.requires.second c.followed_by_each.ensures.keeps
+    c.in-Leaf.ensures.shows
+    (subst (λ vs. FollowsEachAt vs c.args.store.now c.args.second c.followed_by_each.new.store c.in_ok-id-in-Leaf.id) same
+    c.in_ok-id-in-Leaf.ensures.follows)
 
 pub returns-in_ok-remember-in-Leaf-clause-sequenced : goal.returns-in_ok-remember-in-Leaf-clause-sequenced
 returns-in_ok-remember-in-Leaf-clause-sequenced t c =
@@ -84,7 +93,8 @@ returns-in_ok-remember-in-Leaf-clause-sequenced t c =
 pub returns-in_ok-remember-in-Leaf-clause-done : goal.returns-in_ok-remember-in-Leaf-clause-done
 returns-in_ok-remember-in-Leaf-clause-done t c =
     let at = goal.at.returns-in_ok-remember-in-Leaf-clause-done t c in
-    done_more c.args.second c.args.store.now c.followed_by_each.new.store c.args.node c.in_ok-id-in-Leaf.id c.args.done.now c.remember.new.done c.followed_by_each.ensures.keeps
+    done_more c.args.second c.args.store.now c.followed_by_each.new.store c.args.node c.in_ok-id-in-Leaf.id c.args.done.now
+    c.remember.new.done c.followed_by_each.ensures.keeps
     c.requires.done (leaf_made t at.In_ok-id-in-Leaf (first t at.After-deref)) c.in_ok-remember-in-Leaf.ensures
 
 -- the choice between the sequences of the sides is that of the whole
@@ -92,9 +102,12 @@ both_made : (t : ℕ) (c : In_ok-id-in-Node t) → Keeps c.args.store.now c.sequ
     → IsSequencedAt c.sequenced-in-Node.new.store c.in-Node.yes c.args.second c.in_ok-passed-in-Node.passed
     → IsSequencedAt c.where_passed.new.store c.args.node c.args.second c.in_ok-id-in-Node.id
 both_made t c kept yes_made =
-    chosen_sequenced c.args.store.now c.sequenced-in-Node.new.store c.args.node c.in-Node.yes c.in-Node.no c.args.second c.in_ok-passed-in-Node.passed c.in_ok-failed-in-Node.failed
-    c.in-Node.test c.requires.second kept c.in-Node.ensures.shows yes_made c.in_ok-failed-in-Node.ensures.sequenced c.where_passed.new.store c.in_ok-id-in-Node.id c.where_passed.ensures.keeps
-    (subst (λ w. ChoosesByAt (passes_after w c.in-Node.test) (test_needs w c.in-Node.test) c.sequenced-in-Node.new.store c.in_ok-passed-in-Node.passed c.in_ok-failed-in-Node.failed
+    chosen_sequenced c.args.store.now c.sequenced-in-Node.new.store c.args.node c.in-Node.yes c.in-Node.no c.args.second
+    c.in_ok-passed-in-Node.passed c.in_ok-failed-in-Node.failed
+    c.in-Node.test c.requires.second kept c.in-Node.ensures.shows yes_made c.in_ok-failed-in-Node.ensures.sequenced c.where_passed.new.store
+    c.in_ok-id-in-Node.id c.where_passed.ensures.keeps
+    (subst (λ w. ChoosesByAt (passes_after w c.in-Node.test)
+    (test_needs w c.in-Node.test) c.sequenced-in-Node.new.store c.in_ok-passed-in-Node.passed c.in_ok-failed-in-Node.failed
     c.where_passed.new.store c.in_ok-id-in-Node.id) c.none.ensures c.in_ok-id-in-Node.ensures.chooses)
 
 pub returns-in_ok-remember-in-Node-clause-sequenced : goal.returns-in_ok-remember-in-Node-clause-sequenced
@@ -104,11 +117,14 @@ returns-in_ok-remember-in-Node-clause-sequenced t c =
 
 pub returns-in_ok-remember-in-Node-clause-moved : goal.returns-in_ok-remember-in-Node-clause-moved
 returns-in_ok-remember-in-Node-clause-moved t c =
-    moved_still c.sequenced-in-Node.new.store c.where_passed.new.store c.sequenced-in-Node.new.moved c.where_passed.ensures.keeps c.in_ok-failed-in-Node.ensures.moved
+    moved_still c.sequenced-in-Node.new.store c.where_passed.new.store c.sequenced-in-Node.new.moved c.where_passed.ensures.keeps
+    c.in_ok-failed-in-Node.ensures.moved
 
 pub returns-in_ok-remember-in-Node-clause-done : goal.returns-in_ok-remember-in-Node-clause-done
 returns-in_ok-remember-in-Node-clause-done t c =
     let at = goal.at.returns-in_ok-remember-in-Node-clause-done t c in
-    done_more c.args.second c.sequenced-in-Node.new.store c.where_passed.new.store c.args.node c.in_ok-id-in-Node.id c.sequenced-in-Node.new.done c.remember-in-Node.new.done
-    c.where_passed.ensures.keeps c.in_ok-failed-in-Node.ensures.done (both_made t at.In_ok-id-in-Node (keeps t at.In_ok-failed-in-Node) (left t at.In_ok-failed-in-Node))
+    done_more c.args.second c.sequenced-in-Node.new.store c.where_passed.new.store c.args.node c.in_ok-id-in-Node.id
+    c.sequenced-in-Node.new.done c.remember-in-Node.new.done
+    c.where_passed.ensures.keeps c.in_ok-failed-in-Node.ensures.done
+    (both_made t at.In_ok-id-in-Node (keeps t at.In_ok-failed-in-Node) (left t at.In_ok-failed-in-Node))
     c.in_ok-remember-in-Node.ensures

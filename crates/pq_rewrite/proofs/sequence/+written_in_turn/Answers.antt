@@ -20,14 +20,16 @@ returns-in_ok-id-in-len1-clause-in_turn t c =
     let w = c.args.first.now in
     let v = c.writes-item.result in
     let one = one_there c.args.second.now v c.in-len1.len_below c.in-len1.len_at_least c.writes-item.is in
-    let made : HasAt (IsSettledFrom writable_fields c.twice-twice.result c.once-once.result) c.settled_from.new.store c.in_ok-id-in-len1.id = c.in_ok-id-in-len1.ensures.settled in
+    let made : HasAt (IsSettledFrom writable_fields c.twice-twice.result c.once-once.result) c.settled_from.new.store c.in_ok-id-in-len1.id
+    = c.in_ok-id-in-len1.ensures.settled in
     let from = subst (λ o. IsSettledFrom writable_fields (twice w v) o made.0) c.once-once.ensures.once
     (subst (λ b. IsSettledFrom writable_fields b c.once-once.result made.0) c.twice-twice.ensures made.2) in
     (made.0, made.1, subst (λ vs. IsInTurn w vs made.0) (sym one) (one_in_turn w v made.0 c.once-once.ensures.fit.0 c.once-once.ensures.fit.1 from))
 
 -- both halves, one after another
 whole : (t : ℕ) (c : After-split_at t) → c.args.second.now ≡ c.split_at.result.0.now ++ c.split_at.result.1.now
-whole t c = halves_there c.args.second.now c.split_at.result.0.now c.split_at.result.1.now (length c.args.second.now / 2) c.split_at.ensures.front c.split_at.ensures.back
+whole t c = halves_there c.args.second.now c.split_at.result.0.now c.split_at.result.1.now
+    (length c.args.second.now / 2) c.split_at.ensures.front c.split_at.ensures.back
 
 -- they may come in turn
 parts : (t : ℕ) (c : After-split_at t) → FitInTurn c.split_at.result.0.now × FitInTurn c.split_at.result.1.now
@@ -46,7 +48,8 @@ written_in_turn-requires-in_default t c =
     (omega (arith, whole, c.split_at.ensures.back_len, c.in_default.len_at_least), (parts t at).1)
 
 -- the tree of the first half stays
-left : (t : ℕ) (c : In_ok-y-in_default t) → HasAt (IsInTurn c.args.first.now c.split_at.result.0.now) c.written_in_turn-in_default.new.store c.in_ok-x-in_default.x
+left : (t : ℕ) (c : In_ok-y-in_default t)
+    → HasAt (IsInTurn c.args.first.now c.split_at.result.0.now) c.written_in_turn-in_default.new.store c.in_ok-x-in_default.x
 left t c =
     has_still (IsInTurn c.args.first.now c.split_at.result.0.now) c.written_in_turn.new.store c.written_in_turn-in_default.new.store c.in_ok-x-in_default.x
     c.written_in_turn-in_default.ensures.keeps c.in_ok-x-in_default.ensures.in_turn
@@ -58,17 +61,20 @@ united-requires-clause-x t c =
 
 pub united-requires-clause-y : goal.united-requires-clause-y
 united-requires-clause-y t c =
-    has_within (IsInTurn c.args.first.now c.split_at.result.1.now) c.written_in_turn-in_default.new.store c.in_ok-y-in_default.y c.in_ok-y-in_default.ensures.in_turn
+    has_within (IsInTurn c.args.first.now c.split_at.result.1.now) c.written_in_turn-in_default.new.store c.in_ok-y-in_default.y
+    c.in_ok-y-in_default.ensures.in_turn
 
 pub united-requires-clause-fit : goal.united-requires-clause-fit
 united-requires-clause-fit t c =
     let at = goal.at.united-requires-clause-fit t c in
-    turn_halves_fit c.args.first.now c.split_at.result.0.now c.split_at.result.1.now c.written_in_turn-in_default.new.store c.in_ok-x-in_default.x c.in_ok-y-in_default.y
+    turn_halves_fit c.args.first.now c.split_at.result.0.now c.split_at.result.1.now c.written_in_turn-in_default.new.store
+    c.in_ok-x-in_default.x c.in_ok-y-in_default.y
     (left t at.In_ok-y-in_default) c.in_ok-y-in_default.ensures.in_turn (subst FitInTurn (whole t at.After-split_at) c.requires.fit)
 
 pub returns-in_ok-id-in_default-clause-in_turn : goal.returns-in_ok-id-in_default-clause-in_turn
 returns-in_ok-id-in_default-clause-in_turn t c =
     let at = goal.at.returns-in_ok-id-in_default-clause-in_turn t c in
     subst (λ vs. HasAt (IsInTurn c.args.first.now vs) c.united.new.store c.in_ok-id-in_default.id) (sym (whole t at.After-split_at))
-    (turn_merged c.args.first.now c.split_at.result.0.now c.split_at.result.1.now c.written_in_turn-in_default.new.store c.in_ok-x-in_default.x c.in_ok-y-in_default.y
+    (turn_merged c.args.first.now c.split_at.result.0.now c.split_at.result.1.now c.written_in_turn-in_default.new.store
+    c.in_ok-x-in_default.x c.in_ok-y-in_default.y
     (left t at.In_ok-y-in_default) c.in_ok-y-in_default.ensures.in_turn c.united.new.store c.in_ok-id-in_default.id c.in_ok-id-in_default.ensures.merges)

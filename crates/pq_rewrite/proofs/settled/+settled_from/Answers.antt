@@ -23,15 +23,19 @@ number_is t c = sym c.get.ensures.number ∙ c.in-Some.is
 
 -- one tree writes it
 yes_there : (t : ℕ) (c : In_ok-yes-in-Some t)
-    → HasAt (IsSettledFrom (later_of c.args.fields.now) c.args.writes.now (with_write (first_of c.args.fields.now) c.in-Some.value c.args.done)) c.settled_from-in-Some-2.new.store c.in_ok-yes-in-Some.yes
+    → HasAt (IsSettledFrom (later_of c.args.fields.now) c.args.writes.now
+    (with_write (first_of c.args.fields.now) c.in-Some.value c.args.done)) c.settled_from-in-Some-2.new.store c.in_ok-yes-in-Some.yes
 yes_there t c =
     subst (λ done. HasAt (IsSettledFrom (later_of c.args.fields.now) c.args.writes.now done) c.settled_from-in-Some-2.new.store c.in_ok-yes-in-Some.yes)
     c.set.ensures c.in_ok-yes-in-Some.ensures.settled
 
 -- the other doesn't
-no_there : (t : ℕ) (c : In_ok-yes-in-Some t) → HasAt (IsSettledFrom (later_of c.args.fields.now) c.args.writes.now c.args.done) c.settled_from-in-Some-2.new.store c.in_ok-no-in-Some.no
+no_there : (t : ℕ) (c : In_ok-yes-in-Some t)
+    → HasAt (IsSettledFrom (later_of c.args.fields.now) c.args.writes.now c.args.done) c.settled_from-in-Some-2.new.store
+    c.in_ok-no-in-Some.no
 no_there t c =
-    has_still (IsSettledFrom (later_of c.args.fields.now) c.args.writes.now c.args.done) c.settled_from-in-Some.new.store c.settled_from-in-Some-2.new.store c.in_ok-no-in-Some.no
+    has_still (IsSettledFrom (later_of c.args.fields.now) c.args.writes.now c.args.done) c.settled_from-in-Some.new.store
+    c.settled_from-in-Some-2.new.store c.in_ok-no-in-Some.no
     c.in_ok-yes-in-Some.ensures.keeps c.in_ok-no-in-Some.ensures.settled
 
 pub where_changed-requires-clause-fit : goal.where_changed-requires-clause-fit

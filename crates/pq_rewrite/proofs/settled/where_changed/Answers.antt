@@ -9,20 +9,27 @@ use Rattle.pq_rewrite.proofs.settled.where_changed.Goals as goal
 use Rattle.pq_rewrite.proofs.settled.where_changed.Goals.{In_ok-differs, In_ok-same}
 
 -- the first diagram says whether packets have this number in the field
-same_node : (c : In_ok-same) → HasAt (IsCondition (has_number c.args.field c.args.value) (change_needs c.args.field c.args.value)) c.pred_node.new.store c.in_ok-same.same
+same_node : (c : In_ok-same)
+    → HasAt (IsCondition (has_number c.args.field c.args.value) (change_needs c.args.field c.args.value)) c.pred_node.new.store
+    c.in_ok-same.same
 same_node c = equal_condition c.args.field c.args.value c.pred_node.new.store c.in_ok-same.same c.in_ok-same.ensures.holds
 
 -- the second chooses by it
-chosen : (c : In_ok-differs) → HasAt (IsCondition (has_number c.args.field c.args.value) (change_needs c.args.field c.args.value)) c.pred_node.new.store c.in_ok-same.same
-    → ChoosesByAt (has_number c.args.field c.args.value) (change_needs c.args.field c.args.value) c.args.store.now c.args.no c.args.yes c.ite.new.store c.in_ok-differs.differs
+chosen : (c : In_ok-differs)
+    → HasAt (IsCondition (has_number c.args.field c.args.value) (change_needs c.args.field c.args.value)) c.pred_node.new.store
+    c.in_ok-same.same
+    → ChoosesByAt (has_number c.args.field c.args.value) (change_needs c.args.field c.args.value) c.args.store.now c.args.no c.args.yes
+    c.ite.new.store c.in_ok-differs.differs
 chosen c same =
-    chooses_by (has_number c.args.field c.args.value) (change_needs c.args.field c.args.value) c.pred_node.new.store c.in_ok-same.same c.args.store.now c.ite.new.store
+    chooses_by (has_number c.args.field c.args.value) (change_needs c.args.field c.args.value) c.pred_node.new.store c.in_ok-same.same
+    c.args.store.now c.ite.new.store
     c.args.no c.args.yes c.in_ok-differs.differs same c.in_ok-differs.ensures.chooses
 
 pub pred_node-requires-clause-fits : goal.pred_node-requires-clause-fits
 pred_node-requires-clause-fits c =
     let needs = change_needs c.args.field c.args.value in
-    fits_node needs (equal_tree c.args.field c.args.value) c.args.store.now c.args.yes c.args.no (equal_within c.args.field c.args.value) c.requires.yes c.requires.no c.requires.fit
+    fits_node needs (equal_tree c.args.field c.args.value) c.args.store.now c.args.yes c.args.no
+    (equal_within c.args.field c.args.value) c.requires.yes c.requires.no c.requires.fit
 
 pub ite-requires-clause-cond : goal.ite-requires-clause-cond
 ite-requires-clause-cond c = let at = c.in_ok-same.ensures.holds in slice_get_within c.pred_node.new.store c.in_ok-same.same at.0 at.1
@@ -53,5 +60,6 @@ where_present-requires-clause-fit c =
 pub returns-clause-chooses : goal.returns-clause-chooses
 returns-clause-chooses c =
     let at = goal.at.returns-clause-chooses c in
-    chooses_changed c.args.field c.args.value c.args.store.now c.ite.new.store c.where_present.new.store c.args.yes c.args.no c.in_ok-differs.differs c.in_ok-id.id
+    chooses_changed c.args.field c.args.value c.args.store.now c.ite.new.store c.where_present.new.store c.args.yes c.args.no
+    c.in_ok-differs.differs c.in_ok-id.id
     c.in_ok-differs.ensures.keeps (chosen at.In_ok-differs (same_node at.In_ok-same)) c.in_ok-id.ensures.chooses

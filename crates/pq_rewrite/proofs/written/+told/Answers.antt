@@ -12,8 +12,19 @@ told-requires g t c κs within =
     let step = c.in-Side.ensures.step in
     let below = side_below c.args.by.now c.args.from.now c.args.node c.in-Side.side step in
     let whole : c.args.node ≡ t = c.decreases in
-    let inside : c.args.node < length c.args.from.now = c.requires.node in
-    (omega arith, (within, (omega arith, (side_fits c.args.by.now c.args.from.now c.args.node c.in-Side.side step c.requires.fits, (c.requires.clones, c.requires.done)))))
+    let inside : c.args.node < length c.args.from.now = c.requires.node in (
+      omega arith,
+      (
+        within,
+        (
+          omega arith,
+          (
+            side_fits c.args.by.now c.args.from.now c.args.node c.in-Side.side step c.requires.fits,
+            (c.requires.clones, c.requires.done),
+          ),
+        ),
+      ),
+    )
 
 pub told-requires-in-Both : goal.told-requires-in-Both
 told-requires-in-Both g t c κs within =
@@ -34,7 +45,8 @@ told-requires-in-Both-2 g t c κs within =
     (omega arith, (within, (omega arith, (fits.1, (c.requires.clones, c.in_ok-passed-in-Both.ensures.done)))))
 
 -- what is told of the yes side stays
-left : (g : Over) (t : ℕ) (c : In_ok-failed-in-Both g t) → IsToldAt c.args.by.now c.args.from.now c.in-Both.yes c.told-in-Both-2.new.into c.in_ok-passed-in-Both.passed
+left : (g : Over) (t : ℕ) (c : In_ok-failed-in-Both g t)
+    → IsToldAt c.args.by.now c.args.from.now c.in-Both.yes c.told-in-Both-2.new.into c.in_ok-passed-in-Both.passed
 left g t c =
     told_still c.args.by.now c.args.from.now c.told-in-Both.new.into c.told-in-Both-2.new.into c.in-Both.yes c.in_ok-passed-in-Both.passed
     c.told-in-Both-2.ensures.keeps c.in_ok-passed-in-Both.ensures.told
@@ -56,7 +68,8 @@ where_passed-requires-clause-no g t c =
 
 pub where_passed-requires-clause-fit : goal.where_passed-requires-clause-fit
 where_passed-requires-clause-fit g t c =
-    told_fit c.args.by.now c.args.from.now c.told-in-Both-2.new.into c.args.node c.in-Both.yes c.in-Both.no c.in_ok-passed-in-Both.passed c.in_ok-failed-in-Both.failed c.in-Both.test
+    told_fit c.args.by.now c.args.from.now c.told-in-Both-2.new.into c.args.node c.in-Both.yes c.in-Both.no c.in_ok-passed-in-Both.passed
+    c.in_ok-failed-in-Both.failed c.in-Both.test
     c.in-Both.ensures.step c.requires.fits (left g t (goal.at.where_passed-requires-clause-fit g t c).In_ok-failed-in-Both) c.in_ok-failed-in-Both.ensures.told
 
 -- a leaf is told
@@ -75,7 +88,8 @@ returns-in_ok-remember-in-Leaf-clause-done g t c =
 -- where one side is reached, what is told of it is told of the whole
 side_made : (g : Over) (t : ℕ) (c : In_ok-id-in-Side g t) → IsToldAt c.args.by.now c.args.from.now c.args.node c.told.new.into c.in_ok-id-in-Side.id
 side_made g t c =
-    told_side c.args.by.now c.args.from.now c.told.new.into c.args.node c.in-Side.side c.in_ok-id-in-Side.id c.in-Side.ensures.step c.in_ok-id-in-Side.ensures.told
+    told_side c.args.by.now c.args.from.now c.told.new.into c.args.node c.in-Side.side c.in_ok-id-in-Side.id c.in-Side.ensures.step
+    c.in_ok-id-in-Side.ensures.told
 
 pub returns-in_ok-remember-in-Side-clause-told : goal.returns-in_ok-remember-in-Side-clause-told
 returns-in_ok-remember-in-Side-clause-told g t c = side_made g t (goal.at.returns-in_ok-remember-in-Side-clause-told g t c).In_ok-id-in-Side
@@ -83,10 +97,12 @@ returns-in_ok-remember-in-Side-clause-told g t c = side_made g t (goal.at.return
 pub returns-in_ok-remember-in-Side-clause-done : goal.returns-in_ok-remember-in-Side-clause-done
 returns-in_ok-remember-in-Side-clause-done g t c =
     remembers_told c.args.by.now c.args.from.now c.told.new.into c.told.new.into c.args.node c.in_ok-id-in-Side.id c.told.new.done c.remember-in-Side.new.done
-    (λ k u is. is) c.in_ok-id-in-Side.ensures.done (side_made g t (goal.at.returns-in_ok-remember-in-Side-clause-done g t c).In_ok-id-in-Side) c.in_ok-remember-in-Side.ensures
+    (λ k u is. is) c.in_ok-id-in-Side.ensures.done
+    (side_made g t (goal.at.returns-in_ok-remember-in-Side-clause-done g t c).In_ok-id-in-Side) c.in_ok-remember-in-Side.ensures
 
 -- the choice between both sides is told of the whole
-both_made : (g : Over) (t : ℕ) (c : In_ok-id-in-Both g t) → IsToldAt c.args.by.now c.args.from.now c.in-Both.yes c.told-in-Both-2.new.into c.in_ok-passed-in-Both.passed
+both_made : (g : Over) (t : ℕ) (c : In_ok-id-in-Both g t)
+    → IsToldAt c.args.by.now c.args.from.now c.in-Both.yes c.told-in-Both-2.new.into c.in_ok-passed-in-Both.passed
     → IsToldAt c.args.by.now c.args.from.now c.args.node c.where_passed.new.store c.in_ok-id-in-Both.id
 both_made g t c yes_told =
     told_both c.args.by.now c.args.from.now c.told-in-Both-2.new.into c.where_passed.new.store c.args.node c.in-Both.yes c.in-Both.no
@@ -101,5 +117,7 @@ returns-in_ok-remember-in-Both-clause-told g t c =
 pub returns-in_ok-remember-in-Both-clause-done : goal.returns-in_ok-remember-in-Both-clause-done
 returns-in_ok-remember-in-Both-clause-done g t c =
     let at = goal.at.returns-in_ok-remember-in-Both-clause-done g t c in
-    remembers_told c.args.by.now c.args.from.now c.told-in-Both-2.new.into c.where_passed.new.store c.args.node c.in_ok-id-in-Both.id c.told-in-Both-2.new.done c.remember-in-Both.new.done
-    c.where_passed.ensures.keeps c.in_ok-failed-in-Both.ensures.done (both_made g t at.In_ok-id-in-Both (left g t at.In_ok-failed-in-Both)) c.in_ok-remember-in-Both.ensures
+    remembers_told c.args.by.now c.args.from.now c.told-in-Both-2.new.into c.where_passed.new.store c.args.node c.in_ok-id-in-Both.id
+    c.told-in-Both-2.new.done c.remember-in-Both.new.done
+    c.where_passed.ensures.keeps c.in_ok-failed-in-Both.ensures.done (both_made g t at.In_ok-id-in-Both (left g t at.In_ok-failed-in-Both))
+    c.in_ok-remember-in-Both.ensures

@@ -18,7 +18,8 @@ ite-requires-clause-fit g c =
 by_test : (g : Over) (c : In_ok-unwritten g)
     → ChoosesByAt (passes c.args.test) (test_needs c.args.by.now c.args.test) c.args.store.now c.args.yes c.args.no c.ite.new.store c.in_ok-unwritten.unwritten
 by_test g c =
-    chooses_by (passes c.args.test) (test_needs c.args.by.now c.args.test) c.passing.new.tests c.in_ok-passing.passing c.args.store.now c.ite.new.store c.args.yes c.args.no c.in_ok-unwritten.unwritten
+    chooses_by (passes c.args.test) (test_needs c.args.by.now c.args.test) c.passing.new.tests c.in_ok-passing.passing c.args.store.now
+    c.ite.new.store c.args.yes c.args.no c.in_ok-unwritten.unwritten
     (passing_condition c.args.by.now c.args.test c.passing.new.tests c.in_ok-passing.passing c.in_ok-passing.ensures.tree) c.in_ok-unwritten.ensures.chooses
 
 -- the number is written into the test's field
@@ -35,20 +36,23 @@ side g c = elim c.if-decided.branch [
 pub where_present-requires-clause-yes : goal.where_present-requires-clause-yes
 where_present-requires-clause-yes g c =
     let at = goal.at.where_present-requires-clause-yes g c in
-    (passed_within c.args.by.now c.args.test c.in-Some.value (number g at.After-field-in-Some) c.args.store.now c.ite.new.store c.args.yes c.args.no c.if-decided.written c.in_ok-unwritten.unwritten
+    (passed_within c.args.by.now c.args.test c.in-Some.value (number g at.After-field-in-Some) c.args.store.now c.ite.new.store c.args.yes
+    c.args.no c.if-decided.written c.in_ok-unwritten.unwritten
     (side g at.After-field-in-Some) c.ite.ensures.keeps c.requires.yes c.requires.no (by_test g at.In_ok-unwritten)).0
 
 pub where_present-requires-clause-no : goal.where_present-requires-clause-no
 where_present-requires-clause-no g c =
     let at = goal.at.where_present-requires-clause-no g c in
-    (passed_within c.args.by.now c.args.test c.in-Some.value (number g at.After-field-in-Some) c.args.store.now c.ite.new.store c.args.yes c.args.no c.if-decided.written c.in_ok-unwritten.unwritten
+    (passed_within c.args.by.now c.args.test c.in-Some.value (number g at.After-field-in-Some) c.args.store.now c.ite.new.store c.args.yes
+    c.args.no c.if-decided.written c.in_ok-unwritten.unwritten
     (side g at.After-field-in-Some) c.ite.ensures.keeps c.requires.yes c.requires.no (by_test g at.In_ok-unwritten)).1
 
 pub where_present-requires-clause-fit : goal.where_present-requires-clause-fit
 where_present-requires-clause-fit g c =
     let at = goal.at.where_present-requires-clause-fit g c in
     rw c.field-in-Some.ensures
-    (passed_fit c.args.by.now c.args.test c.in-Some.value (number g at.After-field-in-Some) c.args.store.now c.ite.new.store c.args.yes c.args.no c.if-decided.written c.in_ok-unwritten.unwritten
+    (passed_fit c.args.by.now c.args.test c.in-Some.value (number g at.After-field-in-Some) c.args.store.now c.ite.new.store c.args.yes
+    c.args.no c.if-decided.written c.in_ok-unwritten.unwritten
     (side g at.After-field-in-Some) c.ite.ensures.keeps c.requires.yes c.requires.no c.requires.fit (by_test g at.In_ok-unwritten))
 
 pub returns-in-None-clause-chooses : goal.returns-in-None-clause-chooses
@@ -60,6 +64,7 @@ returns-in-None-clause-chooses g c =
 pub returns-in_ok-id-in-Some-clause-chooses : goal.returns-in_ok-id-in-Some-clause-chooses
 returns-in_ok-id-in-Some-clause-chooses g c =
     let at = goal.at.returns-in_ok-id-in-Some-clause-chooses g c in
-    passed_chosen c.args.by.now c.args.test c.in-Some.value (number g at.After-field-in-Some) c.args.store.now c.ite.new.store c.where_present.new.store c.args.yes c.args.no
+    passed_chosen c.args.by.now c.args.test c.in-Some.value (number g at.After-field-in-Some) c.args.store.now c.ite.new.store
+    c.where_present.new.store c.args.yes c.args.no
     c.if-decided.written c.in_ok-unwritten.unwritten c.in_ok-id-in-Some.id (side g at.After-field-in-Some) c.ite.ensures.keeps (by_test g at.In_ok-unwritten)
     (rw c.field-in-Some.ensures at c.in_ok-id-in-Some.ensures.chooses)

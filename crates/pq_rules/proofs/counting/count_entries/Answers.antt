@@ -13,5 +13,6 @@ loop-root-preserved g c = (
 
 pub returns : goal.returns
 returns g c =
-    count_all c.args.store.now c.args.roots.now (drop c.loop-root.root-index c.args.roots.now) c.loop-root.count (drop_all c.loop-root.root-index c.args.roots.now c.loop-root-test.false)
+    count_all c.args.store.now c.args.roots.now (drop c.loop-root.root-index c.args.roots.now) c.loop-root.count
+    (drop_all c.loop-root.root-index c.args.roots.now c.loop-root-test.false)
     c.loop-root.invariant.2 c.loop-root.invariant.0

@@ -10,7 +10,8 @@ use Rattle.pq_rules.proofs.entries.+push_below.Goals as goal
 use Rattle.pq_rules.proofs.entries.+push_below.Goals.{In-Node}
 
 -- the match stays lawful on the paths of the fork that is shown
-stays : (g : Over) (t : ℕ) (c : In-Node g t) → StaysLawful c.loop-found.below (Fork c.in-Node.test c.in-Node.ensures.shows.yes_tree c.in-Node.ensures.shows.no_tree)
+stays : (g : Over) (t : ℕ) (c : In-Node g t)
+    → StaysLawful c.loop-found.below (Fork c.in-Node.test c.in-Node.ensures.shows.yes_tree c.in-Node.ensures.shows.no_tree)
 stays g t c = c.loop-found.invariant.2 (Fork c.in-Node.test c.in-Node.ensures.shows.yes_tree c.in-Node.ensures.shows.no_tree) c.in-Node.ensures.shows.is
 
 pub loop-found-init : goal.loop-found-init
@@ -19,7 +20,8 @@ loop-found-init g t c = (omega arith, c.requires.node, c.requires.stays, none_be
 pub returns-in-Leaf : goal.returns-in-Leaf
 returns-in-Leaf g t c = λ u is.
     subst (λ es. Finds c.args.store.now (matches_below c.args.matching.now u) c.args.found.now.items es) (sym c.in_ok-push-in-Leaf.ensures.items)
-    (all_below c.args.store.now c.args.node c.loop-found.at _ c.args.matching.now c.loop-found.below c.args.found.now.items c.loop-found.found.items c.in-Leaf.ensures.shows c.loop-found.invariant.3 u is)
+    (all_below c.args.store.now c.args.node c.loop-found.at _ c.args.matching.now c.loop-found.below c.args.found.now.items
+    c.loop-found.found.items c.in-Leaf.ensures.shows c.loop-found.invariant.3 u is)
 
 pub passing-passed-requires-clause-test : goal.passing-passed-requires-clause-test
 passing-passed-requires-clause-test g t c = (stays g t (goal.at.passing-passed-requires-clause-test g t c).In-Node).0
@@ -41,7 +43,8 @@ push_below-requires g t c κs within =
           inside,
           λ u is.
               subst (λ m. StaysLawful m u) (sym c.passing-passed.ensures)
-              (sides_stay c.args.store.now c.loop-found.at c.in-Node.yes c.in-Node.no c.in-Node.test c.loop-found.below shows c.loop-found.invariant.2 u shows.no_tree is shows.no_is).3,
+              (sides_stay c.args.store.now c.loop-found.at c.in-Node.yes c.in-Node.no c.in-Node.test c.loop-found.below shows
+              c.loop-found.invariant.2 u shows.no_tree is shows.no_is).3,
         ),
       ),
     )
@@ -60,10 +63,14 @@ loop-found-preserved g t c =
       omega arith,
       slice_get_within c.args.store.now c.in-Node.no shows.no_tree shows.no_is,
       (λ u is. subst (λ m. StaysLawful m u) (sym c.failing-below.ensures)
-          (sides_stay c.args.store.now c.loop-found.at c.in-Node.yes c.in-Node.no c.in-Node.test c.loop-found.below shows c.loop-found.invariant.2 shows.yes_tree u shows.yes_is is).4),
-      subst (λ m. CompletesBelow c.args.store.now c.args.node c.in-Node.no c.args.matching.now m c.args.found.now.items c.push_below.new.found.items) (sym c.failing-below.ensures)
-          (one_below c.args.store.now c.args.node c.loop-found.at c.in-Node.yes c.in-Node.no c.in-Node.test c.args.matching.now c.loop-found.below c.args.found.now.items c.loop-found.found.items
+          (sides_stay c.args.store.now c.loop-found.at c.in-Node.yes c.in-Node.no c.in-Node.test c.loop-found.below shows
+          c.loop-found.invariant.2 shows.yes_tree u shows.yes_is is).4),
+      subst (λ m. CompletesBelow c.args.store.now c.args.node c.in-Node.no c.args.matching.now m c.args.found.now.items
+          c.push_below.new.found.items) (sym c.failing-below.ensures)
+          (one_below c.args.store.now c.args.node c.loop-found.at c.in-Node.yes c.in-Node.no c.in-Node.test c.args.matching.now
+          c.loop-found.below c.args.found.now.items c.loop-found.found.items
           c.push_below.new.found.items shows
-          (λ y at. subst (λ m. Finds c.args.store.now (matches_below m y) c.loop-found.found.items c.push_below.new.found.items) c.passing-passed.ensures (c.in_ok-push_below-in-Node.ensures y at))
+          (λ y at. subst (λ m. Finds c.args.store.now (matches_below m y) c.loop-found.found.items c.push_below.new.found.items)
+          c.passing-passed.ensures (c.in_ok-push_below-in-Node.ensures y at))
           c.loop-found.invariant.3),
     )

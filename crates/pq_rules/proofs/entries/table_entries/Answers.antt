@@ -6,7 +6,8 @@ use Rattle.pq_rules.proofs.FoundLemmas.{Completes, all_complete, none_completes,
 use Rattle.pq_rules.proofs.entries.table_entries.Goals as goal
 
 pub loop-root-init : goal.loop-root-init
-loop-root-init g c = subst (λ es. Completes c.args.store.now c.args.roots.now c.args.roots.now es) (sym c.in_ok-found.ensures.items) (none_completes c.args.store.now c.args.roots.now)
+loop-root-init g c = subst (λ es. Completes c.args.store.now c.args.roots.now c.args.roots.now es) (sym c.in_ok-found.ensures.items)
+    (none_completes c.args.store.now c.args.roots.now)
 
 pub push_tree-requires-clause-node : goal.push_tree-requires-clause-node
 push_tree-requires-clause-node g c =
@@ -21,7 +22,8 @@ push_tree-requires-clause-matchable g c = λ t is.
 pub loop-root-preserved : goal.loop-root-preserved
 loop-root-preserved g c =
     let root = root_at c.args.store.now c.args.roots.now c.loop-root.root-index c.root-item.result c.requires c.loop-root-test.true c.root-item.is in
-    one_completes c.args.store.now c.args.roots.now c.loop-root.root-index c.root-item.result c.loop-root.found.items c.push_tree.new.found.items c.loop-root-test.true c.root-item.is
+    one_completes c.args.store.now c.args.roots.now c.loop-root.root-index c.root-item.result c.loop-root.found.items
+    c.push_tree.new.found.items c.loop-root-test.true c.root-item.is
     root.1.0 root.1.1 (c.in_ok-push_tree.ensures root.1.0 root.1.1) c.loop-root.invariant
 
 pub returns : goal.returns

@@ -6,7 +6,9 @@ use Rattle.pq_rules.proofs.renewal.push_second.Given as goal
 
 abbrev pub invariant-loop-entry : goal.invariant-loop-entry
 invariant-loop-entry l =
-    (l.messages.items ++ map Flow (adds_from (length l.messages.items + 1) 1 l.index (placed_rules (resolved [] l.store (drop l.entry-index l.entries)) (drop l.entry-index l.places)))
+    (l.messages.items ++ map Flow
+    (adds_from (length l.messages.items + 1) 1 l.index
+    (placed_rules (resolved [] l.store (drop l.entry-index l.entries)) (drop l.entry-index l.places)))
     ≡ l.initial.messages.items ++ map Flow (adds_from (length l.initial.messages.items + 1) 1 0 (placed_rules (resolved [] l.store l.entries) l.places)))
     × (l.index ≡ l.entry-index)
     × (length l.messages.items ≡ length l.initial.messages.items + l.entry-index)

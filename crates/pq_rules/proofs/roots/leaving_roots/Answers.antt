@@ -12,7 +12,8 @@ tree : (c : After-id-item) → IsLeavingId c.args.store.now c.id-item.result
 tree c = element (IsLeavingId c.args.store.now) c.args.ids.now c.loop-id.id-index c.id-item.result c.requires c.loop-id-test.true c.id-item.is
 
 pub is_without-blank-requires : goal.is_without-blank-requires
-is_without-blank-requires c = let it = tree (goal.at.is_without-blank-requires c).After-id-item in slice_get_within c.args.store.now c.id-item.result.1 it.0 it.1
+is_without-blank-requires c = let it = tree (goal.at.is_without-blank-requires c).After-id-item in
+    slice_get_within c.args.store.now c.id-item.result.1 it.0 it.1
 
 pub overflow_add-id : goal.overflow_add-id
 overflow_add-id c = let it = tree (goal.at.overflow_add-id c).After-id-item in let small = it.2.vlan in search (rules, arith, small)

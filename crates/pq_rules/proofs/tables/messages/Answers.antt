@@ -7,9 +7,11 @@ use Rattle.pq_rules.proofs.tables.messages.Goals as goal
 use Rattle.pq_rules.proofs.tables.messages.Goals.{In_ok-grouping}
 
 -- what is known of the groups
-grouping : (c : In_ok-grouping) → AreGrouped c.args.second.now c.args.second_entries.now c.in_ok-grouping.grouping.groups.keys c.in_ok-grouping.grouping.places.items
+grouping : (c : In_ok-grouping)
+    → AreGrouped c.args.second.now c.args.second_entries.now c.in_ok-grouping.grouping.groups.keys c.in_ok-grouping.grouping.places.items
 grouping c =
-    are_grouped c.args.second.now c.args.second_entries.now c.in_ok-grouping.grouping.groups.keys c.in_ok-grouping.grouping.places.items c.requires.second_leaves c.requires.second_few
+    are_grouped c.args.second.now c.args.second_entries.now c.in_ok-grouping.grouping.groups.keys c.in_ok-grouping.grouping.places.items
+    c.requires.second_leaves c.requires.second_few
     c.in_ok-grouping.ensures.groups c.in_ok-grouping.ensures.places
 
 pub grouped-requires : goal.grouped-requires
@@ -30,4 +32,6 @@ renewal-requires-clause-placed c = (grouping (goal.at.renewal-requires-clause-pl
 pub returns : goal.returns
 returns c =
     let it = grouping (goal.at.returns c).In_ok-grouping in
-    c.in_ok-messages.ensures ∙ (λ i. renewal_messages (renewal_with (it.groups i) (map first_rule (resolved None c.args.first.now c.args.first_entries.now)) (it.rules i)))
+    c.in_ok-messages.ensures
+    ∙ (λ i. renewal_messages (renewal_with (it.groups i) (map first_rule (resolved None c.args.first.now c.args.first_entries.now))
+    (it.rules i)))

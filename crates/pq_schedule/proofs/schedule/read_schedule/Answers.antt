@@ -11,13 +11,15 @@ use Rattle.pq_schedule.proofs.schedule.read_schedule.Goals as goal
 pub returns-in_default-clause-err : goal.returns-in_default-clause-err
 returns-in_default-clause-err c =
     let left : c.loop-rest.rest.now ≢ [] = search rules in
-    read_stops _ c.loop-rest.events.items _ _ c.loop-rest.invariant left (λ e behind begins. none-some behind (ap option_copied (sym c.in_default.is) ∙ c.cut_at.ensures.behind ∙ begins.1)) refl
+    read_stops _ c.loop-rest.events.items _ _ c.loop-rest.invariant left
+    (λ e behind begins. none-some behind (ap option_copied (sym c.in_default.is) ∙ c.cut_at.ensures.behind ∙ begins.1)) refl
 
 -- the next line is no event
 pub returns-in_default-event_of_line-clause-err : goal.returns-in_default-event_of_line-clause-err
 returns-in_default-event_of_line-clause-err c =
     let left : c.loop-rest.rest.now ≢ [] = search rules in
-    read_stops _ c.loop-rest.events.items _ _ c.loop-rest.invariant left (λ e behind begins. none-some e (sym c.in_default-event_of_line.is ∙ c.event_of_line.ensures.value ∙ ap event_of c.cut_at.ensures.before ∙ begins.0)) refl
+    read_stops _ c.loop-rest.events.items _ _ c.loop-rest.invariant left (λ e behind begins. none-some e (sym c.in_default-event_of_line.is
+    ∙ c.event_of_line.ensures.value ∙ ap event_of c.cut_at.ensures.before ∙ begins.0)) refl
 
 -- the next line is an event too many
 pub returns-then-len-eq-EVENT_LIMIT-clause-err : goal.returns-then-len-eq-EVENT_LIMIT-clause-err
@@ -42,4 +44,5 @@ loop-rest-preserved c =
     let event = sym (ap event_of c.cut_at.ensures.before) ∙ sym c.event_of_line.ensures.value ∙ c.in-Some-event_of_line.is in
     let behind = sym c.cut_at.ensures.behind ∙ ap option_copied c.in-Some.is in
     let happens : IsEvent c.in-Some-event_of_line.event = search rules in
-    subst (λ es. IsReadBefore c.args.text.now es c.in-Some.behind.now) (sym pushed) (read_pushes _ c.loop-rest.events.items _ _ _ c.loop-rest.invariant more shorter (event, behind) happens)
+    subst (λ es. IsReadBefore c.args.text.now es c.in-Some.behind.now) (sym pushed)
+    (read_pushes _ c.loop-rest.events.items _ _ _ c.loop-rest.invariant more shorter (event, behind) happens)

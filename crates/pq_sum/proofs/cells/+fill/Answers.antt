@@ -11,11 +11,13 @@ returns-then-is_empty-clause-filled g t c T h ps empty each few fits =
 pub returns-then-cells-eq1-clause-filled : goal.returns-then-cells-eq1-clause-filled
 returns-then-cells-eq1-clause-filled g t c T h ps empty each few fits =
     filled_slot T c.args.store.now h c.args.cells.now _ c.args.leaves.now ps c.index-leaves-0.result c.if-cells-eq1.true
-    (grind (arith, nat_tests, c.is_empty.ensures, c.if-is_empty.false)) c.index-leaves-0.is (root_set c.args.cells.now c.index-leaves-0.result c.if-cells-eq1.true) empty each few
+    (grind (arith, nat_tests, c.is_empty.ensures, c.if-is_empty.false)) c.index-leaves-0.is
+    (root_set c.args.cells.now c.index-leaves-0.result c.if-cells-eq1.true) empty each few
 
 pub fill-requires : goal.fill-requires
 fill-requires g t c κs within =
-    let halves = may_fill_halves c.args.store.now c.args.cells.now c.split_at_mut-front.result.0.now c.split_at_mut-front.result.1.now c.args.leaves.now c.split_at.result.0.now c.split_at.result.1.now
+    let halves = may_fill_halves c.args.store.now c.args.cells.now c.split_at_mut-front.result.0.now c.split_at_mut-front.result.1.now
+    c.args.leaves.now c.split_at.result.0.now c.split_at.result.1.now
     c.min.result c.if-cells-eq1.false
     (c.split_at_mut-front.ensures.front ∙ ap (λ l. take (length l / 2) l) c.split_at_mut-root.ensures.back)
     (c.split_at_mut-front.ensures.back ∙ ap (λ l. drop (length l / 2) l) c.split_at_mut-root.ensures.back)
@@ -28,14 +30,16 @@ fill-requires g t c κs within =
         within,
         (
           c.requires.none,
-          may_fill_first c.args.store.now c.args.store.now c.split_at_mut-front.result.0.now c.split_at_mut-front.result.1.now c.split_at.result.0.now c.split_at.result.1.now halves,
+          may_fill_first c.args.store.now c.args.store.now c.split_at_mut-front.result.0.now c.split_at_mut-front.result.1.now
+              c.split_at.result.0.now c.split_at.result.1.now halves,
         ),
       ),
     )
 
 pub fill-requires-2 : goal.fill-requires-2
 fill-requires-2 g t c κs within =
-    let halves = may_fill_halves c.args.store.now c.args.cells.now c.split_at_mut-front.result.0.now c.split_at_mut-front.result.1.now c.args.leaves.now c.split_at.result.0.now c.split_at.result.1.now
+    let halves = may_fill_halves c.args.store.now c.args.cells.now c.split_at_mut-front.result.0.now c.split_at_mut-front.result.1.now
+    c.args.leaves.now c.split_at.result.0.now c.split_at.result.1.now
     c.min.result c.if-cells-eq1.false
     (c.split_at_mut-front.ensures.front ∙ ap (λ l. take (length l / 2) l) c.split_at_mut-root.ensures.back)
     (c.split_at_mut-front.ensures.back ∙ ap (λ l. drop (length l / 2) l) c.split_at_mut-root.ensures.back)
@@ -48,16 +52,19 @@ fill-requires-2 g t c κs within =
         within,
         (
           c.fill.ensures.keeps c.args.none _ c.requires.none,
-          may_fill_second c.args.store.now c.fill.new.store c.split_at_mut-front.result.0.now c.split_at_mut-front.result.1.now c.split_at.result.0.now c.split_at.result.1.now halves c.fill.ensures.keeps,
+          may_fill_second c.args.store.now c.fill.new.store c.split_at_mut-front.result.0.now c.split_at_mut-front.result.1.now
+              c.split_at.result.0.now c.split_at.result.1.now halves c.fill.ensures.keeps,
         ),
       ),
     )
 
 pub bounds-front-0 : goal.bounds-front-0
 bounds-front-0 g t c =
-    filled_front c.args.store.now c.fill.new.store c.fill-2.new.store c.split_at_mut-front.result.0.now c.split_at_mut-front.result.1.now c.split_at.result.0.now c.split_at.result.1.now
+    filled_front c.args.store.now c.fill.new.store c.fill-2.new.store c.split_at_mut-front.result.0.now c.split_at_mut-front.result.1.now
+    c.split_at.result.0.now c.split_at.result.1.now
     c.fill.new.cells c.fill-2.new.cells c.fill.ensures.keeps c.fill-2.ensures.keeps c.in_ok-fill.ensures.filled c.in_ok-fill-2.ensures.filled
-    (may_fill_halves c.args.store.now c.args.cells.now c.split_at_mut-front.result.0.now c.split_at_mut-front.result.1.now c.args.leaves.now c.split_at.result.0.now c.split_at.result.1.now
+    (may_fill_halves c.args.store.now c.args.cells.now c.split_at_mut-front.result.0.now c.split_at_mut-front.result.1.now c.args.leaves.now
+    c.split_at.result.0.now c.split_at.result.1.now
     c.min.result c.if-cells-eq1.false
     (c.split_at_mut-front.ensures.front ∙ ap (λ l. take (length l / 2) l) c.split_at_mut-root.ensures.back)
     (c.split_at_mut-front.ensures.back ∙ ap (λ l. drop (length l / 2) l) c.split_at_mut-root.ensures.back)
@@ -65,9 +72,11 @@ bounds-front-0 g t c =
 
 pub joined-requires-clause-halves : goal.joined-requires-clause-halves
 joined-requires-clause-halves g t c =
-    filled_may_join c.args.store.now c.fill.new.store c.fill-2.new.store c.split_at_mut-front.result.0.now c.split_at_mut-front.result.1.now c.split_at.result.0.now c.split_at.result.1.now
+    filled_may_join c.args.store.now c.fill.new.store c.fill-2.new.store c.split_at_mut-front.result.0.now c.split_at_mut-front.result.1.now
+    c.split_at.result.0.now c.split_at.result.1.now
     c.fill.new.cells c.fill-2.new.cells c.fill.ensures.keeps c.fill-2.ensures.keeps c.in_ok-fill.ensures.filled c.in_ok-fill-2.ensures.filled
-    (may_fill_halves c.args.store.now c.args.cells.now c.split_at_mut-front.result.0.now c.split_at_mut-front.result.1.now c.args.leaves.now c.split_at.result.0.now c.split_at.result.1.now
+    (may_fill_halves c.args.store.now c.args.cells.now c.split_at_mut-front.result.0.now c.split_at_mut-front.result.1.now c.args.leaves.now
+    c.split_at.result.0.now c.split_at.result.1.now
     c.min.result c.if-cells-eq1.false
     (c.split_at_mut-front.ensures.front ∙ ap (λ l. take (length l / 2) l) c.split_at_mut-root.ensures.back)
     (c.split_at_mut-front.ensures.back ∙ ap (λ l. drop (length l / 2) l) c.split_at_mut-root.ensures.back)
@@ -76,10 +85,12 @@ joined-requires-clause-halves g t c =
 
 pub returns-clause-filled : goal.returns-clause-filled
 returns-clause-filled g t c =
-    whole_filled c.args.store.now c.fill.new.store c.fill-2.new.store c.split_at_mut-front.result.0.now c.split_at_mut-front.result.1.now c.split_at.result.0.now c.split_at.result.1.now
+    whole_filled c.args.store.now c.fill.new.store c.fill-2.new.store c.split_at_mut-front.result.0.now c.split_at_mut-front.result.1.now
+    c.split_at.result.0.now c.split_at.result.1.now
     c.fill.new.cells c.fill-2.new.cells c.fill.ensures.keeps c.fill-2.ensures.keeps c.in_ok-fill.ensures.filled c.in_ok-fill-2.ensures.filled
     c.joined.new.store c.args.cells.now c.args.leaves.now _ c.min.result c.index-front-0.result c.index-back-0.result c.in_ok-root.field-0 c.if-cells-eq1.false
     (c.split_at_mut-front.ensures.front ∙ ap (λ l. take (length l / 2) l) c.split_at_mut-root.ensures.back)
     (c.split_at_mut-front.ensures.back ∙ ap (λ l. drop (length l / 2) l) c.split_at_mut-root.ensures.back)
     c.min.ensures c.split_at.ensures.front c.split_at.ensures.back c.index-front-0.is c.index-back-0.is c.joined.ensures.keeps c.in_ok-root.ensures.unites
-    (ap (λ l. l ++ (c.fill.new.cells ++ c.fill-2.new.cells)) (root_set c.split_at_mut-root.result.0.now c.in_ok-root.field-0 c.split_at_mut-root.ensures.front_len))
+    (ap (λ l. l ++ (c.fill.new.cells ++ c.fill-2.new.cells))
+    (root_set c.split_at_mut-root.result.0.now c.in_ok-root.field-0 c.split_at_mut-root.ensures.front_len))

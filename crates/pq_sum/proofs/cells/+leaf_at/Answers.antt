@@ -20,7 +20,8 @@ leaf_at-requires t c =
     let long = length-drop 1 cells in (
       omega (arith, whole, some, front, below, long),
       (halves_have_leaf cells c.split_at.result.0.now c.split_at.result.1.now c.args.slot (length c.split_at.result.0.now / 2 + 1) c.if-cells-eq1.false
-          (c.split_at.ensures.front ∙ ap (λ l. take (length l / 2) l) (rest cells)) (c.split_at.ensures.back ∙ ap (λ l. drop (length l / 2) l) (rest cells)) refl c.requires).first c.if-slot-half.true,
+          (c.split_at.ensures.front ∙ ap (λ l. take (length l / 2) l) (rest cells)) (c.split_at.ensures.back
+          ∙ ap (λ l. drop (length l / 2) l) (rest cells)) refl c.requires).first c.if-slot-half.true,
     )
 
 pub leaf_at-requires-else-slot-half : goal.leaf_at-requires-else-slot-half
@@ -33,7 +34,8 @@ leaf_at-requires-else-slot-half t c =
     let long = length-drop 1 cells in (
       omega (arith, whole, some, back, below, long),
       (halves_have_leaf cells c.split_at.result.0.now c.split_at.result.1.now c.args.slot (length c.split_at.result.0.now / 2 + 1) c.if-cells-eq1.false
-          (c.split_at.ensures.front ∙ ap (λ l. take (length l / 2) l) (rest cells)) (c.split_at.ensures.back ∙ ap (λ l. drop (length l / 2) l) (rest cells)) refl c.requires).behind c.if-slot-half.false,
+          (c.split_at.ensures.front ∙ ap (λ l. take (length l / 2) l) (rest cells)) (c.split_at.ensures.back
+          ∙ ap (λ l. drop (length l / 2) l) (rest cells)) refl c.requires).behind c.if-slot-half.false,
     )
 
 pub returns-then-slot-half : goal.returns-then-slot-half

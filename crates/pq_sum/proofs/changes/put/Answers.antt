@@ -8,16 +8,19 @@ set-requires-clause-change g c = put_may_change c.args.store.now c.nothing.new.s
 
 pub returns-clause-sum : goal.returns-clause-sum
 returns-clause-sum g c =
-    is_put c.args.store.now c.nothing.new.store c.nothing.ensures.keeps c.args.cells.now c.args.slot c.args.part c.set.new.store c.set.new.cells c.in_ok-set.ensures.changed
+    is_put c.args.store.now c.nothing.new.store c.nothing.ensures.keeps c.args.cells.now c.args.slot c.args.part c.set.new.store
+    c.set.new.cells c.in_ok-set.ensures.changed
 
 pub returns-in_err-set-clause-steps : goal.returns-in_err-set-clause-steps
 returns-in_err-set-clause-steps g c T ps p put =
-    c.set.ensures.steps T 10 ps (p ∷ []) (put_sum T c.args.store.now c.nothing.new.store c.nothing.ensures.keeps c.args.cells.now c.args.slot c.args.part ps p put)
+    c.set.ensures.steps T 10 ps (p ∷ [])
+    (put_sum T c.args.store.now c.nothing.new.store c.nothing.ensures.keeps c.args.cells.now c.args.slot c.args.part ps p put)
     (put_change T c.args.store.now c.nothing.new.store c.nothing.ensures.keeps c.args.cells.now c.args.slot c.args.part ps p put)
 
 pub returns-clause-steps : goal.returns-clause-steps
 returns-clause-steps g c T ps p put =
-    c.set.ensures.steps T 10 ps (p ∷ []) (put_sum T c.args.store.now c.nothing.new.store c.nothing.ensures.keeps c.args.cells.now c.args.slot c.args.part ps p put)
+    c.set.ensures.steps T 10 ps (p ∷ [])
+    (put_sum T c.args.store.now c.nothing.new.store c.nothing.ensures.keeps c.args.cells.now c.args.slot c.args.part ps p put)
     (put_change T c.args.store.now c.nothing.new.store c.nothing.ensures.keeps c.args.cells.now c.args.slot c.args.part ps p put)
 
 pub returns-in_err-set-clause-keeps : goal.returns-in_err-set-clause-keeps

@@ -36,7 +36,8 @@ union-requires-clause-fit g c =
 
 pub returns-in_err-id-clause-no_step : goal.returns-in_err-id-clause-no_step
 returns-in_err-id-clause-no_step g c T none =
-    absurd (eqb-false c.args.back c.args.none (sym c.eq.ensures ∙ c.if-eq.false) (none_is T c.args.store.now c.args.none c.args.back c.equal_rewritings_are_one.ensures c.requires.none none))
+    absurd (eqb-false c.args.back c.args.none (sym c.eq.ensures
+    ∙ c.if-eq.false) (none_is T c.args.store.now c.args.none c.args.back c.equal_rewritings_are_one.ensures c.requires.none none))
 
 pub returns-clause-unites : goal.returns-clause-unites
 returns-clause-unites g c T ps qs front back =
@@ -44,4 +45,5 @@ returns-clause-unites g c T ps qs front back =
 
 pub returns-clause-no_step : goal.returns-clause-no_step
 returns-clause-no_step g c T none =
-    absurd (eqb-false c.args.back c.args.none (sym c.eq.ensures ∙ c.if-eq.false) (none_is T c.args.store.now c.args.none c.args.back c.equal_rewritings_are_one.ensures c.requires.none none))
+    absurd (eqb-false c.args.back c.args.none (sym c.eq.ensures
+    ∙ c.if-eq.false) (none_is T c.args.store.now c.args.none c.args.back c.equal_rewritings_are_one.ensures c.requires.none none))

@@ -17,7 +17,8 @@ shapes-init c =
     record {
       block = ap (λ (q : Place). q.block) c.first-from.ensures;
       best = λ start sub is_best.
-          subst (λ q. IsBestBefore n x es start b q (option_copied c.args.best)) (sym c.first-from.ensures) (begins n x es start b c.requires.0 c.requires.1 (option_copied c.args.best) sub is_best);
+          subst (λ q. IsBestBefore n x es start b q (option_copied c.args.best)) (sym c.first-from.ensures)
+          (begins n x es start b c.requires.0 c.requires.1 (option_copied c.args.best) sub is_best);
     }
 
 pub returns-in_default : goal.returns-in_default
@@ -29,7 +30,8 @@ returns-in_default c = λ start sub is_best.
     let found = option_copied c.best_of_few-behind.result.0 in
     let is = sym c.best_of_few-behind.ensures.value ∙ ap (λ q. (found, q)) c.in_default.is in
     let so_far = c.shapes.invariant.best start sub is_best in
-    ends n x es start b c.requires.0 c.requires.1 c.best_of_few-behind.ensures.ordered c.shapes.from c.shapes.invariant.block (option_copied c.shapes.best) so_far 128 found is
+    ends n x es start b c.requires.0 c.requires.1 c.best_of_few-behind.ensures.ordered c.shapes.from c.shapes.invariant.block
+    (option_copied c.shapes.best) so_far 128 found is
 
 pub shapes-smaller : goal.shapes-smaller
 shapes-smaller c =
@@ -56,5 +58,6 @@ shapes-preserved c =
       block = block_stays n x es [] b c.requires.0 c.requires.1 c.shapes.from (option_copied c.shapes.best) 128 found q is;
       best = λ start sub is_best.
           subst (IsBestBefore n x es start b (past q)) (sym best)
-          (goes_on n x es start b c.requires.0 c.requires.1 c.best_of_few-behind.ensures.ordered c.shapes.from c.shapes.invariant.block (option_copied c.shapes.best) (c.shapes.invariant.best start sub is_best) 128 found q is);
+          (goes_on n x es start b c.requires.0 c.requires.1 c.best_of_few-behind.ensures.ordered c.shapes.from c.shapes.invariant.block
+          (option_copied c.shapes.best) (c.shapes.invariant.best start sub is_best) 128 found q is);
     }

@@ -10,7 +10,9 @@ use Rattle.pq_switch.proofs.lookup.best_in_block.Given as goal
 abbrev pub invariant-shapes : goal.invariant-shapes
 invariant-shapes l = record {
   block : l.from.block ≡ l.block;
-  best : (start : List Slot) → ((t : Slot) → IsIn t start → IsIn t (values_of l.slots.entries)) → IsBest l.block.table l.x start (option_copied l.initial.best) → IsBestBefore l.block.table l.x l.slots.entries start l.block l.from (option_copied l.best);
+  best : (start : List Slot) → ((t : Slot) → IsIn t start → IsIn t (values_of l.slots.entries))
+      → IsBest l.block.table l.x start (option_copied l.initial.best)
+      → IsBestBefore l.block.table l.x l.slots.entries start l.block l.from (option_copied l.best);
 }
 
 -- how many entries are not before it

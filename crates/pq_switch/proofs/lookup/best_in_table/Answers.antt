@@ -22,7 +22,8 @@ returns c =
     let three = option_copied c.best_in_block-best-3.result in
     let four = option_copied c.best_in_block.result in
     best_of_blocks n x es c.requires.0 c.requires.1 one two three four
-    (subst (λ (b : Block). IsBestWith b.table x es b None one) (c.block.ensures ∙ (λ i. block_at n (Some (port i)) (Some (word i)))) c.best_in_block-best.ensures)
+    (subst (λ (b : Block). IsBestWith b.table x es b None one) (c.block.ensures
+    ∙ (λ i. block_at n (Some (port i)) (Some (word i)))) c.best_in_block-best.ensures)
     (subst (λ (b : Block). IsBestWith b.table x es b one two) (c.block-2.ensures ∙ (λ i. block_at n (Some (port i)) None)) c.best_in_block-best-2.ensures)
     (subst (λ (b : Block). IsBestWith b.table x es b two three) (c.block-3.ensures ∙ (λ i. block_at n None (Some (word i)))) c.best_in_block-best-3.ensures)
     (subst (λ (b : Block). IsBestWith b.table x es b three four) c.block-4.ensures c.best_in_block.ensures)

@@ -20,9 +20,12 @@ returns c =
     let port : c.port_of.result ≡ x.packet.port = c.port_of.ensures ∙ ap (λ (y : TaggedPacket). y.packet.port) c.x.view_is in
     let word : c.word_of.result ≡ vlan_word x.vlan = c.word_of.ensures ∙ ap (λ (y : TaggedPacket). vlan_word y.vlan) c.x.view_is in
     let at : (p v : Option ℕ) → List ℕ = λ p v. shelf_at shelves (shelf_of (length shelves) n p v) in
-    let on_one : c.rows_on.result.now ≡ at (Some x.packet.port) (Some (vlan_word x.vlan)) = c.rows_on.ensures ∙ (λ i. shelf_at shelves (shelf_of (count i) n (Some (port i)) (Some (word i)))) in
-    let on_two : c.rows_on-2.result.now ≡ at (Some x.packet.port) None = c.rows_on-2.ensures ∙ (λ i. shelf_at shelves (shelf_of (count i) n (Some (port i)) None)) in
-    let on_three : c.rows_on-3.result.now ≡ at None (Some (vlan_word x.vlan)) = c.rows_on-3.ensures ∙ (λ i. shelf_at shelves (shelf_of (count i) n None (Some (word i)))) in
+    let on_one : c.rows_on.result.now ≡ at (Some x.packet.port) (Some (vlan_word x.vlan)) = c.rows_on.ensures
+    ∙ (λ i. shelf_at shelves (shelf_of (count i) n (Some (port i)) (Some (word i)))) in
+    let on_two : c.rows_on-2.result.now ≡ at (Some x.packet.port) None = c.rows_on-2.ensures
+    ∙ (λ i. shelf_at shelves (shelf_of (count i) n (Some (port i)) None)) in
+    let on_three : c.rows_on-3.result.now ≡ at None (Some (vlan_word x.vlan)) = c.rows_on-3.ensures
+    ∙ (λ i. shelf_at shelves (shelf_of (count i) n None (Some (word i)))) in
     let on_four : c.rows_on-4.result.now ≡ at None None = c.rows_on-4.ensures ∙ (λ i. shelf_at shelves (shelf_of (count i) n None None)) in
     let one = option_copied c.best_on-best.result in
     let two = option_copied c.best_on-best-2.result in

@@ -12,6 +12,8 @@ loop-row-preserved c =
     let rows = c.args.rows.now in
     let row = c.loop-row.row in
     let within : row < length rows = omega (arith, test, end) in
-    let read : slice_get rows row ≡ Some c.index-rows-row.result = slice_get_read rows (length rows) row c.index-rows-row.result refl within c.index-rows-row.is in
-    let more = shelved_more (λ v. v.items) rows c.loop-row.shelves.items c.put.new.shelves.items row c.index-rows-row.result read c.put.ensures.within c.in_ok-put.ensures.put c.loop-row.invariant.some c.loop-row.invariant.lie in
+    let read : slice_get rows row ≡ Some c.index-rows-row.result =
+    slice_get_read rows (length rows) row c.index-rows-row.result refl within c.index-rows-row.is in
+    let more = shelved_more (λ v. v.items) rows c.loop-row.shelves.items c.put.new.shelves.items row c.index-rows-row.result read
+    c.put.ensures.within c.in_ok-put.ensures.put c.loop-row.invariant.some c.loop-row.invariant.lie in
     record { some = more.0; lie = more.1 }

@@ -21,4 +21,5 @@ returns c =
     let y = c.y.inside in
     let packets = c.cmp.ensures ∙ c.packets_are_ordered_by_numbers.ensures.compares x.packet y.packet in
     let vlans = c.cmp-2.ensures ∙ by_key x.vlan y.vlan in
-    rw (← c.x.view_is, ← c.y.view_is) (c.then.ensures ∙ (λ i. ordering_then (packets i) (vlans i)) ∙ sym (last-decides (numbers x.packet) (numbers y.packet) (vlan_key x.vlan) (vlan_key y.vlan) refl))
+    rw (← c.x.view_is, ← c.y.view_is) (c.then.ensures ∙ (λ i. ordering_then (packets i) (vlans i))
+    ∙ sym (last-decides (numbers x.packet) (numbers y.packet) (vlan_key x.vlan) (vlan_key y.vlan) refl))

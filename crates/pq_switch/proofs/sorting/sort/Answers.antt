@@ -16,4 +16,5 @@ returns c =
     let compared : r ≡ slice_cmp nat_cmp (sent_numbers a.0.now) (sent_numbers a.1.0.now) = search rules in
     ap is_lt compared ∙ before-cmp (sent_numbers a.0.now) (sent_numbers a.1.0.now)) in
     on_ok_weaker c.sort_by.result (λ sorted.
-    sorted_stably sent_numbers before c.sort_by.new.self.items (sorted _ order answers) (c.sort_by.ensures.stable _ order answers) ∙ sorted_in_order before) c.sort_by.ensures.sorted
+    sorted_stably sent_numbers before c.sort_by.new.self.items (sorted _ order answers) (c.sort_by.ensures.stable _ order answers)
+    ∙ sorted_in_order before) c.sort_by.ensures.sorted

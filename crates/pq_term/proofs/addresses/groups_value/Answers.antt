@@ -25,4 +25,6 @@ loop-left-preserved c =
     let now = ap (λ left. parts_in c.args.separator (option_copied left)) c.in-Some.is ∙ c.cut_at.ensures.parts in
     let steps = value_steps c.args.weight c.args.base _ _ c.cut_at.result.0.now _ c.loop-left.value c.requires.few now c.loop-left.invariant in
     let digit = c.from-in-Some.ensures ∙ c.group_value.ensures in
-    subst (λ n. IsValueBefore c.args.weight c.args.base (parts c.args.separator c.args.text.now) (parts_in c.args.separator (option_copied c.cut_at.result.1)) n) (λ i. c.loop-left.value * sym c.from.ensures i + sym digit i) steps.0
+    subst (λ n. IsValueBefore c.args.weight c.args.base (parts c.args.separator c.args.text.now)
+    (parts_in c.args.separator (option_copied c.cut_at.result.1)) n)
+    (λ i. c.loop-left.value * sym c.from.ensures i + sym digit i) steps.0

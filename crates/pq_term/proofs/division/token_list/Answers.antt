@@ -13,7 +13,14 @@ returns-in-End c =
 pub returns-in-NoToken : goal.returns-in-NoToken
 returns-in-NoToken c =
     let loop = c.loop-token.invariant in
-    record { ok = tt; err = (c.loop-token.tokens.items, ends_here _ _ _ _ loop.divided (sym c.token_at.ensures.value ∙ c.in-NoToken.is)); within = tt; form = tt }
+    record {
+      ok = tt;
+      err =
+          (c.loop-token.tokens.items, ends_here _ _ _ _ loop.divided (sym c.token_at.ensures.value ∙ c.in-NoToken.is));
+      within = tt;
+      form =
+          tt;
+    }
 
 -- the token that was pushed is one more
 pub loop-token-preserved : goal.loop-token-preserved

@@ -4,7 +4,8 @@ use Rattle.pq_term.proofs.numbers.value_of.Goals as goal
 
 -- a value that is too big stays too big
 pub returns-in_default : goal.returns-in_default
-returns-in_default c = too_big _ _ _ c.loop-digit.digit-index c.requires c.loop-digit-test.true c.loop-digit.invariant.left (λ fits. c.in_default.ensures (omega (arith, fits, c.digit_value.ensures)))
+returns-in_default c = too_big _ _ _ c.loop-digit.digit-index c.requires c.loop-digit-test.true c.loop-digit.invariant.left
+    (λ fits. c.in_default.ensures (omega (arith, fits, c.digit_value.ensures)))
 
 -- no digit is left
 pub returns : goal.returns

@@ -10,4 +10,6 @@ bounds-terms-0 c = some_term c.in-Ok.terms.now (is_alone c.args.bytes.now _ c.in
 
 -- and no more than one
 pub returns-in-Ok-clause-ok : goal.returns-in-Ok-clause-ok
-returns-in-Ok-clause-ok c = subst (IsForestOf Edit c.args.bytes.now) (first_term c.in-Ok.terms.now _ (is_alone c.args.bytes.now _ c.in-Ok.ensures.ok)) c.in-Ok.ensures.ok
+returns-in-Ok-clause-ok c =
+    subst (IsForestOf Edit c.args.bytes.now) (first_term c.in-Ok.terms.now _ (is_alone c.args.bytes.now _ c.in-Ok.ensures.ok))
+    c.in-Ok.ensures.ok

@@ -5,4 +5,5 @@ use Rattle.pq_values.proofs.policies.+policy.Given as goal
 
 -- the policies that are left make the whole
 abbrev pub invariant-put_policies-loop-policy : goal.invariant-put_policies-loop-policy
-invariant-put_policies-loop-policy l = with_policies (policy_trees (drop l.policy-index l.policies)) l.known.keys ≡ with_policies (policy_trees l.policies) l.initial.known.keys
+invariant-put_policies-loop-policy l = with_policies (policy_trees (drop l.policy-index l.policies)) l.known.keys
+    ≡ with_policies (policy_trees l.policies) l.initial.known.keys

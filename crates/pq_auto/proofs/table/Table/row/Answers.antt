@@ -9,7 +9,11 @@ at c =
     row_at c.self.inside.rows.items c.args.state c.index.result.now c.deref.result.now here c.deref.ensures.value c.index.ensures
 
 pub returns-clause-long : goal.returns-clause-long
-returns-clause-long c = row_long (stored_machine c.self.inside) c.args.self.now c.self.view_is c.self.invariant c.args.state c.deref.result.now c.requires (at c)
+returns-clause-long c =
+    row_long (stored_machine c.self.inside) c.args.self.now c.self.view_is c.self.invariant c.args.state c.deref.result.now c.requires
+    (at c)
 
 pub returns-clause-within : goal.returns-clause-within
-returns-clause-within c = row_within (stored_machine c.self.inside) c.args.self.now c.self.view_is c.self.invariant c.args.state c.deref.result.now c.requires (at c)
+returns-clause-within c =
+    row_within (stored_machine c.self.inside) c.args.self.now c.self.view_is c.self.invariant c.args.state c.deref.result.now c.requires
+    (at c)

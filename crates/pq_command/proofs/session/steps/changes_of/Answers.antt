@@ -11,6 +11,7 @@ returns-clause-lawful c =
     let old = c.args.engine.now in
     let new = c.counted.new.engine in
     let same = c.in-Ok.ensures.delta in
-    let lawful = c.deltas_of_documents_are_lawful.ensures old.document new.document old.install new.install c.install.ensures.installed c.install-2.ensures.installed
+    let lawful = c.deltas_of_documents_are_lawful.ensures old.document new.document old.install new.install c.install.ensures.installed
+    c.install-2.ensures.installed
     (subst AreShort same c.in-Ok.ensures.few) in
     subst AreLawfulChanges (sym same) (All-from_recursion {X = ℕ × List Message} (λ p. IsLawfulList p.1) (delta old.install new.install) lawful)

@@ -5,7 +5,8 @@ use Rattle.pq_command.proofs.speak.conversation.greet.Goals as goal
 
 pub returns-in-Err-say-clause-err : goal.returns-in-Err-say-clause-err
 returns-in-Err-say-clause-err g c =
-    hello-fails (session_of c.args.datapath c.args.messages.items) _ c.args.first.now c.deref.result.now (g.K.Sink.put c.args.sink.now) (g.K.Sink.put c.say.new.sink)
+    hello-fails (session_of c.args.datapath c.args.messages.items) _ c.args.first.now c.deref.result.now (g.K.Sink.put c.args.sink.now)
+    (g.K.Sink.put c.say.new.sink)
     c.in-Err-say.outcome (c.deref.ensures.value ∙ c.in-Ok.ensures.hello) c.in-Err-say.ensures.err c.in-Err-say.ensures.part
 
 pub returns-in-Ok-hear-clause-put : goal.returns-in-Ok-hear-clause-put

@@ -17,7 +17,8 @@ invariant_of-self g c =
     let d = document_tree c.self.inside.document in
     subst (λ t. IsEngine (engine_of t c.take_parts.new.self)) (sym c.in-Ok.ensures.document)
     (subst (λ k. IsEngine (engine_of (edited d (PartPut (c.in-PutPart.name, policy_tree c.in-PutPart.policy))) k)) (sym c.take_parts.ensures.kept)
-    (parts_engine d c.self.inside.kept c.self.invariant (put (c.in-PutPart.name, policy_tree c.in-PutPart.policy) d.parts) c.in-Ok.change c.in-Ok.ensures.change))
+    (parts_engine d c.self.inside.kept c.self.invariant (put (c.in-PutPart.name, policy_tree c.in-PutPart.policy) d.parts) c.in-Ok.change
+    c.in-Ok.ensures.change))
 
 pub invariant_of-self-in-Err : goal.invariant_of-self-in-Err
 invariant_of-self-in-Err g c =
@@ -56,7 +57,11 @@ invariant_of-self-in-Err-remove_part g c =
 
 pub returns-in-Ok-remove_part-clause-delta : goal.returns-in-Ok-remove_part-clause-delta
 returns-in-Ok-remove_part-clause-delta g c =
-    rw (c.take_parts-in-Ok-remove_part.ensures.messages, c.take_parts-in-Ok-remove_part.ensures.kept, ← c.self.view_is) c.in-Ok-remove_part.ensures.change.renewed.delta
+    rw (
+      c.take_parts-in-Ok-remove_part.ensures.messages,
+      c.take_parts-in-Ok-remove_part.ensures.kept,
+      ← c.self.view_is,
+    ) c.in-Ok-remove_part.ensures.change.renewed.delta
 
 pub returns-in-Ok-remove_part-clause-few : goal.returns-in-Ok-remove_part-clause-few
 returns-in-Ok-remove_part-clause-few g c =
@@ -84,7 +89,8 @@ invariant_of-self-in-Ok-put_query g c =
     let d = document_tree c.self.inside.document in
     subst (λ t. IsEngine (engine_of t c.take_queries.new.self)) (sym c.in-Ok-put_query.ensures.document)
     (subst (λ k. IsEngine (engine_of (edited d (QueryPut (c.in-PutQuery.name, query_tree c.in-PutQuery.query))) k)) (sym c.take_queries.ensures.kept)
-    (queries_engine d c.self.inside.kept c.self.invariant (edited d (QueryPut (c.in-PutQuery.name, query_tree c.in-PutQuery.query))) c.in-Ok-put_query.change refl refl c.in-Ok-put_query.ensures.change))
+    (queries_engine d c.self.inside.kept c.self.invariant (edited d (QueryPut (c.in-PutQuery.name, query_tree c.in-PutQuery.query)))
+    c.in-Ok-put_query.change refl refl c.in-Ok-put_query.ensures.change))
 
 pub invariant_of-self-in-Err-put_query : goal.invariant_of-self-in-Err-put_query
 invariant_of-self-in-Err-put_query g c =
@@ -111,7 +117,8 @@ invariant_of-self-in-Ok-remove_query g c =
     let d = document_tree c.self.inside.document in
     subst (λ t. IsEngine (engine_of t c.take_queries-in-Ok-remove_query.new.self)) (sym c.in-Ok-remove_query.ensures.document)
     (subst (λ k. IsEngine (engine_of (edited d (QueryRemoved c.in-RemoveQuery.name)) k)) (sym c.take_queries-in-Ok-remove_query.ensures.kept)
-    (queries_engine d c.self.inside.kept c.self.invariant (edited d (QueryRemoved c.in-RemoveQuery.name)) c.in-Ok-remove_query.change refl refl c.in-Ok-remove_query.ensures.change))
+    (queries_engine d c.self.inside.kept c.self.invariant (edited d (QueryRemoved c.in-RemoveQuery.name)) c.in-Ok-remove_query.change refl
+    refl c.in-Ok-remove_query.ensures.change))
 
 pub invariant_of-self-in-Err-remove_query : goal.invariant_of-self-in-Err-remove_query
 invariant_of-self-in-Err-remove_query g c =
@@ -119,7 +126,11 @@ invariant_of-self-in-Err-remove_query g c =
 
 pub returns-in-Ok-remove_query-clause-delta : goal.returns-in-Ok-remove_query-clause-delta
 returns-in-Ok-remove_query-clause-delta g c =
-    rw (c.take_queries-in-Ok-remove_query.ensures.messages, c.take_queries-in-Ok-remove_query.ensures.kept, ← c.self.view_is) c.in-Ok-remove_query.ensures.change.renewed.delta
+    rw (
+      c.take_queries-in-Ok-remove_query.ensures.messages,
+      c.take_queries-in-Ok-remove_query.ensures.kept,
+      ← c.self.view_is,
+    ) c.in-Ok-remove_query.ensures.change.renewed.delta
 
 pub returns-in-Ok-remove_query-clause-few : goal.returns-in-Ok-remove_query-clause-few
 returns-in-Ok-remove_query-clause-few g c =

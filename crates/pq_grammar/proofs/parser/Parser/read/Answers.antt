@@ -9,11 +9,14 @@ returns-in_default-clause-err c = let (s, at, expects) = c.requires in refuses_e
 
 -- a token of another class comes
 pub returns-then-not-is_class-clause-err : goal.returns-then-not-is_class-clause-err
-returns-then-not-is_class-clause-err c = let (s, at, expects) = c.requires in refuses_class _ _ _ _ s _ _ _ c.in-Some.lexeme.now at expects (got _ _ c.in-Some.lexeme c.in-Some.ensures.lookup).1 c.if-not-is_class.ensures.same
+returns-then-not-is_class-clause-err c = let (s, at, expects) = c.requires in
+    refuses_class _ _ _ _ s _ _ _ c.in-Some.lexeme.now at expects
+    (got _ _ c.in-Some.lexeme c.in-Some.ensures.lookup).1 c.if-not-is_class.ensures.same
 
 -- one comes that opens too deep a bracket
 pub returns-then-expected-gt-MOST_OPEN-clause-err : goal.returns-then-expected-gt-MOST_OPEN-clause-err
-returns-then-expected-gt-MOST_OPEN-clause-err c = let (s, at, expects) = c.requires in refuses_depth _ _ _ _ s _ _ _ at expects (got _ _ c.in-Some.lexeme c.in-Some.ensures.lookup).0 c.if-expected-gt-MOST_OPEN.true
+returns-then-expected-gt-MOST_OPEN-clause-err c = let (s, at, expects) = c.requires in
+    refuses_depth _ _ _ _ s _ _ _ at expects (got _ _ c.in-Some.lexeme c.in-Some.ensures.lookup).0 c.if-expected-gt-MOST_OPEN.true
 
 -- the token that is expected was read
 pub returns-clause-place : goal.returns-clause-place

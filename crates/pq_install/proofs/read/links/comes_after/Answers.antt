@@ -5,4 +5,5 @@ use Rattle.pq_install.proofs.Chains.{at_last}
 use Rattle.pq_install.proofs.read.links.comes_after.Goals as goal
 
 pub returns-in-Some : goal.returns-in-Some
-returns-in-Some c = rw (← c.in-Some.ensures.value, ← c.link_is_below.ensures) at (at_last (λ l. IsTrue (is_before (link_numbers l) (link_numbers c.args.link.now))) c.args.before.now)
+returns-in-Some c = rw (← c.in-Some.ensures.value, ← c.link_is_below.ensures) at
+    (at_last (λ l. IsTrue (is_before (link_numbers l) (link_numbers c.args.link.now))) c.args.before.now)

@@ -11,7 +11,8 @@ pub returns-in_err-link-clause-err : goal.returns-in_err-link-clause-err
 returns-in_err-link-clause-err c =
     let p = err_from_is_err_and c.from_residual.result c.from_residual.ensures.1 in
     let fails = rw c.deref.ensures.value at c.in_err-link.ensures.err in
-    rw (p.1, p.2) (list_fails (AreReadLinks c.args.topology.now.switches) link_bytes c.args.bytes.now c.loop.links.items c.loop.rest.now c.loop.invariant.1 c.args.count c.in_err-link.field-0.0 (omega (arith, c.loop.invariant.0, c.loop-test.true)) fails)
+    rw (p.1, p.2) (list_fails (AreReadLinks c.args.topology.now.switches) link_bytes c.args.bytes.now c.loop.links.items c.loop.rest.now
+    c.loop.invariant.1 c.args.count c.in_err-link.field-0.0 (omega (arith, c.loop.invariant.0, c.loop-test.true)) fails)
 
 pub loop-init : goal.loop-init
 loop-init c = rw c.new-links.ensures.items (refl, (no_links c.args.topology.now.switches, refl))
@@ -20,5 +21,6 @@ loop-init c = rw c.new-links.ensures.items (refl, (no_links c.args.topology.now.
 pub loop-preserved : goal.loop-preserved
 loop-preserved c =
     let next = rw c.deref.ensures.value at c.in_ok-link.ensures.ok in
-    let more = one_more_unit (AreReadLinks c.args.topology.now.switches) link_bytes c.args.bytes.now c.loop.links.items c.loop.rest.now c.loop.invariant.1 c.in_ok-link.link _ next in
+    let more = one_more_unit (AreReadLinks c.args.topology.now.switches) link_bytes c.args.bytes.now c.loop.links.items c.loop.rest.now
+    c.loop.invariant.1 c.in_ok-link.link _ next in
     rw (c.in_ok-push.ensures.items, c.split_at.ensures.back) (grind (arith, length-append, c.loop.invariant.0), more)

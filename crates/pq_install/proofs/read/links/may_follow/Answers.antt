@@ -24,5 +24,12 @@ returns-then-is_linked-2 c =
 
 pub returns : goal.returns
 returns c =
-    let f = link_follows c.args.topology.now.switches c.args.before.now c.args.link.now c.requires in
-    (λ right. f.0 (c.joins_ports.ensures.0 c.if-not-joins_ports.false, c.comes_after.ensures.0 c.if-not-comes_after.false, grind (arith, rw (ap (λ l. l.first) c.link.view_is) at c.is_linked.ensures, c.if-is_linked.false), grind (arith, rw (ap (λ l. l.second) c.link.view_is) at c.is_linked-2.ensures, c.if-is_linked-2.false)), λ are. refl)
+    let f = link_follows c.args.topology.now.switches c.args.before.now c.args.link.now c.requires in (
+      λ right. f.0 (
+        c.joins_ports.ensures.0 c.if-not-joins_ports.false,
+        c.comes_after.ensures.0 c.if-not-comes_after.false,
+        grind (arith, rw (ap (λ l. l.first) c.link.view_is) at c.is_linked.ensures, c.if-is_linked.false),
+        grind (arith, rw (ap (λ l. l.second) c.link.view_is) at c.is_linked-2.ensures, c.if-is_linked-2.false),
+      ),
+      λ are. refl,
+    )

@@ -13,5 +13,9 @@ returns-in_default-clause-err c =
 
 -- the link that stands there may not follow
 pub returns-then-not-may_follow-clause-err : goal.returns-then-not-may_follow-clause-err
-returns-then-not-may_follow-clause-err c =
-    (refl, none_but HasEnds link_bytes unique_link (λ l. AreReadLinks c.args.topology.now.switches (c.args.before.now ++ l ∷ [])) c.args.bytes.now _ _ (last_has_ends c.args.topology.now.switches c.args.before.now c.requires.switches) c.in-Some.ensures (λ are. grind (arith, c.may_follow.ensures.1 are, c.if-not-may_follow.true)))
+returns-then-not-may_follow-clause-err c = (
+  refl,
+  none_but HasEnds link_bytes unique_link (λ l. AreReadLinks c.args.topology.now.switches (c.args.before.now ++ l ∷ []))
+      c.args.bytes.now _ _ (last_has_ends c.args.topology.now.switches c.args.before.now c.requires.switches) c.in-Some.ensures
+      (λ are. grind (arith, c.may_follow.ensures.1 are, c.if-not-may_follow.true)),
+)

@@ -11,7 +11,8 @@ pub returns-in_err-name-clause-err : goal.returns-in_err-name-clause-err
 returns-in_err-name-clause-err c =
     let p = err_from_is_err_and c.from_residual.result c.from_residual.ensures.1 in
     let fails = rw c.deref.ensures.value at c.in_err-name.ensures.err in
-    rw (p.1, p.2) (list_fails AreReadNames name_bytes c.args.bytes.now c.loop.names.items c.loop.rest.now c.loop.invariant.1 c.args.count c.in_err-name.field-0.0 (omega (arith, c.loop.invariant.0, c.loop-test.true)) fails)
+    rw (p.1, p.2) (list_fails AreReadNames name_bytes c.args.bytes.now c.loop.names.items c.loop.rest.now c.loop.invariant.1 c.args.count
+    c.in_err-name.field-0.0 (omega (arith, c.loop.invariant.0, c.loop-test.true)) fails)
 
 pub loop-init : goal.loop-init
 loop-init c = rw c.new-names.ensures.items (refl, (no_names, refl))

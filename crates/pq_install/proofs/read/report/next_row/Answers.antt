@@ -15,5 +15,9 @@ returns-in_default-clause-err c =
 -- the row that stands there may not follow
 pub returns-then-not-may_follow-clause-err : goal.returns-then-not-may_follow-clause-err
 returns-then-not-may_follow-clause-err c =
-    let front = rw c.in-Some.is at c.in_ok-row.ensures in
-    (refl, none_but HasPairs row_bytes unique_row (λ row. AreReadRows c.args.queries (c.args.before.now ++ row ∷ [])) c.args.bytes.now c.in-Some.row _ (last_has_pairs c.args.queries c.requires.few c.args.before.now) front (λ are. grind (arith, c.may_follow.ensures.1 are, c.if-not-may_follow.true)))
+    let front = rw c.in-Some.is at c.in_ok-row.ensures in (
+      refl,
+      none_but HasPairs row_bytes unique_row (λ row. AreReadRows c.args.queries (c.args.before.now ++ row ∷ [])) c.args.bytes.now
+          c.in-Some.row _ (last_has_pairs c.args.queries c.requires.few c.args.before.now) front
+          (λ are. grind (arith, c.may_follow.ensures.1 are, c.if-not-may_follow.true)),
+    )

@@ -10,4 +10,5 @@ pub returns-in_err-row-clause-err : goal.returns-in_err-row-clause-err
 returns-in_err-row-clause-err c =
     let p = err_from_is_err_and c.from_residual.result c.from_residual.ensures.1 in
     let fails = rw c.deref.ensures.value at c.in_err-row.ensures.err in
-    rw (p.1, p.2) (list_fails (AreReadRows c.args.queries) row_bytes c.args.bytes.now c.loop.rows.items c.loop.rest.now c.loop.invariant.1 c.args.count c.in_err-row.field-0.0 (omega (arith, c.loop.invariant.0, c.loop-test.true)) fails)
+    rw (p.1, p.2) (list_fails (AreReadRows c.args.queries) row_bytes c.args.bytes.now c.loop.rows.items c.loop.rest.now c.loop.invariant.1
+    c.args.count c.in_err-row.field-0.0 (omega (arith, c.loop.invariant.0, c.loop-test.true)) fails)

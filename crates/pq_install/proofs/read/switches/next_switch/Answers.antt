@@ -9,5 +9,9 @@ use Rattle.pq_install.proofs.read.switches.next_switch.Goals as goal
 -- the switch that stands there may not follow
 pub returns-then-not-may_follow-clause-err : goal.returns-then-not-may_follow-clause-err
 returns-then-not-may_follow-clause-err c =
-    let front = rw c.in-Some.is at c.in_ok-switch.ensures in
-    (refl, none_but IsReadSwitch switch_bytes unique_switch (λ s. AreReadSwitches (c.args.before.now ++ s ∷ [])) c.args.bytes.now c.in-Some.switch _ (last_is_read c.args.before.now) front (λ are. grind (arith, c.may_follow.ensures.1 are, c.if-not-may_follow.true)))
+    let front = rw c.in-Some.is at c.in_ok-switch.ensures in (
+      refl,
+      none_but IsReadSwitch switch_bytes unique_switch (λ s. AreReadSwitches (c.args.before.now ++ s ∷ [])) c.args.bytes.now
+          c.in-Some.switch _ (last_is_read c.args.before.now) front
+          (λ are. grind (arith, c.may_follow.ensures.1 are, c.if-not-may_follow.true)),
+    )

@@ -9,4 +9,9 @@ returns-in_default-2 c = no_ports c.args.bytes.now _ _ c.in-Some.ensures (rw c.i
 pub returns-then-not-are_ports : goal.returns-then-not-are_ports
 returns-then-not-are_ports c =
     let behind = rw c.in-Some-2.is at c.in_ok-ports.ensures in
-    bad_ports c.args.bytes.now _ _ _ _ c.in-Some.ensures behind (λ (are : ArePorts c.in-Some-2.ports.items). grind (arith, c.are_ports.ensures.1 (rw c.deref.ensures.value are), c.if-not-are_ports.true))
+    bad_ports c.args.bytes.now _ _ _ _ c.in-Some.ensures behind
+    (λ (are : ArePorts c.in-Some-2.ports.items). grind (
+      arith,
+      c.are_ports.ensures.1 (rw c.deref.ensures.value are),
+      c.if-not-are_ports.true,
+    ))

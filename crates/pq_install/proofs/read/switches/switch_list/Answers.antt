@@ -10,4 +10,5 @@ pub returns-in_err-switch-clause-err : goal.returns-in_err-switch-clause-err
 returns-in_err-switch-clause-err c =
     let p = err_from_is_err_and c.from_residual.result c.from_residual.ensures.1 in
     let fails = rw c.deref.ensures.value at c.in_err-switch.ensures.err in
-    rw (p.1, p.2) (list_fails AreReadSwitches switch_bytes c.args.bytes.now c.loop.switches.items c.loop.rest.now c.loop.invariant.1 c.args.count c.in_err-switch.field-0.0 (omega (arith, c.loop.invariant.0, c.loop-test.true)) fails)
+    rw (p.1, p.2) (list_fails AreReadSwitches switch_bytes c.args.bytes.now c.loop.switches.items c.loop.rest.now c.loop.invariant.1
+    c.args.count c.in_err-switch.field-0.0 (omega (arith, c.loop.invariant.0, c.loop-test.true)) fails)

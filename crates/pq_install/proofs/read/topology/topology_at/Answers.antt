@@ -17,4 +17,6 @@ pub returns-in_err-links-clause-err : goal.returns-in_err-links-clause-err
 returns-in_err-links-clause-err c =
     let p = err_from_is_err_and c.from_residual-in_err-links.result c.from_residual-in_err-links.ensures.1 in
     let fails = rw c.made-unlinked.ensures at c.in_err-links.ensures.err in
-    rw (p.1, p.2) (tells_after (CountedFails 256 AreReadSwitches switch_bytes) (IsSection 256 AreReadSwitches switch_bytes) (λ ss. CountedFails 65535 (AreReadLinks ss) link_bytes) c.args.bytes.now c.in_ok-switches.switches.items c.in_ok-switches.rest.now c.in_err-links.field-0.0 c.in_ok-switches.ensures.ok fails)
+    rw (p.1, p.2) (tells_after (CountedFails 256 AreReadSwitches switch_bytes) (IsSection 256 AreReadSwitches switch_bytes)
+    (λ ss. CountedFails 65535 (AreReadLinks ss) link_bytes) c.args.bytes.now c.in_ok-switches.switches.items c.in_ok-switches.rest.now
+    c.in_err-links.field-0.0 c.in_ok-switches.ensures.ok fails)

@@ -17,8 +17,11 @@ loop-size-preserved c =
     let cut : used + size - used ≡ size = omega arith in
     let talk : c.in_ok-talk.talk ≡ (effect c.args.self.now c.loop-size.talk (take size (drop used bytes))).talk =
     c.in_ok-talk.ensures.talk ∙ ap (λ n. (effect c.args.self.now c.loop-size.talk (take n (drop used bytes))).talk) cut in
-    let sent : c.answer.new.sent.items ≡ c.loop-size.sent.items ++ replies_bytes c.args.self.now.messages (effect c.args.self.now c.loop-size.talk (take size (drop used bytes))).replies =
-    c.in_ok-talk.ensures.sent ∙ ap (λ n. c.loop-size.sent.items ++ replies_bytes c.args.self.now.messages (effect c.args.self.now c.loop-size.talk (take n (drop used bytes))).replies) cut in (
+    let sent : c.answer.new.sent.items ≡ c.loop-size.sent.items ++ replies_bytes c.args.self.now.messages
+    (effect c.args.self.now c.loop-size.talk (take size (drop used bytes))).replies =
+    c.in_ok-talk.ensures.sent
+    ∙ ap (λ n. c.loop-size.sent.items ++ replies_bytes c.args.self.now.messages
+    (effect c.args.self.now c.loop-size.talk (take n (drop used bytes))).replies) cut in (
       omega (arith, there, length-drop used bytes, c.loop-size.invariant.0),
       (λ i. passed c.args.self.now (sent i) (talk i) (drop (used + size) bytes))
           ∙ sym (passed-step c.args.self.now c.loop-size.sent.items c.loop-size.talk bytes used size whole)

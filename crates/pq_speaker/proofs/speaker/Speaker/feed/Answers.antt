@@ -23,7 +23,8 @@ returns-then-has_failed-clause-sent c =
 pub invariant_of-self-in-Ok : goal.invariant_of-self-in-Ok
 invariant_of-self-in-Ok c =
     let bytes = c.deref.result.now in
-    let waits : c.forget.new.waiting.items ≡ drop c.in-Ok.progress.used bytes = c.forget.ensures ∙ ap (drop c.in-Ok.progress.used) (sym c.deref.ensures.value) in
+    let waits : c.forget.new.waiting.items ≡ drop c.in-Ok.progress.used bytes = c.forget.ensures
+    ∙ ap (drop c.in-Ok.progress.used) (sym c.deref.ensures.value) in
     subst (λ l. IsState (record { session = c.self.inside.session; talk = c.in-Ok.progress.talk; waiting = l })) (sym waits)
     (subst IsState c.in-Ok.ensures.state (heard-is c.self.inside.session c.self.inside.talk (divided [] bytes) (rest-uncut [] bytes refl)))
 

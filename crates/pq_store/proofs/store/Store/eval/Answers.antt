@@ -25,7 +25,8 @@ loop-leaf-preserved-then-passes g c =
     let shows = c.in-Node.ensures.shows in
     record {
       within = slice_get_within c.args.self.now c.in-Node.yes shows.yes_tree shows.yes_is;
-      value = yes_value c.args.self.now c.loop-leaf.at c.in-Node.yes c.in-Node.no c.in-Node.test c.args.x.now c.passes.result _ shows c.passes.ensures c.if-passes.true c.loop-leaf.invariant.value;
+      value = yes_value c.args.self.now c.loop-leaf.at c.in-Node.yes c.in-Node.no c.in-Node.test c.args.x.now c.passes.result _ shows
+          c.passes.ensures c.if-passes.true c.loop-leaf.invariant.value;
     }
 
 pub loop-leaf-smaller : goal.loop-leaf-smaller
@@ -36,5 +37,6 @@ loop-leaf-preserved g c =
     let shows = c.in-Node.ensures.shows in
     record {
       within = slice_get_within c.args.self.now c.in-Node.no shows.no_tree shows.no_is;
-      value = no_value c.args.self.now c.loop-leaf.at c.in-Node.yes c.in-Node.no c.in-Node.test c.args.x.now c.passes.result _ shows c.passes.ensures c.if-passes.false c.loop-leaf.invariant.value;
+      value = no_value c.args.self.now c.loop-leaf.at c.in-Node.yes c.in-Node.no c.in-Node.test c.args.x.now c.passes.result _ shows
+          c.passes.ensures c.if-passes.false c.loop-leaf.invariant.value;
     }

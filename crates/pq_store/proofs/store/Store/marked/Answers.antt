@@ -8,7 +8,8 @@ loop-root-preserved g c =
     omega (arith, c.requires c.loop-root.root-index c.root-item.result c.loop-root-test.true, c.root-item.is, c.loop-root.invariant.0) in
     rw c.root.view_is (
       length-set c.loop-root.kept.items c.root-item.result true ∙ c.loop-root.invariant.0,
-      marks_root c.args.roots.now c.loop-root.root-index c.root-item.result c.loop-root.kept.items c.loop-root-test.true c.root-item.is within c.loop-root.invariant.1,
+      marks_root c.args.roots.now c.loop-root.root-index c.root-item.result c.loop-root.kept.items c.loop-root-test.true c.root-item.is
+          within c.loop-root.invariant.1,
     )
 
 pub returns : goal.returns

@@ -22,9 +22,12 @@ put-requires g c = rw (← c.self.view_is)
 
 pub returns-clause-tree : goal.returns-clause-tree
 returns-clause-tree g c = rw (← c.self.view_is)
-    (branch_join c.self.inside.cells.keys c.self.invariant (record { test = c.args.test; yes = c.args.yes; no = c.args.no; past = c.past-past.result }) c.put.new.self c.in_ok-id.id
-    (rw c.self.view_is c.past-past.ensures.past) (eqb-false c.args.yes c.past-past.result (sym c.eq.ensures ∙ c.if-eq.false)) (rw c.self.view_is c.in_ok-id.ensures.tree))
+    (branch_join c.self.inside.cells.keys c.self.invariant
+    (record { test = c.args.test; yes = c.args.yes; no = c.args.no; past = c.past-past.result }) c.put.new.self c.in_ok-id.id
+    (rw c.self.view_is c.past-past.ensures.past) (eqb-false c.args.yes c.past-past.result (sym c.eq.ensures ∙ c.if-eq.false))
+    (rw c.self.view_is c.in_ok-id.ensures.tree))
 
 pub returns-clause-value : goal.returns-clause-value
 returns-clause-value g c =
-    branch_value c.args.self.now c.put.new.self (record { test = c.args.test; yes = c.args.yes; no = c.args.no; past = c.past-past.result }) c.in_ok-id.id c.requires.yes c.requires.no c.in_ok-id.ensures.tree
+    branch_value c.args.self.now c.put.new.self (record { test = c.args.test; yes = c.args.yes; no = c.args.no; past = c.past-past.result })
+    c.in_ok-id.id c.requires.yes c.requires.no c.in_ok-id.ensures.tree

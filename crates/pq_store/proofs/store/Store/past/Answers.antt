@@ -8,7 +8,8 @@ use Rattle.pq_store.proofs.store.Store.past.Goals.{After-behind, in_default-via-
 
 is_past : (g : Over) (c : After-behind g) → IsPastAt c.args.self.now c.args.test c.args.node c.behind.result
 is_past g c = rw (c.in-Equal-Branch.is-0, c.behind.ensures, ← c.self.view_is, ← c.node.view_is)
-    (branch_past c.self.inside.cells.keys c.self.invariant c.in-Equal-Branch.field c.in-Equal-Branch.field-1-0 c.node.inside.0 c.in-Equal-Branch.branch (c.index.ensures ∙ ap Some c.in-Equal-Branch.is-1))
+    (branch_past c.self.inside.cells.keys c.self.invariant c.in-Equal-Branch.field c.in-Equal-Branch.field-1-0 c.node.inside.0
+    c.in-Equal-Branch.branch (c.index.ensures ∙ ap Some c.in-Equal-Branch.is-1))
 
 pub returns-in-Equal-Branch-clause-within : goal.returns-in-Equal-Branch-clause-within
 returns-in-Equal-Branch-clause-within g c = past_within c.args.self.now c.args.test c.args.node c.behind.result c.requires (is_past g c)

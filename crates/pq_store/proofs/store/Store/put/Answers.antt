@@ -22,7 +22,8 @@ compares g = record {
   both_branches = λ a b. refl;
 }
 
-after : (g : Over) (c : Joined-insert_full-2 g) → IsArena c.insert_full.new.self.keys × Keeps (trees c.self.inside.cells.keys) (trees c.insert_full.new.self.keys)
+after : (g : Over) (c : Joined-insert_full-2 g)
+    → IsArena c.insert_full.new.self.keys × Keeps (trees c.self.inside.cells.keys) (trees c.insert_full.new.self.keys)
 after g c = after_insert c.insert_full.result (same_cell g) c.self.inside.cells.keys c.insert_full.new.self.keys c.args.cell
     (cell_itself (same_cell g) g.L.PartialEq.eq (compares g) g.met.L.Eq.laws.refl c.args.cell)
     c.self.invariant (rw c.self.view_is c.requires) c.insert_full.ensures.keys c.insert_full.ensures.err
@@ -40,7 +41,8 @@ pub returns-clause-tree : goal.returns-clause-tree
 returns-clause-tree g c = elim c.match-insert_full.branch [
   | in-Ok w ↦ rw (w.result-is, ← c.self.view_is) (
       let stored = w.in-Ok.ensures.stored in
-      tree_at c.self.inside.cells.keys c.insert_full.new.self.keys c.args.cell stored.0 w.in-Ok.place (rw c.self.view_is c.requires) (after g c).0 (after g c).1 stored.1
+      tree_at c.self.inside.cells.keys c.insert_full.new.self.keys c.args.cell stored.0 w.in-Ok.place (rw c.self.view_is c.requires)
+      (after g c).0 (after g c).1 stored.1
       (cell_exact (same_cell g) g.L.PartialEq.eq (compares g) g.met.L.Leaf.exact c.args.cell stored.0 stored.2))
   | in-Err w ↦ rw w.result-is tt
 ]
@@ -48,7 +50,8 @@ returns-clause-tree g c = elim c.match-insert_full.branch [
 pub returns-clause-adds : goal.returns-clause-adds
 returns-clause-adds g c = elim c.match-insert_full.branch [
   | in-Ok w ↦ rw (w.result-is, ← c.self.view_is) (
-      adds_own (same_cell g) c.self.inside.cells.keys c.insert_full.new.self.keys c.args.cell w.in-Ok.place (rw c.self.view_is c.requires) (after g c).0 w.in-Ok.ensures.keys
+      adds_own (same_cell g) c.self.inside.cells.keys c.insert_full.new.self.keys c.args.cell w.in-Ok.place (rw c.self.view_is c.requires)
+      (after g c).0 w.in-Ok.ensures.keys
       (rw (w.result-is, ← c.self.view_is) at (returns-clause-tree g c)))
   | in-Err w ↦ rw w.result-is tt
 ]

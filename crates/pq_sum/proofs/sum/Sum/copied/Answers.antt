@@ -15,8 +15,10 @@ compacted-requires-clause-roots c =
 pub returns-clause-same : goal.returns-clause-same
 returns-clause-same c =
     let s : Sum = record { cells = c.self.inside.cells.items; slots = c.self.inside.slots.items } in
-    subst (λ t. IsSameSum c.args.store.now t c.in_ok-compact.compact (record { cells = c.in_ok-compact.cells.items; slots = c.in_ok-slots.slots.items })) c.self.view_is
-    (is_same_sum c.args.store.now c.in_ok-compact.compact s c.in_ok-compact.cells.items c.in_ok-slots.slots.items (c.in_ok-slots.ensures.items ∙ c.deref-2.ensures.value)
+    subst (λ t. IsSameSum c.args.store.now t c.in_ok-compact.compact
+    (record { cells = c.in_ok-compact.cells.items; slots = c.in_ok-slots.slots.items })) c.self.view_is
+    (is_same_sum c.args.store.now c.in_ok-compact.compact s c.in_ok-compact.cells.items c.in_ok-slots.slots.items
+    (c.in_ok-slots.ensures.items ∙ c.deref-2.ensures.value)
     (subst (λ l. IsCompaction c.args.store.now l c.in_ok-compact.compact c.in_ok-compact.cells.items) c.deref.ensures.value c.in_ok-compact.ensures))
 
 pub returns-clause-compact : goal.returns-clause-compact

@@ -22,4 +22,5 @@ pub returns : goal.returns
 returns c =
     let s : Sum = record { cells = c.self.inside.cells.items; slots = c.self.inside.slots.items } in
     subst (λ t. IsPartAt t c.args.place c.leaf_at.result) c.self.view_is
-    (is_part_at s c.args.place c.index.result.now c.index.ensures c.leaf_at.result (subst (λ l. IsLeaf l c.index.result.now c.leaf_at.result) c.deref.ensures.value c.leaf_at.ensures))
+    (is_part_at s c.args.place c.index.result.now c.index.ensures c.leaf_at.result
+    (subst (λ l. IsLeaf l c.index.result.now c.leaf_at.result) c.deref.ensures.value c.leaf_at.ensures))

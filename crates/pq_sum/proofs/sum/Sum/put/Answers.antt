@@ -23,16 +23,22 @@ pub returns-in_err-put-clause-steps : goal.returns-in_err-put-clause-steps
 returns-in_err-put-clause-steps g c =
     let s : Sum = record { cells = c.self.inside.cells.items; slots = c.self.inside.slots.items } in
     subst (λ t. CountsPutAt c.args.store.now t c.args.place c.args.part c.args.steps.now c.put.new.steps) c.self.view_is
-    (counts_put_at c.args.store.now s c.args.place c.args.part c.in_ok-slot.slot c.slot_for.new.slots.items c.in_ok-slot.ensures c.args.steps.now c.put.new.steps
+    (counts_put_at c.args.store.now s c.args.place c.args.part c.in_ok-slot.slot c.slot_for.new.slots.items c.in_ok-slot.ensures
+    c.args.steps.now c.put.new.steps
     (subst (λ l. CountsPut c.args.store.now l c.in_ok-slot.slot c.args.part c.args.steps.now c.put.new.steps) c.deref_mut.ensures.value c.put.ensures.steps))
 
 pub returns-clause-sum : goal.returns-clause-sum
 returns-clause-sum g c =
     let s : Sum = record { cells = c.self.inside.cells.items; slots = c.self.inside.slots.items } in
-    let lent_cells = lent c.put.new.cells (drop (length c.put.new.cells) c.self.inside.cells.items) c.self.inside.cells.len (c.put.auto.cells ∙ c.deref_mut.ensures.len) in
-    subst (λ t. IsPutAt c.args.store.now t c.args.place c.args.part c.put.new.store (record { cells = (with_items c.self.inside.cells c.put.new.cells).items; slots = c.slot_for.new.slots.items }))
+    let lent_cells = lent c.put.new.cells (drop (length c.put.new.cells) c.self.inside.cells.items) c.self.inside.cells.len
+    (c.put.auto.cells ∙ c.deref_mut.ensures.len) in
+    subst (λ t. IsPutAt c.args.store.now t c.args.place c.args.part c.put.new.store (record {
+      cells = (with_items c.self.inside.cells c.put.new.cells).items;
+      slots = c.slot_for.new.slots.items;
+    }))
     c.self.view_is
-    (subst (λ l. IsPutAt c.args.store.now s c.args.place c.args.part c.put.new.store (record { cells = l; slots = c.slot_for.new.slots.items })) (sym lent_cells)
+    (subst (λ l. IsPutAt c.args.store.now s c.args.place c.args.part c.put.new.store
+    (record { cells = l; slots = c.slot_for.new.slots.items })) (sym lent_cells)
     (is_put_at c.args.store.now s c.args.place c.args.part c.in_ok-slot.slot c.slot_for.new.slots.items c.in_ok-slot.ensures c.put.new.store c.put.new.cells
     (subst (λ l. IsPut c.args.store.now l c.in_ok-slot.slot c.args.part c.put.new.store c.put.new.cells) c.deref_mut.ensures.value c.in_ok-put.ensures.sum)))
 
@@ -40,5 +46,6 @@ pub returns-clause-steps : goal.returns-clause-steps
 returns-clause-steps g c =
     let s : Sum = record { cells = c.self.inside.cells.items; slots = c.self.inside.slots.items } in
     subst (λ t. CountsPutAt c.args.store.now t c.args.place c.args.part c.args.steps.now c.put.new.steps) c.self.view_is
-    (counts_put_at c.args.store.now s c.args.place c.args.part c.in_ok-slot.slot c.slot_for.new.slots.items c.in_ok-slot.ensures c.args.steps.now c.put.new.steps
+    (counts_put_at c.args.store.now s c.args.place c.args.part c.in_ok-slot.slot c.slot_for.new.slots.items c.in_ok-slot.ensures
+    c.args.steps.now c.put.new.steps
     (subst (λ l. CountsPut c.args.store.now l c.in_ok-slot.slot c.args.part c.args.steps.now c.put.new.steps) c.deref_mut.ensures.value c.put.ensures.steps))

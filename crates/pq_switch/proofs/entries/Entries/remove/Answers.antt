@@ -9,12 +9,14 @@ invariant_of-self c =
     let f = c.args.flow.now in
     let at : c.of-place.result ≡ place_of f.table f.matching f.priority = rw (← c.flow.view_is) c.of-place.ensures.value in
     let small : f.priority < 0x10000 = rw (← c.flow.view_is) c.of-place.ensures.small in
-    taken_out-kept f c.self.inside.next small c.of-place.result at c.self.inside.slots c.remove.new.self c.self.invariant c.remove.ensures.entries c.remove.ensures.updates.1
+    taken_out-kept f c.self.inside.next small c.of-place.result at c.self.inside.slots c.remove.new.self c.self.invariant
+    c.remove.ensures.entries c.remove.ensures.updates.1
 
 pub returns : goal.returns
 returns c =
     let f = c.args.flow.now in
     let at : c.of-place.result ≡ place_of f.table f.matching f.priority = rw (← c.flow.view_is) c.of-place.ensures.value in
     let small : f.priority < 0x10000 = rw (← c.flow.view_is) c.of-place.ensures.small in
-    taken_out f c.self.inside.next small c.of-place.result at c.self.inside.slots c.remove.new.self c.self.invariant c.remove.ensures.entries c.remove.ensures.updates.1
+    taken_out f c.self.inside.next small c.of-place.result at c.self.inside.slots c.remove.new.self c.self.invariant
+    c.remove.ensures.entries c.remove.ensures.updates.1
     ∙ ap (filter (λ e. not (is_placed f e))) c.self.view_is

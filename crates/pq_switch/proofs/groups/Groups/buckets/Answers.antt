@@ -6,8 +6,12 @@ use Rattle.pq_switch.proofs.groups.Groups.buckets.Goals as goal
 
 pub returns-in-Some : goal.returns-in-Some
 returns-in-Some c =
-    rw (c.as_slice.ensures.value, ← c.self.view_is) (sym (ap buckets_in (get-shown (λ v. v.items) c.self.inside.buckets c.args.number ∙ ap (option_map (λ v. v.items)) (sym c.get.ensures.value ∙ ap option_copied c.in-Some.is))))
+    rw (c.as_slice.ensures.value, ← c.self.view_is)
+    (sym (ap buckets_in (get-shown (λ v. v.items) c.self.inside.buckets c.args.number
+    ∙ ap (option_map (λ v. v.items)) (sym c.get.ensures.value ∙ ap option_copied c.in-Some.is))))
 
 pub returns-in-None : goal.returns-in-None
 returns-in-None c =
-    rw (← c.self.view_is) (sym (ap buckets_in (get-shown (λ v. v.items) c.self.inside.buckets c.args.number ∙ ap (option_map (λ v. v.items)) (sym c.get.ensures.value ∙ ap option_copied c.in-None.is))))
+    rw (← c.self.view_is)
+    (sym (ap buckets_in (get-shown (λ v. v.items) c.self.inside.buckets c.args.number
+    ∙ ap (option_map (λ v. v.items)) (sym c.get.ensures.value ∙ ap option_copied c.in-None.is))))

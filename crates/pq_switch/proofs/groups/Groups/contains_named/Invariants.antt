@@ -6,4 +6,5 @@ use Rattle.pq_switch.proofs.groups.Groups.contains_named.Given as goal
 
 -- the actions left decide
 abbrev pub invariant-loop-action : goal.invariant-loop-action
-invariant-loop-action l = list_all (contains_key l.self) (groups_named (drop l.action-index l.actions)) ≡ list_all (contains_key l.self) (groups_named l.actions)
+invariant-loop-action l = list_all (contains_key l.self) (groups_named (drop l.action-index l.actions)) ≡ list_all (contains_key l.self)
+    (groups_named l.actions)

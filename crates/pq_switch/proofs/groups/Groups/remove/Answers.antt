@@ -11,5 +11,6 @@ one_removed g n h = let test : (n == all_groups) ≡ false = grind (nat_tests, a
 
 pub returns-else-number : goal.returns-else-number
 returns-else-number c =
-    let one = shown-remove (λ v. v.items) c.self.inside.buckets c.remove.new.self c.args.number c.remove.ensures.updates ∙ sym (one_removed _ c.args.number c.if-number.false) in
+    let one = shown-remove (λ v. v.items) c.self.inside.buckets c.remove.new.self c.args.number c.remove.ensures.updates
+    ∙ sym (one_removed _ c.args.number c.if-number.false) in
     rw (← c.self.view_is) (elim c.match-remove.branch [ in-Some-1 w ↦ w.self-is ∙ one | in-None-1 w ↦ w.self-is ∙ one ])

@@ -8,7 +8,8 @@ pub returns-in-Some : goal.returns-in-Some
 returns-in-Some c =
     let named = subst IsNamedTopology c.self.view_is c.self.invariant in
     let read = rw (ap (λ t. t.switches) c.self.view_is) at c.index.ensures in
-    let told = found c.args.self.now.switches c.args.datapath c.in-Some.index c.index.result.now named.lawful.ascending c.in-Some.ensures.0 (c.in-Some.ensures.1 c.index.result.now) in
+    let told = found c.args.self.now.switches c.args.datapath c.in-Some.index c.index.result.now named.lawful.ascending c.in-Some.ensures.0
+    (c.in-Some.ensures.1 c.index.result.now) in
     ap (λ s. s.limit) (c.behind-self.view_is ∙ read) ∙ sym told.limit
 
 pub returns-in-None : goal.returns-in-None

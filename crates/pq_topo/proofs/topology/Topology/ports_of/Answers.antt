@@ -8,7 +8,8 @@ pub returns-in-Some-clause-ports : goal.returns-in-Some-clause-ports
 returns-in-Some-clause-ports c =
     let named = subst IsNamedTopology c.self.view_is c.self.invariant in
     let read = rw (ap (λ t. t.switches) c.self.view_is) at c.index.ensures in
-    let told = found c.args.self.now.switches c.args.datapath c.in-Some.index c.index.result.now named.lawful.ascending c.in-Some.ensures.0 (c.in-Some.ensures.1 c.index.result.now) in
+    let told = found c.args.self.now.switches c.args.datapath c.in-Some.index c.index.result.now named.lawful.ascending c.in-Some.ensures.0
+    (c.in-Some.ensures.1 c.index.result.now) in
     c.deref.ensures.value ∙ (ap (λ s. s.ports) (c.behind-self.view_is ∙ read) ∙ sym told.ports)
 
 pub returns-in-None-clause-ports : goal.returns-in-None-clause-ports

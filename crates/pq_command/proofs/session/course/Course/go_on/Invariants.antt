@@ -9,7 +9,8 @@ use Rattle.pq_command.proofs.session.course.Course.go_on.Given as goal
 abbrev pub invariant-loop-turn : goal.invariant-loop-turn
 invariant-loop-turn g l = record {
   going_on : (left before : Option (List ℕ))
-      → IsGoingOn (streams left (g.S.Source.left l.fn.source) before (g.K.Sink.put l.fn.sink)) l.fn.self.pieces.pending l.fn.self.is_last (current_of l.fn.self.engine) 0
+      → IsGoingOn (streams left (g.S.Source.left l.fn.source) before (g.K.Sink.put l.fn.sink)) l.fn.self.pieces.pending l.fn.self.is_last
+      (current_of l.fn.self.engine) 0
       → IsGoingOn (streams left (g.S.Source.left l.source) before (g.K.Sink.put l.sink)) l.self.pieces.pending l.self.is_last (current_of l.self.engine) l.turn;
   ended : l.self.pieces.is_ended ≡ true → IsAtEnd (g.S.Source.left l.source);
   few : length l.self.pieces.pending ≤ chunk_size;

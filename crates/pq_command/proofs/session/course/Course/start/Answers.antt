@@ -28,8 +28,10 @@ returns-in-Err-clause-err g c =
 pub returns-in-Err-engine_of-clause-err : goal.returns-in-Err-engine_of-clause-err
 returns-in-Err-engine_of-clause-err g c =
     let told = subst (HasNoInstall c.in-Err-engine_of.outcome) c.deref.ensures.value c.in-Err-engine_of.ensures.err in
-    first_refused (g.S.Source.left c.args.source.now) (g.S.Source.left c.next_piece.new.source) (g.K.Sink.put c.args.sink.now) c.in-Ok.pieces.pending c.next_piece.new.self.pending
-    c.in-Ok-next_piece.piece c.in-Err-engine_of.outcome c.in-Ok.ensures.pending c.in-Ok-next_piece.ensures.next c.in-Ok-next_piece.ensures.few told c.in-Err-engine_of.ensures.of_text
+    first_refused (g.S.Source.left c.args.source.now) (g.S.Source.left c.next_piece.new.source)
+    (g.K.Sink.put c.args.sink.now) c.in-Ok.pieces.pending c.next_piece.new.self.pending
+    c.in-Ok-next_piece.piece c.in-Err-engine_of.outcome c.in-Ok.ensures.pending c.in-Ok-next_piece.ensures.next
+    c.in-Ok-next_piece.ensures.few told c.in-Err-engine_of.ensures.of_text
 
 pub put_install-requires : goal.put_install-requires
 put_install-requires g c = subst IsLawfulInstall (sym c.install.ensures.install) c.install.ensures.installed.lawful
@@ -42,7 +44,8 @@ returns-in-Err-put_install-clause-err g c =
     let spelled = subst (λ t. Spells t engine.document) c.deref.ensures.value c.in-Ok-engine_of.ensures.spelled in
     let cut = subst (λ i. IsCut c.in-Err-put_install.outcome before after (install_frame i)) c.install.ensures.install c.in-Err-put_install.ensures.cut in
     first_cut (g.S.Source.left c.args.source.now) (g.S.Source.left c.next_piece.new.source) before after c.in-Ok.pieces.pending c.next_piece.new.self.pending
-    c.in-Ok-next_piece.piece (current_of engine) c.in-Err-put_install.outcome c.in-Ok.ensures.pending c.in-Ok-next_piece.ensures.next c.in-Ok-next_piece.ensures.few
+    c.in-Ok-next_piece.piece (current_of engine) c.in-Err-put_install.outcome c.in-Ok.ensures.pending c.in-Ok-next_piece.ensures.next
+    c.in-Ok-next_piece.ensures.few
     spelled c.install.ensures.installed cut
 
 pub returns-clause-going_on : goal.returns-clause-going_on

@@ -23,7 +23,8 @@ returns-in-Ok-greet-clause-under_way g c =
     let first : take (length c.deref-2.result.now - at) (drop at c.deref-2.result.now) ≡ drop at c.in-Ok.text.items =
     take_rest c.deref-2.result.now at ∙ ap (drop at) c.deref-2.ensures.value in
     let opened : IsOpened c.args.datapath c.in-Ok.text.items (session_of c.args.datapath messages) (drop at c.in-Ok.text.items) =
-    subst (λ (t : List ℕ). IsOpened c.args.datapath t (session_of c.args.datapath messages) (drop at t)) c.deref.ensures.value c.in-Ok-opening_of.ensures.opened in (
+    subst (λ (t : List ℕ). IsOpened c.args.datapath t (session_of c.args.datapath messages) (drop at t)) c.deref.ensures.value
+    c.in-Ok-opening_of.ensures.opened in (
       c.in-Ok.text.items,
       begun c.args.datapath _ _ (g.K.Sink.put c.args.sink.now) (g.K.Sink.put c.greet.new.sink) c.in-Ok.text.items _ at messages c.in-Ok-greet.speaker ok.1
           opened first c.in-Ok-greet.ensures.state c.in-Ok-greet.ensures.put c.in-Ok-greet.ensures.going,
@@ -39,7 +40,8 @@ returns-clause-err g c =
     let first : take (length c.deref-2.result.now - at) (drop at c.deref-2.result.now) ≡ drop at c.in-Ok.text.items =
     take_rest c.deref-2.result.now at ∙ ap (drop at) c.deref-2.ensures.value in
     let opened : IsOpened c.args.datapath c.in-Ok.text.items (session_of c.args.datapath messages) (drop at c.in-Ok.text.items) =
-    subst (λ (t : List ℕ). IsOpened c.args.datapath t (session_of c.args.datapath messages) (drop at t)) c.deref.ensures.value c.in-Ok-opening_of.ensures.opened in
+    subst (λ (t : List ℕ). IsOpened c.args.datapath t (session_of c.args.datapath messages) (drop at t)) c.deref.ensures.value
+    c.in-Ok-opening_of.ensures.opened in
     start-ends c.args.datapath _ _ (g.K.Sink.put c.args.sink.now) (g.K.Sink.put c.greet.new.sink) c.in-Ok.text.items (session_of c.args.datapath messages)
     (drop at c.in-Ok.text.items) c.in-Err-greet.outcome ok.1 ok.0 ok.2 opened
     (subst (λ (came : List ℕ). IsTurnEnd (talk_after (session_of c.args.datapath messages) came) (said (session_of c.args.datapath messages) came)
