@@ -10,7 +10,7 @@ use Rattle.std.proofs.lemmas.Bool.{ne_eqb, or_parts}
 use Rattle.std.proofs.lemmas.Bool.Decides.{eqb_tells}
 use Rattle.std.proofs.lemmas.List.{drop_all}
 use Rattle.std.proofs.lemmas.List.Elements.{All-cons, All-head, All-nil, All-tail}
-use Rattle.std.proofs.lemmas.List.Kept.{AllPairs-cons, any_later}
+use Rattle.std.proofs.lemmas.List.Kept.{AllPairs-cons}
 use Rattle.pq_fields.specs.Order.{writes_cmp}
 use Rattle.pq_fields.specs.Writes.{Written}
 use Rattle.pq_model.specs.Lawful.{Ascends}

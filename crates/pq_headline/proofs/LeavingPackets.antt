@@ -5,7 +5,7 @@ use Rattle.std.specs.List.{All, AllByRecursion, Any, Contains}
 use Rattle.std.specs.declared.cmp.Ordering.TheVariants.{Less}
 use Rattle.std.proofs.lemmas.Bool.{true≢false}
 use Rattle.std.proofs.lemmas.List.Elements.{All-filter, Contains-get_or, recursion_from_All}
-use Rattle.std.proofs.lemmas.List.Kept.{AllPairs-filter, any_later}
+use Rattle.std.proofs.lemmas.List.Kept.{AllPairs-filter}
 use Rattle.pq_fields.specs.Order.{writes_cmp}
 use Rattle.pq_fields.specs.Packet.{Numbers, Fit}
 use Rattle.pq_fields.specs.Writes.{Written, AllFit, on}
