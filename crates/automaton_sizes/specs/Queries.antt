@@ -35,7 +35,7 @@ any_number q = record { top = Repeated; below = queries (q ∷ []) }
 abbrev pub all_but : QueryTree → QueryTree
 all_but q = record { top = Other; below = queries (q ∷ []) }
 
--- a query so many times
+-- a query this many times
 abbrev pub times : ℕ → QueryTree → List QueryTree
 times zero q = []
 times (suc n) q = times n q ++ q ∷ []
@@ -44,12 +44,12 @@ times (suc n) q = times n q ++ q ∷ []
 abbrev pub any_packets : QueryTree
 any_packets = any_number (entering anything)
 
--- `in_atom(true)` behind so many `~`
+-- `in_atom(true)` after this many `~`
 abbrev pub turned : ℕ → QueryTree
 turned zero = entering anything
 turned (suc n) = all_but (turned n)
 
--- `in_atom(switch=1) ^ in_atom(true)* ^ in_atom(switch=2) ^ in_atom(true)*` and so on, past so many switches
+-- `in_atom(switch=1) ^ in_atom(true)* ^ in_atom(switch=2) ^ in_atom(true)*` and so on, past this many switches
 abbrev pub passing : ℕ → List QueryTree
 passing zero = []
 passing (suc n) = (passing n ++ entering (switch_is (n + 1)) ∷ []) ++ any_packets ∷ []
@@ -66,12 +66,12 @@ at_many_ports = leaf (Enters anything (record { field = Port; values = Some (ran
 abbrev pub varied_port : ℕ → ℕ → ℕ
 varied_port chain place = (chain + chain / 7 * place + place * place) % 7 + 1
 
--- so many atoms for packets that come in at varied ports
+-- this many atoms for packets that come in at varied ports
 abbrev pub varied_atoms : ℕ → ℕ → List QueryTree
 varied_atoms chain zero = []
 varied_atoms chain (suc n) = varied_atoms chain n ++ entering (port_is (varied_port chain n)) ∷ []
 
--- so many chains of ten such atoms
+-- this many chains of ten such atoms
 abbrev pub varied_chains : ℕ → List QueryTree
 varied_chains zero = []
 varied_chains (suc n) = varied_chains n ++ in_turn (varied_atoms n 10) ∷ []

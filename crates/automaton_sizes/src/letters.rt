@@ -14,7 +14,7 @@ pub fn packet_at(switch: u64, port: u32) -> Packet
         .with(Field::Port, u64::from(port))
 }
 
-/// The packets at the first places, so many, where switches and ports begin with 0 and each switch has so many ports.
+/// The packets at the first places, this many, where switches and ports begin with 0 and each switch has this many ports.
 pub fn at_places(alloc: Global, count: u32, ports: u32) -> Result<Vec<Packet>, AllocError>
     requires { 0 < ports }
     ensures { IfOk result (λ ps. ps.items ≡ at_first_places ports count) }

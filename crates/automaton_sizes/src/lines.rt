@@ -14,7 +14,7 @@ use std::sync::ledger::Blank;
 const SHOWN: u64 = 4;
 
 /// The line of a query: its name, how many states and classes its automaton has, and its report. The letters are the packets
-/// at the first places, so many, where each switch has so many ports.
+/// at the first places, this many, where each switch has this many ports.
 ///
 /// A row of the report is the tag of a class, which is the class's number and 1, with the instances that hold the words of the
 /// class; a class without instances has no row. Of a long report only the first rows are shown, and how many more there are.

@@ -21,7 +21,7 @@ use pq_fields::{Field, Pred};
 use pq_query::Query;
 use std::alloc::{AllocError, Global};
 
-/// So many times `in_atom(true)` and then the last query, joined by `^`.
+/// This many times `in_atom(true)` and then the last query, joined by `^`.
 pub fn chain(alloc: Global, count: u32, last: Query) -> Result<Query, AllocError>
     ensures { IfOk result (λ q. query_tree q ≡ in_turn (times count (entering anything) ++ query_tree last ∷ [])) }
 {
@@ -33,7 +33,7 @@ pub fn chain(alloc: Global, count: u32, last: Query) -> Result<Query, AllocError
     Ok(Query::Cat(operands))
 }
 
-/// So many times `in_atom(true)*`, joined by `^`.
+/// This many times `in_atom(true)*`, joined by `^`.
 pub fn streams(alloc: Global, count: u32) -> Result<Query, AllocError>
     ensures { IfOk result (λ q. query_tree q ≡ in_turn (times count any_packets)) }
 {
@@ -44,7 +44,7 @@ pub fn streams(alloc: Global, count: u32) -> Result<Query, AllocError>
     Ok(Query::Cat(operands))
 }
 
-/// `in_atom(true)` behind so many `~`.
+/// `in_atom(true)` after this many `~`.
 pub fn complements(alloc: Global, count: u32) -> Result<Query, AllocError>
     ensures { IfOk result (λ q. query_tree q ≡ turned count) }
 {
@@ -82,7 +82,7 @@ pub fn grouped_atom(alloc: Global) -> Result<Query, AllocError>
     Ok(Query::In(Pred::True, groups))
 }
 
-/// The union of so many chains of ten atoms.
+/// The union of this many chains of ten atoms.
 pub fn union(alloc: Global, count: u8) -> Result<Query, AllocError>
     ensures { IfOk result (λ q. query_tree q ≡ one_of (varied_chains count)) }
 {

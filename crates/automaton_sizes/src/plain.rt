@@ -100,7 +100,7 @@ fn is_repeated(query: &Query, word: &[Packet]) -> bool
     begins[word.len()]
 }
 
-/// The places where the next piece may begin behind a piece of the query that begins at one of these places.
+/// The places where the next piece may begin after a piece of the query that begins at one of these places.
 #[cycle(plain)]
 fn behind(query: &Query, word: &[Packet], begins: [bool; 5]) -> [bool; 5]
     requires { length word.now ≤ 4 }
@@ -114,7 +114,7 @@ fn behind(query: &Query, word: &[Packet], begins: [bool; 5]) -> [bool; 5]
     next
 }
 
-/// Marks the places where the next piece may begin behind a piece of the query that begins at this place.
+/// Marks the places where the next piece may begin after a piece of the query that begins at this place.
 #[cycle(plain)]
 fn mark_behind(query: &Query, word: &[Packet], begin: usize, marks: &mut [bool; 5])
     requires short { length word.now ≤ 4 }
@@ -127,8 +127,8 @@ fn mark_behind(query: &Query, word: &[Packet], begin: usize, marks: &mut [bool; 
     }
 }
 
-/// Marks the place where the next piece may begin behind a piece between these places of a word so long. Behind a piece
-/// that ends with a packet that comes in, one that goes out stands before the next piece, which isn't empty.
+/// Marks the place where the next piece may begin after a piece between these places of a word so long. After a piece
+/// that ends with a packet that comes in, one that goes out is before the next piece, which isn't empty.
 fn mark(length: usize, begin: usize, end: usize, marks: &mut [bool; 5])
     requires begin { begin ≤ end }
     requires end { end ≤ length }

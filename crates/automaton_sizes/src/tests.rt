@@ -39,7 +39,7 @@ fn sent_without_passing(alloc: Global) -> Result<Query, AllocError> {
     Ok(Query::And(operands))
 }
 
-/// The word of a number from 1 to 31: behind the first of its binary digits, the last one names the first of the packets, and
+/// The word of a number from 1 to 31: after the first of its binary digits, the last one names the first of the packets, and
 /// so on.
 fn word_of(alloc: Global, number: u32, packets: &[Packet; 2]) -> Result<Vec<Packet>, AllocError>
     ensures { IfOk result (λ w. length w.items ≤ 4) }
@@ -159,7 +159,7 @@ fn class_count(alloc: Global, query: Query) -> Result<u64, AllocError> {
     Ok(automaton.classes.count())
 }
 
-/// A document has room for so many `in_atom(true)*`, joined by `^`.
+/// A document has room for this many `in_atom(true)*`, joined by `^`.
 #[test]
 fn the_longest_chain_has_three_classes(rt: HostRuntime) -> Result<(), Fail> {
     let alloc = rt.alloc();

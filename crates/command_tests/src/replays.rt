@@ -168,7 +168,7 @@ pub(crate) fn push_hexadecimal(text: &str, into: &mut Vec<u8>) -> Result<(), All
     Ok(())
 }
 
-/// An install with these messages behind the magic, and the schedule.
+/// An install with these messages after the magic, and the schedule.
 fn input(
     alloc: Global,
     magic: &[u8],

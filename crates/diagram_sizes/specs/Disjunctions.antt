@@ -14,12 +14,12 @@ use Rattle.diagram_sizes.specs.declared.disjunctions.Tested.TheVariants.{Numbers
 abbrev pub prerequisites : List ℕ
 prerequisites = 0x0800 ∷ 0x86dd ∷ 6 ∷ 17 ∷ []
 
--- the numbers of each field that so many tests name, and those in prerequisites
+-- the numbers of each field that this many tests name, and those in prerequisites
 abbrev pub numbers_of : Tested → ℕ → Field → List ℕ
 numbers_of (Numbers tested) count f = if rank f == rank tested then range_with_len 1 count else prerequisites
 numbers_of Networks count f = prerequisites
 
--- a field without prerequisites, and at most half of its numbers less one; or networks that lie within 32 bits
+-- a field without prerequisites, and at most half of its numbers minus one; or networks that lie within 32 bits
 abbrev pub IsTestable : Tested → ℕ → Type 0
 IsTestable (Numbers f) count = (count ≤ 2 ^ width_of f / 2 - 1) × (types_before f ≡ []) × (protocols_before f ≡ [])
 IsTestable Networks count = count ≤ 2 ^ 16

@@ -6,7 +6,7 @@ use Rattle.pq_store.specs.Compaction.{IsCompaction}
 use Rattle.pq_apply.specs.Predicates.{HoldsAt}
 use Rattle.diagram_sizes.specs.declared.sizes.Sizes.{Sizes}
 
--- the sizes of a store that has the predicate's diagram at its root, and of the part that stands under the root
+-- the sizes of a store that has the predicate's diagram at its root, and of the part that is under the root
 pub record AreSizes (p : PredTree) (sizes : Sizes) : Type 0 where
   pub store : List (Tree Bool)
   pub root : ℕ

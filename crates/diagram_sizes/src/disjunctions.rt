@@ -15,7 +15,7 @@ pub enum Tested {
     Networks,
 }
 
-/// The disjunction of so many tests, each a step further than the one before, around the whole.
+/// The disjunction of this many tests, each a step further than the one before, around the whole.
 ///
 /// No test comes twice if step and count have no common factor.
 pub fn disjunction(alloc: Global, tested: Tested, count: u32, step: u32) -> Result<Pred, AllocError>

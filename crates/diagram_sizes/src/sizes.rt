@@ -31,7 +31,7 @@ impl fmt::Display for Sizes {
     }
 }
 
-/// How large the diagram is of the disjunction of so many tests, each a step further than the one before.
+/// How large the diagram is of the disjunction of this many tests, each a step further than the one before.
 pub fn list_sizes(alloc: Global, tested: Tested, count: u32, step: u32) -> Result<Sizes, AllocError>
     requires some { 0 < count }
     requires testable { IsTestable tested count }

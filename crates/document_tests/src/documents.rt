@@ -13,9 +13,9 @@ use std::test::Fail;
 enum Answer {
     /// It is a document.
     Accepted,
-    /// Something in it is no token.
+    /// Something in it is not a token.
     Lex,
-    /// Its tokens are no sentence.
+    /// Its tokens are not sentence.
     Syntax,
     /// A token breaks this rule.
     Name(NameKind),
@@ -575,7 +575,7 @@ fn answered(alloc: Global, text: &[u8]) -> (Answer, usize) {
     }
 }
 
-/// The text without its mark `!`, and the byte at which the mark stands; byte 0 where it has none.
+/// The text without its mark `!`, and the byte at which the mark is; byte 0 where it has none.
 fn unmarked(alloc: Global, marked: &str) -> Result<(Vec<u8>, usize), AllocError> {
     let mut text = Vec::new(alloc);
     let mut place = 0;
@@ -674,7 +674,7 @@ fn a_cut_text_ends_too_early(rt: HostRuntime) {
     }
 }
 
-/// The front, so many times the opening, the middle, as many times the closing, and the end.
+/// The front, this many times the opening, the middle, as many times the closing, and the end.
 fn nested(
     alloc: Global,
     front: &str,
@@ -801,7 +801,7 @@ fn a_hundred_may_be_open(rt: HostRuntime) -> Result<(), Fail> {
     Ok(())
 }
 
-/// So many statements of a sort with this text.
+/// This many statements of a sort with this text.
 fn statements(alloc: Global, sort: &str, count: u32, body: &str) -> Result<String, AllocError> {
     let mut text = String::new(alloc);
     for number in 0..count {
@@ -810,7 +810,7 @@ fn statements(alloc: Global, sort: &str, count: u32, body: &str) -> Result<Strin
     Ok(text)
 }
 
-/// Whether so many statements of a sort are accepted, and one more, which breaks other rules too, is one too many.
+/// Whether this many statements of a sort are accepted, and one more, which breaks other rules too, is one too many.
 fn is_full(alloc: Global, sort: &str, count: u32, body: &str) -> Result<bool, AllocError> {
     let mut text = statements(alloc, sort, count, body)?;
     if !is_answered(alloc, &text, Answer::Accepted, 0) {

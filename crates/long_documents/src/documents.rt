@@ -2,7 +2,7 @@
 use std::alloc::{AllocError, Global};
 use std::fmt::Write;
 
-/// A document in which one operand stands many times.
+/// A document in which one operand is many times.
 #[derive(Clone, Copy)]
 pub struct Repeated {
     pub front: &'static str,
@@ -38,7 +38,7 @@ impl Repeated {
 pub struct Values {
     /// Whether it tests the bits of addresses, too.
     pub addresses: bool,
-    /// Whether the greatest number stands first.
+    /// Whether the greatest number is first.
     pub descending: bool,
 }
 
@@ -70,7 +70,7 @@ impl Values {
         Ok(text)
     }
 
-    /// The number at a place among so many.
+    /// The number at a place among this many.
     fn number(self, place: u32, count: u32) -> u32 {
         if self.descending {
             count.saturating_sub(place)

@@ -11,7 +11,7 @@ use std::env::{self, Args};
 use std::io;
 use std::process::ExitCode;
 
-/// The words after the program's name, or the outcome where they can't be had: words that are no text name no command.
+/// The words after the program's name, or the outcome where they can't be had: words that are not text name no command.
 fn words_of(args: io::Result<Args>, alloc: Global) -> Result<Vec<String>, Outcome>
     ensures ok { IfOk result (λ words. IsOk args × IfOk args (λ a. words.items ≡ drop 1 (into_iter_items a))) }
     ensures err { IfErr result (λ outcome. (outcome ≡ Outcome.Memory) ⊎ ((outcome ≡ Outcome.Words) × IsErr args)) }

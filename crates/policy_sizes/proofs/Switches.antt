@@ -25,7 +25,7 @@ use Rattle.policy_sizes.proofs.Operands.{some_are}
 
 -- The topology.
 
--- there are so many ports
+-- there are this many ports
 ports_count : (n : ℕ) → length (first_ports n) ≡ n
 ports_count zero = refl
 ports_count (suc n) = let before = ports_count n in omega (arith, before, length-append (first_ports n) (suc n ∷ []))
@@ -38,7 +38,7 @@ up_to (suc n) =
     (All-weaker (λ p. (1 ≤ p) × (p ≤ n)) (λ p. (1 ≤ p) × (p ≤ suc n)) (λ p both. let most = both.1 in (both.0, omega (arith, most))) (first_ports n) (up_to n))
     (All-cons (λ p. (1 ≤ p) × (p ≤ suc n)) (suc n) [] (omega arith, omega arith) (All-nil (λ p. (1 ≤ p) × (p ≤ suc n))))
 
--- a number above all that ascend may come behind them
+-- a number above all that ascend may come after them
 one_behind : (ps : List ℕ) (n : ℕ) → Ascends ps → All (λ p. p < n) ps → Ascends (ps ++ n ∷ [])
 one_behind [] n up below = tt
 one_behind (p ∷ []) n up below = (All-head (λ q. q < n) p [] below, tt)

@@ -6,12 +6,12 @@ use Rattle.pq_fields.specs.Pred.PredTop.{Equals}
 use Rattle.pq_model.specs.Topology.{Switch, Topology}
 use Rattle.pq_policy.specs.Policy.{InTurn, Only, PolicyTree, Spread, leaf, policies}
 
--- the ports from 1 on, so many
+-- the ports from 1 on, this many
 abbrev pub first_ports : ℕ → List ℕ
 first_ports zero = []
 first_ports (suc n) = first_ports n ++ suc n ∷ []
 
--- switch 1 with so many ports
+-- switch 1 with this many ports
 abbrev pub switch_of : ℕ → Switch
 switch_of count = record { name = codes "s1"; datapath = 1; ports = first_ports count; limit = 16384 }
 

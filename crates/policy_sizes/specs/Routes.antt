@@ -5,7 +5,7 @@ use Rattle.pq_fields.specs.Pred.{leaf as pred_leaf}
 use Rattle.pq_fields.specs.Pred.PredTop.{Leads}
 use Rattle.pq_policy.specs.Policy.{Either, Forward, InTurn, Only, PolicyTree, leaf, policies}
 
--- the network at a place: 10.0.0.0, and so many times 7,919 networks of length 24, modulo 65,536
+-- the network at a place: 10.0.0.0, and this many times 7,919 networks of length 24, modulo 65,536
 abbrev pub network : ℕ → ℕ
 network place = 0x0a000000 + 256 * (place * 7919 % 65536)
 
@@ -21,7 +21,7 @@ to_port place = leaf (Forward (place % 2 + 1))
 abbrev pub route : ℕ → PolicyTree
 route place = record { top = InTurn; below = policies (to_network place ∷ to_port place ∷ []) }
 
--- the routes at the first places, so many
+-- the routes at the first places, this many
 abbrev pub first_routes : ℕ → List PolicyTree
 first_routes zero = []
 first_routes (suc n) = first_routes n ++ route n ∷ []

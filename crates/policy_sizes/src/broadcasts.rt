@@ -10,7 +10,7 @@ use pq_term::Name;
 use pq_topo::{Switch, Topology};
 use std::alloc::{AllocError, Global};
 
-/// Switch 1 with so many ports, from 1 on.
+/// Switch 1 with this many ports, from 1 on.
 pub fn one_switch(alloc: Global, count: u32) -> Result<Topology, AllocError>
     requires some { 1 ≤ count }
     requires few { count ≤ 4096 }
@@ -37,7 +37,7 @@ fn name(bytes: &[u8]) -> Name
     }
 }
 
-/// The ports from 1 on, so many.
+/// The ports from 1 on, this many.
 fn first_ports(alloc: Global, count: u32) -> Result<Vec<u32>, AllocError>
     requires { count ≤ 4096 }
     ensures { IfOk result (λ ports. ports.items ≡ first_ports count) }

@@ -7,7 +7,7 @@ use pq_fields::{Field, Pred};
 use pq_policy::Policy;
 use std::alloc::{AllocError, Global};
 
-/// The union of so many routes.
+/// The union of this many routes.
 pub fn routes(alloc: Global, count: u32) -> Result<Policy, AllocError>
     ensures { IfOk result (λ policy. policy_tree policy ≡ any_of (first_routes count)) }
 {
@@ -33,7 +33,7 @@ fn to_network(place: u32) -> Policy
     Policy::Filter(Pred::Prefix(Field::Ipv4Dst, network(place), 24))
 }
 
-/// The network at a place: from 10.0.0.0 on, each is 7,919 networks of length 24 behind the one before, modulo 65,536.
+/// The network at a place: from 10.0.0.0 on, each is 7,919 networks of length 24 after the one before, modulo 65,536.
 fn network(place: u32) -> u32
     ensures { result ≡ network place }
 {

@@ -17,7 +17,7 @@ use std::alloc::{AllocError, Global};
 use std::marker::Brand;
 use std::sync::ledger::{Blank, Ledger};
 
-/// How many nodes and leaves a store has with the diagram of so many routes, which was empty before it.
+/// How many nodes and leaves a store has with the diagram of this many routes, which was empty before it.
 pub fn routes_size(alloc: Global, count: u32) -> Result<u64, AllocError>
     requires { 0 < count }
     ensures { IfOk result (IsStoreSize nowhere (any_of (first_routes count))) }
@@ -28,7 +28,7 @@ pub fn routes_size(alloc: Global, count: u32) -> Result<u64, AllocError>
     Ok(size)
 }
 
-/// And with the diagram of broadcast packets that go to all other ports of a switch with so many.
+/// And with the diagram of broadcast packets that go to all other ports of a switch with this many.
 pub fn broadcast_size(alloc: Global, count: u32) -> Result<u64, AllocError>
     requires some { 1 ≤ count }
     requires few { count ≤ 4096 }

@@ -1,4 +1,4 @@
--- The trees of single tests: where they may stand, what they say, and what they test.
+-- The trees of single tests: where they may be, what they say, and what they test.
 use Rattle.std.proofs.Common.{ℕ, zero, suc, ◌+◌, ◌^◌, ◌<◌, ◌≤◌, ◌≡◌, ◌∙◌, Bool, true, false, List, [], ◌∷◌, Some, refl, ap, sym, inl, inr}
 use Rattle.std.proofs.Common.{eq-eqb, ne_eqb, if◌then◌else◌, arith}
 use Rattle.std.specs.Prelude.{◌==◌, ◌&&◌, ◌||◌, slice_get}
@@ -39,7 +39,7 @@ forked old new s i j k y n joins y_is n_is differ = let found = joins y n y_is n
   | inr fork ↦ found.1 ∙ ap Some fork.1
 ]
 
--- behind a bit stand tests of later bits
+-- after a bit are tests of later bits
 pub bits_fork : (b : Bool) (f : Field) (i : ℕ) (t : Tree Bool) → IsOfBits f (suc i) t → IsOfBits f i (bit_fork b f i t)
 bits_fork true f i t behind = record {
   first = λ s before. before;
@@ -65,7 +65,7 @@ pub no_bits : (f : Field) (n i d : ℕ) → d ≡ 0 → bits_tree f n i d ≡ Ti
 unfolding bits_tree
 no_bits f n i d h = ap (bits_tree f n i) h
 
--- bits are a first one and those behind it
+-- bits are a first one and those after it
 pub more_bits : (f : Field) (n i j d e : ℕ) → j ≡ suc i → d ≡ suc e → bits_tree f n i d ≡ bit_fork (bit_at f n i) f i (bits_tree f n j e)
 unfolding bits_tree
 more_bits f n i j d e next h = ap (bits_tree f n i) h ∙ ap (λ k. bit_fork (bit_at f n i) f i (bits_tree f n k e)) (sym next)
@@ -132,7 +132,7 @@ equal_inner f n from many t below inner = record {
   some = λ e. absurd cc;
 }
 
--- it may stand there
+-- it may be there
 pub equal_joins : (f : Field) (v from many : ℕ) (t n : Tree Bool) → IsLawful (Equal f v) → rank f < from → IsInner from many t → many ≤ 4
     → IsBefore (Equal f v) n → ((g : Field) → most g n ≤ 4) → IsJoinable (Equal f v) t n
 equal_joins f v from many t n lawful below inner few before small = record {
@@ -246,7 +246,7 @@ present_value f t x = by f
     by Ipv6Src = one (is_ipv6 x) (value t x)
     by Ipv6Dst = one (is_ipv6 x) (value t x)
 
--- bits are no numbers
+-- bits are not numbers
 pub bits_within : (ns : Field → List ℕ) (f : Field) (n i m : ℕ) → Within ns (bits_tree f n i m)
 unfolding bits_tree
 bits_within ns f n i zero = tip_within ns true

@@ -231,7 +231,7 @@ module _ {L : Type 0} where
         (parts_fit st.condition st.condition_sides.no st.left st.right st.left_sides.no st.right_sides.no
         st.condition_sides.no_side.tested st.left_sides.no_side.tested st.right_sides.no_side.tested st.fit)
 
-  -- what is chosen between the trees at two places is chosen between whichever trees stand there
+  -- what is chosen between the trees at two places is chosen between whichever trees are there
   pub chosen_there : {cs : List (Tree Bool)} {k : ℕ} {ts : List (Tree L)} {i j id : ℕ} {c : Tree Bool} {y n w : Tree L}
       → IsChosenAt cs k ts i j id → slice_get cs k ≡ Some c → slice_get ts i ≡ Some y → slice_get ts j ≡ Some n → slice_get ts id ≡ Some w → IsChosen c y n w
   chosen_there {cs} {k} {ts} {i} {j} {id} {c} {y} {n} {w} made c_is y_is n_is w_is =
@@ -308,7 +308,7 @@ module _ {L : Type 0} where
   module _ {cs : List (Tree Bool)} {k : ℕ} {ts : List (Tree L)} {i j : ℕ} {s : Test} {cy cn ly ln ry rn : ℕ}
       (st : IsChoiceStage cs k ts i j s cy cn ly ln ry rn) {p q : ℕ}
       (passed : IsChosenAt cs cy ts ly ry p) (failed : IsChosenAt cs cn ts ln rn q) where
-    -- what stands at the first place is chosen between the yes sides
+    -- what is at the first place is chosen between the yes sides
     passed_there : (a : Tree L) → slice_get ts p ≡ Some a → IsChosen st.condition_sides.yes st.left_sides.yes st.right_sides.yes a
     passed_there a a_is = chosen_there passed st.condition_sides.yes_is st.left_sides.yes_is st.right_sides.yes_is a_is
 

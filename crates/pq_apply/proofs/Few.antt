@@ -12,12 +12,12 @@ use Rattle.pq_store.specs.Diagram.{AllLawful, Ascends, Fits, most}
 use Rattle.pq_store.proofs.Order.{rank_injective, kinds_differ, before_tested}
 use Rattle.pq_store.specs.Room.{AreFew, IsAmong, Within}
 
--- the number stands in the list
+-- the number is in the list
 abbrev Has : ℕ → List ℕ → Type 0
 Has v [] = ⊥
 Has v (x ∷ xs) = (v ≡ x) ⊎ Has v xs
 
--- a number among these stands in the list
+-- a number among these is in the list
 has : (v : ℕ) (xs : List ℕ) → IsAmong v xs → Has v xs
 has v [] (k, x, within, at, is) = absurd (omega arith)
 has v (x ∷ xs) (zero, w, within, at, is) = inl (is ∙ sym at)
@@ -45,7 +45,7 @@ other_number f g v w same (inl less) is = omega arith
 other_number f g v w same (inr less) is = omega arith
 
 module _ {L : Type 0} where
-  -- the numbers of the field that the tree tests stand in the list
+  -- the numbers of the field that the tree tests are in the list
   abbrev TestsOnly : Field → List ℕ → Tree L → Type 0
   TestsOnly f xs t = (v : ℕ) → IsTested (Equal f v) t → Has v xs
 

@@ -27,7 +27,7 @@ inner_lower ts from lower many more i below few inner = (inner.0, λ t is. from_
 pub made_within : (made : Tree Bool → Tree Bool) (old new : List (Tree Bool)) (i k : ℕ) → i < length old → MakesAt made old i new k → k < length new
 made_within made old new i k within makes = let t = at_place old i within in slice_get_within new k (made t.0) (makes t.0 t.1)
 
--- a test may stand before a diagram of later fields and a leaf
+-- a test may be before a diagram of later fields and a leaf
 pub gate_joins : (ts : List (Tree Bool)) (f : Field) (v from many i j : ℕ) → IsLawful (Equal f v) → rank f < from → many ≤ 4
     → IsInnerAt ts from many i → slice_get ts j ≡ Some (Tip false)
     → (y n : Tree Bool) → slice_get ts i ≡ Some y → slice_get ts j ≡ Some n → IsJoinable (Equal f v) y n
@@ -42,7 +42,7 @@ pub gate_makes : (old ts new : List (Tree Bool)) (f : Field) (v from many i j k 
 gate_makes old ts new f v from many i j k keeps inner no_is joins t is =
     forked ts new (Equal f v) i j k t (Tip false) joins (keeps i t is) no_is (inner.1 t is).some
 
--- and what stands there is a diagram of this field and later ones
+-- and what is there is a diagram of this field and later ones
 pub gate_inner : (old new : List (Tree Bool)) (f : Field) (v from many i k : ℕ) → rank f < from → IsInnerAt old from many i
     → MakesAt (λ t. Fork (Equal f v) t (Tip false)) old i new k → IsInnerAt new (rank f) (suc many) k
 gate_inner old new f v from many i k below inner makes =
@@ -54,7 +54,7 @@ gate_inner old new f v from many i k below inner makes =
           subst (IsInner (rank f) (suc many)) e (equal_inner f v from many t.0 below (inner.1 t.0 t.1)),
     )
 
--- the test of one EtherType may stand before that of the other
+-- the test of one EtherType may be before that of the other
 pub types_join : (old ts : List (Tree Bool)) (i j : ℕ) → Keeps old ts → IsInnerAt old 3 2 i → MakesAt (type_tree 0x86dd) old i ts j
     → (y n : Tree Bool) → slice_get ts i ≡ Some y → slice_get ts j ≡ Some n → IsJoinable (Equal EthType 0x0800) y n
 types_join old ts i j keeps inner makes y n y_at n_at =

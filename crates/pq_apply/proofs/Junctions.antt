@@ -155,7 +155,7 @@ halves_joined every m us t u w front back both = record {
 pub front_fits : (m : ℕ) (us : List (Tree Bool)) → FitTogetherAll us → FitTogetherAll (take m us)
 front_fits m us = room_for (λ ns within. All-take (Within ns) m us within)
 
--- and those behind them
+-- and those after them
 pub back_fits : (m : ℕ) (us : List (Tree Bool)) → FitTogetherAll us → FitTogetherAll (drop m us)
 back_fits m us = room_for (λ ns within. All-drop (Within ns) m us within)
 
@@ -171,7 +171,7 @@ halves_fit every m us t u fit front back =
 front_at : (ts : List (Tree Bool)) (ids part : List ℕ) (m : ℕ) → part ≡ take m ids → take m (trees_at ts ids) ≡ trees_at ts part
 front_at ts ids part m is = take-map (λ id. get_or ts id (Tip false)) m ids ∙ ap (trees_at ts) (sym is)
 
--- and at those behind them
+-- and at those after them
 back_at : (ts : List (Tree Bool)) (ids part : List ℕ) (m : ℕ) → part ≡ drop m ids → drop m (trees_at ts ids) ≡ trees_at ts part
 back_at ts ids part m is = drop-map (λ id. get_or ts id (Tip false)) m ids ∙ ap (trees_at ts) (sym is)
 
@@ -206,7 +206,7 @@ pub record HaveHalves (every : Bool) (m : ℕ) (us ts : List (Tree Bool)) (x y :
   pub front : IsJunction every (take m us) x_tree
   pub back : IsJunction every (drop m us) y_tree
 
--- stand where they were made one after the other
+-- are where they were made one after the other
 pub have_halves : (every : Bool) (old between new : List (Tree Bool)) (ids front back : List ℕ) (m x y : ℕ) → front ≡ take m ids
     → back ≡ drop m ids → All (λ id. id < length old) ids
     → Keeps old between → Keeps between new → JunctionAt every (trees_at old front) between x

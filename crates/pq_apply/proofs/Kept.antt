@@ -23,7 +23,7 @@ module _ {L : Type 0} where
       let there : slice_get new k ≡ Some u.0 = keeps k u.0 u.1 in
       u.1 ∙ (sym there ∙ is)
 
-  -- the sides at two places may be joined where these trees stand there and may be
+  -- the sides at two places may be joined where these trees are there and may be
   pub sides_join : (ts : List (Tree L)) (s : Test) (i j : ℕ) (y n : Tree L) → slice_get ts i ≡ Some y → slice_get ts j ≡ Some n → IsJoinable s y n
       → (a b : Tree L) → slice_get ts i ≡ Some a → slice_get ts j ≡ Some b → IsJoinable s a b
   sides_join ts s i j y n y_is n_is joinable a b a_is b_is =

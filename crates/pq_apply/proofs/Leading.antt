@@ -47,7 +47,7 @@ parities a b same = elim (eqb_tells (a % 2) 1) [
   ]
 ]
 
--- numbers with equal leading bits and an equal bit behind have one more in common
+-- numbers with equal leading bits and an equal bit after have one more in common
 pub bit_joins : (f : Field) (m n k : ℕ) → k < width_of f → leading f k m ≡ leading f k n → bit_at f m k ≡ bit_at f n k
     → leading f (suc k) m ≡ leading f (suc k) n
 bit_joins f m n k h same bit =

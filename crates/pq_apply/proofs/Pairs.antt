@@ -115,7 +115,7 @@ abbrev pub IsTestedIn : {A B : Type 0} → Tree A → Tree B → Test → Type 0
 IsTestedIn t u s = IsTested s t ⊎ IsTested s u
 
 module _ {A B C : Type 0} (R : A → B → C → Type 0) where
-  -- what is made of the trees at two places is made of whichever trees stand there
+  -- what is made of the trees at two places is made of whichever trees are there
   pub paired_there : {ls : List (Tree A)} {x : ℕ} {rs : List (Tree B)} {y : ℕ} {us : List (Tree C)} {k : ℕ} {t : Tree A} {u : Tree B} {w : Tree C}
       → IsPairedAt R ls x rs y us k → slice_get ls x ≡ Some t → slice_get rs y ≡ Some u → slice_get us k ≡ Some w → IsPaired R t u w
   paired_there {ls} {x} {rs} {y} {us} {k} {t} {u} {w} made t_is u_is w_is =

@@ -91,7 +91,7 @@ module _ {L : Type 0} where
         no_side = split_no s t p.0 p.1 d p.4;
       }
 
-  -- the yes side stands in the store
+  -- the yes side is in the store
   pub yes_within : {ts : List (Tree L)} {s : Test} {t : Tree L} {i j : ℕ} → SidesAt ts s t i j → i < length ts
   yes_within {ts} {s} {t} {i} sides = slice_get_within ts i sides.yes sides.yes_is
 

@@ -38,11 +38,11 @@ one_of ps i p within is =
     ∙ (ap (λ q. put (pred_tree q).top (pred_tree q).below (pred_trees (drop (suc i) ps))) (sym is)
     ∙ ap (λ k. put (pred_tree p).top (pred_tree p).below (pred_trees (drop k ps))) (sym (add-one i)))
 
--- behind the last there are none
+-- after the last there are none
 pub none_of : (ps : List Pred) (i : ℕ) → length ps ≤ i → pred_trees (drop i ps) ≡ none
 none_of ps i h = ap pred_trees (drop_all i ps h)
 
--- the diagrams of operands stand within the store
+-- the diagrams of operands are within the store
 pub hold_within : (ps : Preds) (ts : List (Tree Bool)) (ids : List ℕ) → HoldAt ps ts ids → All (λ id. id < length ts) ids
 hold_within none ts [] h = All-nil (λ id. id < length ts)
 hold_within none ts (id ∷ ids) h = absurd h

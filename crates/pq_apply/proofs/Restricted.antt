@@ -22,13 +22,13 @@ use Rattle.pq_apply.specs.Memo.{Remembers}
 use Rattle.pq_apply.proofs.Remembered.{remembers_still, remembers_more}
 use Rattle.pq_apply.proofs.SetNumbers.{passes_set, passes_kept, later_same}
 
--- a test of the field doesn't stand behind one of a later field
+-- a test of the field isn't after one of a later field
 not_before : (f : Field) (r s : Test) → rank f < rank (field_of r) → Precedes r s → field_of s ≡ f → ⊥
 not_before f r s later (inl less) is = let d : rank (field_of s) ≡ rank f = ap rank is in omega arith
 not_before f r s later (inr less) is = let d : rank (field_of s) ≡ rank f = ap rank is in omega arith
 
 module _ {L : Type 0} where
-  -- what stands before a diagram stands before a tree of its tests
+  -- what is before a diagram is before a tree of its tests
   still_before : (s : Test) (t u : Tree L) → ((r : Test) → IsTested r u → IsTested r t) → IsBefore s t → Ascends t → IsBefore s u
   still_before s t (Tip l) tests before ascends = tt
   still_before s t (Fork r y n) tests before ascends = before_tested s r t before ascends (tests r (inl refl))

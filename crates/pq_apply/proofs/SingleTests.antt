@@ -18,11 +18,11 @@ use Rattle.pq_apply.specs.Atoms.{bits_tree, number_tree, present_tree, IsInner, 
 use Rattle.pq_apply.specs.Predicates.{IsPredTree}
 use Rattle.pq_apply.proofs.AtomTrees.{counts_one, leads_value, number_value, present_value, bits_within, number_within, present_within}
 
--- a tree of tests of later fields stands at its place
+-- a tree of tests of later fields is at its place
 pub inner_at : (ts : List (Tree Bool)) (from many i : ℕ) (t : Tree Bool) → slice_get ts i ≡ Some t → IsInner from many t → IsInnerAt ts from many i
 inner_at ts from many i t is inner = (slice_get_within ts i t is, λ u u_is. let e : t ≡ u = cc in subst (IsInner from many) e inner)
 
--- a field that is none of the four addresses is no address
+-- a field that is none of the four addresses is not an address
 pub not_address : (f : Field) → (f ≡ Ipv4Src → ⊥) → (f ≡ Ipv4Dst → ⊥) → (f ≡ Ipv6Src → ⊥) → (f ≡ Ipv6Dst → ⊥) → is_address f ≡ false
 not_address Switch src4 dst4 src6 dst6 = refl
 not_address Port src4 dst4 src6 dst6 = refl
@@ -39,12 +39,12 @@ not_address UdpDst src4 dst4 src6 dst6 = refl
 not_address Ipv6Src src4 dst4 src6 dst6 = absurd (src6 refl)
 not_address Ipv6Dst src4 dst4 src6 dst6 = absurd (dst6 refl)
 
--- the number of a field that is no address is tested whole
+-- the number of a field that is not an address is tested whole
 pub whole_number : (f : Field) (n : ℕ) → is_address f ≡ false → number_tree f n ≡ Fork (Equal f n) (Tip true) (Tip false)
 unfolding number_tree
 whole_number f n h = ap (λ b. if b then bits_tree f n 0 (width_of f) else Fork (Equal f n) (Tip true) (Tip false)) h
 
--- its test may stand before two leaves
+-- its test may be before two leaves
 pub whole_joins : (f : Field) (n : ℕ) → is_address f ≡ false → n < 2 ^ width_of f → IsJoinable (Equal f n) (Tip true) (Tip false)
 whole_joins f n whole fits = record {
   lawful = (whole, fits);

@@ -24,11 +24,11 @@ not_itself s (inl less) = omega arith
 not_itself s (inr less) = omega arith
 
 module _ {L : Type 0} where
-  -- the test stands at the root
+  -- the test is at the root
   abbrev pub IsRoot : Test → Tree L → Type 0
   IsRoot s t = root_of t ≡ Some s
 
-  -- what stands behind the numbers at the front of a tree tests only what the tree tests
+  -- what is after the numbers at the front of a tree tests only what the tree tests
   rest_tested : (f : Field) (r : Test) (t : Tree L) → IsTested r (rest f t) → IsTested r t
   rest_tested f r (Tip l) tested = tested
   rest_tested f r (Fork (Equal g w) y n) tested = elim (eqb_tells (rank f) (rank g)) [

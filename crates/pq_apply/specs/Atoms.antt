@@ -20,7 +20,7 @@ abbrev pub bit_fork : Bool → Field → ℕ → Tree Bool → Tree Bool
 bit_fork true f place t = Fork (Bit f place) t (Tip false)
 bit_fork false f place t = Fork (Bit f place) (Tip false) t
 
--- so many bits from a place on are those of the number
+-- this many bits from a place on are those of the number
 unfoldable pub bits_tree : Field → ℕ → ℕ → ℕ → Tree Bool
 bits_tree f n place zero = Tip true
 bits_tree f n place (suc more) = bit_fork (bit_at f n place) f place (bits_tree f n (suc place) more)
@@ -65,7 +65,7 @@ pub record IsOfBits (f : Field) (place : ℕ) (t : Tree Bool) : Type 0 where
   pub none : (g : Field) → most g t ≡ 0
   pub some : t ≡ Tip false → ⊥
 
--- tests of fields from a rank on, at most so many of a field's numbers on a path
+-- tests of fields from a rank on, at most this many of a field's numbers on a path
 pub record IsInner (from many : ℕ) (t : Tree Bool) : Type 0 where
   pub first : (s : Test) → rank (field_of s) < from → IsBefore s t
   pub skips : (g : Field) → rank g < from → Skips g t

@@ -15,7 +15,7 @@ module _ {L : Type 0} where
     pub diagram : IsDiagram chosen
     pub choice : IsChoice c y n chosen
 
-  -- it stands at a place, and the three trees at places of theirs
+  -- it is at a place, and the three trees at places of theirs
   pub record IsChosenAt (cs : List (Tree Bool)) (k : ℕ) (ts : List (Tree L)) (i j id : ℕ) : Type 0 where
     pub condition : Tree Bool
     pub left : Tree L

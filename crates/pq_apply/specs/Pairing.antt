@@ -34,7 +34,7 @@ module _ {A B C : Type 0} (R : A → B → C → Type 0) where
     pub gives : (p : Numbers) → R (value t p) (value u p) (value paired p)
     pub tests : (s : Test) → IsTested s paired → IsTested s t ⊎ IsTested s u
 
-  -- it stands at a place, and the two trees at places of theirs
+  -- it is at a place, and the two trees at places of theirs
   pub record IsPairedAt (ls : List (Tree A)) (x : ℕ) (rs : List (Tree B)) (y : ℕ) (us : List (Tree C)) (k : ℕ) : Type 0 where
     pub left : Tree A
     pub right : Tree B

@@ -29,7 +29,7 @@ pub(crate) fn equal_number(
     Ok(id)
 }
 
-/// The diagram of the packets that have the address, with the leading bits, so many, of this one.
+/// The diagram of the packets that have the address, with the leading bits, this many, of this one.
 pub(crate) fn equal_prefix(
     store: &mut Store<bool>,
     field: Field,

@@ -10,7 +10,7 @@ use pq_fields::{Field, width};
 use pq_store::{NodeId, Store, Test};
 use std::alloc::AllocError;
 
-/// The diagram of the packets whose leading bits in the address, so many, are those of the number.
+/// The diagram of the packets whose leading bits in the address, this many, are those of the number.
 pub(crate) fn leading_bits(
     store: &mut Store<bool>,
     field: Field,

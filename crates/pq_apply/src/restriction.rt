@@ -16,7 +16,7 @@ use std::alloc::AllocError;
 
 /// The diagram that gives on each packet what the old one gives on the packet with this number in the field.
 ///
-/// The number fits the field, which is no IPv6 address. The result tests only what the old diagram tests,
+/// The number fits the field, which is not an IPv6 address. The result tests only what the old diagram tests,
 /// and the field no more.
 pub fn restrict<L: Leaf>(
     store: &mut Store<L>,

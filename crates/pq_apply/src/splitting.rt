@@ -1,4 +1,4 @@
-//! Nodes split by a test that stands at their root or before it.
+//! Nodes split by a test that is at their root or before it.
 ghost use Rattle.std.specs.Prelude.{◌≡◌, ◌<◌, length, Some};
 ghost use Rattle.pq_store.specs.Store.{AreDiagrams};
 ghost use Rattle.pq_store.specs.Test.{IsLawful};
@@ -6,7 +6,7 @@ ghost use Rattle.pq_apply.specs.Split.{HasRootAt, IsEarlier, IsLawfulRoot, Leads
 
 use pq_store::{Leaf, NodeId, Store, Test, View};
 
-/// The test at a node, if it is no leaf.
+/// The test at a node, if it is not a leaf.
 pub(crate) fn root<L: Leaf>(store: &Store<L>, node: NodeId) -> Option<Test>
     requires { node < length store.now }
     ensures root { HasRootAt store.now node result }

@@ -119,7 +119,7 @@ letter_rest alphabet letter v signature k next r h is same rest stepped =
     let told : get_or (map (λ v. v.items) alphabet) letter [] ≡ v.items = get_or-map (λ v. v.items) alphabet letter v [] h ∙ ap (λ u. u.items) (sym is) in
     stepped ∙ ap₂ behind rest (same ∙ sym told)
 
--- what stands first in equal options
+-- what is first in equal options
 same_some : {X : Type 0} (o : X) (x y : X) → Some x ≡ Some y → x ≡ y
 same_some o x y h = cc
 

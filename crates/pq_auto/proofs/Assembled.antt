@@ -11,7 +11,7 @@ use Rattle.pq_auto.specs.Searched.{IsSearched}
 use Rattle.pq_auto.proofs.Searched.{key_at, key_reached, some_state, rows_long, rows_within}
 use Rattle.pq_auto.proofs.Products.{parity_of}
 
--- what stands in a changed list
+-- what is in a changed list
 pub changed_at : {A B : Type 0} (f : A → B) (xs : List A) (i : ℕ) (x : A) (d : B) → slice_get xs i ≡ Some x → get_or (map f xs) i d ≡ f x
 changed_at f [] i x d at = absurd cc
 changed_at f (y ∷ xs) zero x d at = let same : y ≡ x = cc in ap f same

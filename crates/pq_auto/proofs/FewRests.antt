@@ -100,7 +100,7 @@ placed b (k ∷ ks) i (suc n) r at is =
     by true one = inr one
     by false one = one
 
--- the parity behind a word
+-- the parity after a word
 pub even_behind : (alphabet : List (List Bool)) (w : List ℕ) (r : Rest)
     → (run (after alphabet) r w).even ≡ (if r.even then has_even_length w else not (has_even_length w))
 even_behind alphabet [] r = by r.even
@@ -115,13 +115,13 @@ even_behind alphabet (l ∷ w) r = even_behind alphabet w (after alphabet r l) �
     by false true = refl
     by false false = refl
 
--- there are at most so many states of one parity as the expression has rests
+-- there are at most this many states of one parity as the expression has rests
 few_at : (e : ExprTree) (keys : List (StateValue × Bool)) → AreAlike keys → AreRestsOf e keys → IsDistinct met_eq keys → IsLawful e
     → (b : Bool) → length (rests_at b keys) ≤ most e
 few_at e keys alike are distinct lawful b = count_distinct e lawful (rests_at b keys) (distinct_at b keys alike distinct)
     (all_at (IsRest e) b keys (λ j m at same. subst (λ x. IsRest x m.0.rest) (are j m at).0 (are j m at).1))
 
--- words of each parity lead to at most so many states
+-- words of each parity lead to at most this many states
 pub few_states : (alphabet : List (List Bool)) (e : ExprTree) (keys : List (StateValue × Bool)) (t : Machine)
     → IsSearched (after alphabet) (whole e) (length alphabet) (rests keys) t.rows → length (rests keys) ≤ length t.rows
     → AreAlike keys → AreRestsOf e keys → IsDistinct met_eq keys → IsLawful e → HasFew (length alphabet) t (most e)

@@ -1,4 +1,4 @@
--- Automata that stand side by side have few states, where each of them has.
+-- Automata that are side by side have few states, where each of them has.
 use Rattle.std.proofs.Common.{◌≡◌, ℕ, suc, ◌*◌, ◌≤◌, Bool, true, false, not, if◌then◌else◌, nat_eq, inl, List, [], ◌∷◌, ◌++◌, length, map}
 use Rattle.std.proofs.Common.{Some, Vec, Global, refl, sym, ap, subst, ◌∙◌, arith}
 use Rattle.std.specs.List.{slice_get, flat_map, AllByRecursion, IsDistinct}
@@ -66,7 +66,7 @@ led_more t ts w ns cs (x ∷ xs) are here rest =
     let long : length xs ≡ length ts = omega (arith, are.0) in
     one_chosen ns cs x xs (subst (IsOneOf ns) (sym first) here) (rest xs (long, λ j u at. are.1 (suc j) u at))
 
--- words of one parity lead all automata to at most so many states
+-- words of one parity lead all automata to at most this many states
 abbrev IsFew : ℕ → List Machine → ℕ → Bool → Type 0
 IsFew letters ts m b = (cs : List (List ℕ)) × (length cs ≤ m) × ((w : List ℕ) → AllBelow letters w → has_even_length w ≡ b → (xs : List ℕ)
     → AreLed ts w xs → IsOneOf cs xs)
@@ -115,7 +115,7 @@ module _ (letters : ℕ) (tables : List Machine) (m : ℕ) (evens : IsFew letter
       let both = length-append (map (λ (c : List ℕ). 0 ∷ c) evens.0) (map (λ (c : List ℕ). 1 ∷ c) odds.0) in
       omega (arith, both, length-map evens.0 (λ (c : List ℕ). 0 ∷ c), length-map odds.0 (λ (c : List ℕ). 1 ∷ c), evens.1, odds.1)
 
-  -- keys that a search finds, of which no two are equal, are at most so many
+  -- keys that a search finds, of which no two are equal, are at most this many
   few_keys : (keys rows : List (List ℕ)) → IsSearched (steps tables) (begin tables) letters keys rows → IsDistinct (pointwise nat_eq) keys → length keys ≤ 2 * m
   few_keys keys rows searched distinct =
       let goes = run (steps tables) (begin tables) in
@@ -124,7 +124,7 @@ module _ (letters : ℕ) (tables : List Machine) (m : ℕ) (evens : IsFew letter
       (bit_after tables w (begin tables) true refl) (λ j t here. led tables j t here w)) in
       omega (arith, count_keys, count_within all_keys keys distinct (subst (AllByRecursion (IsOneOf all_keys)) searched.have.lead each))
 
--- so the automaton of all of them has at most so many states
+-- so the automaton of all of them has at most this many states
 pub few_rows : (tables : List Machine) (a : Machine) (keys : List (Vec ℕ Global))
     → IsSearched (steps tables) (begin tables) a.letters (lists keys) a.rows → length (lists keys) ≤ length a.rows
     → IsDistinct same_list keys → (ms : List ℕ) → HaveFew a.letters tables ms → length a.rows ≤ 2 * product ms

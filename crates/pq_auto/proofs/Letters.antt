@@ -1,4 +1,4 @@
--- Numbering the keys behind a key letter by letter.
+-- Numbering the keys after a key letter by letter.
 use Rattle.std.proofs.Common.{◌≡◌, ℕ, suc, ◌+◌, ◌-◌, ◌<◌, ◌≤◌, List, [], ◌∷◌, ◌++◌, refl, sym, ap, subst, ◌∙◌, arith, append-nil, append_assoc}
 use Rattle.pq_auto.specs.Search.{IsNumber, AreNumbers, targets}
 

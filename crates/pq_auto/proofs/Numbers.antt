@@ -6,12 +6,12 @@ use Rattle.std.proofs.lemmas.List.{get_or_append_left, get_or_push, length-appen
 use Rattle.std.proofs.lemmas.Option.{slice_get_within}
 use Rattle.pq_auto.specs.Parts.{Parts, GivesNumber, IsParted, class_of, first_of}
 
--- a number that stood in a list stays
+-- a number that was in a list stays
 module _ (xs : List ℕ) (x : ℕ) where
   old_at : (i : ℕ) → i < length xs → get_or (xs ++ x ∷ []) i 0 ≡ get_or xs i 0
   old_at i h = get_or_append_left xs (x ∷ []) 0 i h
 
-  -- the new one stands last
+  -- the new one is last
   new_at : (i : ℕ) → i ≡ length xs → get_or (xs ++ x ∷ []) i 0 ≡ x
   new_at i is = get_or_push xs x 0 i (sym is)
 
@@ -25,13 +25,13 @@ seen_kept [] x i k h = absurd cc
 seen_kept (y ∷ xs) x zero k h = h
 seen_kept (y ∷ xs) x (suc i) k h = seen_kept xs x i k h
 
--- the new key stands last
+-- the new key is last
 seen_last : (xs : List (List ℕ)) (x : List ℕ) → slice_get (xs ++ x ∷ []) (length xs) ≡ Some x
 seen_last [] x = refl
 seen_last (y ∷ xs) x = seen_last xs x
 
 module _ (key : ℕ → List ℕ) (p : Parts) (parted : IsParted key p) where
-  -- the class of a place stands among the classes
+  -- the class of a place is among the classes
   pub class_within : (i : ℕ) → i < length p.classes → class_of p i < length p.firsts
   class_within i h =
       let within : class_of p i < length p.seen = slice_get_within p.seen (class_of p i) (key i) (parted.keyed i h) in

@@ -21,7 +21,7 @@ abbrev pub next : Machine → ℕ → ℕ → ℕ
 next m s l = get_or (row_of m s) l 0
 
 module _ (m : Machine) (machine : IsMachine m) where
-  -- a letter stands in each row
+  -- a letter is in each row
   pub letter_in : (s l : ℕ) → s < length m.rows → l < m.letters → l < length (row_of m s)
   letter_in s l h hl = let long = machine.long s h in omega (arith, long)
 

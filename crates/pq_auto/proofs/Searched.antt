@@ -17,7 +17,7 @@ pub each_below : (n : ℕ) (row : List ℕ) → ((l : ℕ) → l < length row �
 each_below n [] each = tt
 each_below n (x ∷ row) each = (each 0 (omega arith), each_below n row (λ l h. each (suc l) (omega (arith, h))))
 
--- what stands first in equal options
+-- what is first in equal options
 same_some : {X : Type 0} (o : X) (x y : X) → Some x ≡ Some y → x ≡ y
 same_some o x y h = cc
 

@@ -63,7 +63,7 @@ module _ {K : Type 0} (goes : K → ℕ → K) (begin : K) (letters : ℕ) where
         entry = record { key = ap (λ ks. slice_get ks n) same ∙ at; word = word.0; at = word.1; most = inr (before n word.0 word.1) };
       }
 
-  -- words with one more, before which all stand
+  -- words with one more, before which all are
   more_words : (keys : List K) (words : List (List ℕ)) (k : K) (u : List ℕ) (l : ℕ) → HaveWords goes begin letters keys words
       → AllBelow letters u → l < letters → run goes begin u ≡ k → AreBefore words (u ++ l ∷ [])
       → HaveWords goes begin letters (keys ++ goes k l ∷ []) (words ++ (u ++ l ∷ []) ∷ [])
@@ -123,7 +123,7 @@ module _ {K : Type 0} (goes : K → ℕ → K) (begin : K) (letters : ℕ) where
     most = e.most;
   }
 
-  -- what numbering the keys behind one key does
+  -- what numbering the keys after one key does
   pub record AllNumbered (keys new : List K) (words : List (List ℕ)) (k : K) (u : List ℕ) (l count : ℕ) (row : List ℕ) : Type 0 where
     pub more : List (List ℕ)
     pub have : HaveWords goes begin letters new more

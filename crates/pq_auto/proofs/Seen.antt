@@ -32,7 +32,7 @@ module _ (key : Vec ℕ Global) (old : List (Vec ℕ Global)) where
   found : (c : ℕ) (k : Vec ℕ Global) → slice_get old c ≡ Some k → same_key key k ≡ true → slice_get (map numbers old) c ≡ Some key.items
   found c k at same = slice_get-map numbers old c ∙ ap (option_map numbers) at ∙ ap Some (sym (exact key.items k.items same))
 
-  -- a key whose numbers stand among those seen is found
+  -- a key whose numbers are among those seen is found
   finds : (c : ℕ) → slice_get (map numbers old) c ≡ Some key.items → list_any (same_key key) old ≡ true
   finds c at = by (slice_get old c) refl
     where

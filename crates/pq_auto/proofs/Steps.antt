@@ -32,7 +32,7 @@ more_counted old now next rows more row letters counted stepped grown =
     let each : length more * letters ≡ length rows * letters + letters = ap (λ n. n * letters) long ∙ suc-mul (length rows) letters in
     omega (arith, counted, stepped, each)
 
--- a lawful expression alone takes at most so many steps
+-- a lawful expression alone takes at most this many steps
 pub steps_within : (e : ExprTree) (keys : List (StateValue × Bool)) (old new rows letters : ℕ) → new ≡ old + rows * letters
     → rows ≤ length keys → AreAlike keys → AreRestsOf e keys → IsDistinct met_eq keys → IsLawful e → new ≤ old + letters * (2 * most e)
 steps_within e keys old new rows letters counted all alike are distinct lawful =

@@ -25,7 +25,7 @@ other : (b : Bool) → side_of (not b) ≡ other_side (side_of b)
 other true = refl
 other false = refl
 
--- what is held behind a word
+-- what is held after a word
 pub behind_word : (alphabet : List (List Bool)) (w : List ℕ) (r : Rest)
     → (run (after alphabet) r w).holds [] ≡ r.holds (half_steps_from (side_of r.even) alphabet w)
 behind_word alphabet [] r = refl

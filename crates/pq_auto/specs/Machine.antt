@@ -9,7 +9,7 @@ pub record Machine : Type 0 where
   pub even : List Bool
   pub accepted : List (List ℕ)
 
--- all numbers are below the bound: a word over so many letters
+-- all numbers are below the bound: a word over this many letters
 abbrev pub AllBelow : ℕ → List ℕ → Type 0
 AllBelow n [] = Unit {0}
 AllBelow n (l ∷ w) = (l < n) × AllBelow n w

@@ -29,7 +29,7 @@ alone holds = if holds then 0 ∷ [] else []
 abbrev pub held : Rest → List ℕ
 held r = alone (accepts_nothing_more r)
 
--- the next half step is In behind words of even length
+-- the next half step is In after words of even length
 abbrev pub side_of : Bool → Side
 side_of even = if even then In else Out
 

@@ -11,7 +11,7 @@ abbrev pub AreNumbers : {K : Type 0} → List K → List K → List ℕ → List
 AreNumbers {K} old [] row new = (row ≡ []) × (new ≡ old)
 AreNumbers {K} old (t ∷ ts) row new = (n : ℕ) × (rest : List ℕ) × (mid : List K) × (row ≡ n ∷ rest) × IsNumber old t n mid × AreNumbers mid ts rest new
 
--- the keys that so many letters lead to, from this letter on
+-- the keys that this many letters lead to, from this letter on
 abbrev pub targets : {K : Type 0} → (K → ℕ → K) → K → ℕ → ℕ → List K
 targets {K} goes k l zero = []
 targets {K} goes k l (suc n) = goes k l ∷ targets goes k (suc l) n

@@ -6,11 +6,11 @@ use Rattle.pq_deriv.specs.Most.{most}
 use Rattle.pq_auto.specs.Exploration.{IsExploration}
 use Rattle.pq_auto.specs.Machine.{Machine, AllBelow, follow, has_even_length}
 
--- words of each parity lead to at most so many states
+-- words of each parity lead to at most this many states
 abbrev pub HasFew : ℕ → Machine → ℕ → Type 0
 HasFew letters t m = (b : Bool) → (ns : List ℕ) × (length ns ≤ m) × ((w : List ℕ) → AllBelow letters w → has_even_length w ≡ b → IsOneOf ns (follow t.rows 0 w))
 
--- words of each parity lead each automaton to at most so many states
+-- words of each parity lead each automaton to at most this many states
 abbrev pub HaveFew : ℕ → List Machine → List ℕ → Type 0
 HaveFew letters [] [] = Unit {0}
 HaveFew letters [] (m ∷ ms) = ⊥

@@ -103,7 +103,7 @@ fn first_states(alloc: Global, parts: &Partition) -> Result<Vec<u64>, AllocError
     Ok(leaders)
 }
 
-/// Leaders of the states after so many rounds that no state leaves its class, or after one for each state.
+/// Leaders of the states after this many rounds that no state leaves its class, or after one for each state.
 fn leaders(alloc: Global, table: &Table) -> Result<Vec<u64>, AllocError>
     ensures { IfOk result (λ leaders. AreLed table.now leaders.items) }
 {

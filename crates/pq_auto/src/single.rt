@@ -20,7 +20,7 @@ use pq_io::Steps;
 use std::alloc::{AllocError, Global};
 use std::sync::ledger::Ledger;
 
-/// The side of the half step behind words of even length, or of odd length.
+/// The side of the half step after words of even length, or of odd length.
 fn side_of(even: bool) -> Side
     ensures { result ≡ side_of even }
 {

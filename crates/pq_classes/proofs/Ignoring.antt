@@ -33,7 +33,7 @@ has_by UdpDst x y t p = rw (t, p) refl
 has_by Ipv6Src x y t p = rw t refl
 has_by Ipv6Dst x y t p = rw t refl
 
--- what is no IP packet has the same fields whatever its IP protocol
+-- what is not an IP packet has the same fields whatever its IP protocol
 has_without_ip : (g : Field) (n : ℕ) (x : Numbers) → is_ip x ≡ false → has_field g (record x { ip_proto = n }) ≡ has_field g x
 has_without_ip Switch n x lacks = refl
 has_without_ip Port n x lacks = refl

@@ -37,7 +37,7 @@ push_kept [] y k x at = absurd cc
 push_kept (z ∷ xs) y zero x at = at
 push_kept (z ∷ xs) y (suc k) x at = push_kept xs y k x at
 
--- what stands at a place
+-- what is at a place
 each_at : {X : Type 0} (f : ℕ → X) (n k : ℕ) (x : X) → slice_get (each_below f n) k ≡ Some x → (k < n) × (x ≡ f k)
 unfolding each_below
 each_at f zero k x at = absurd cc

@@ -26,7 +26,7 @@ use Rattle.pq_lower.specs.HalfSteps.{half_steps}
 use Rattle.pq_lower.proofs.Longer.{longer_tells}
 use Rattle.pq_classes.specs.Lowered.{AreLowered, IsAdded, IsLowered}
 
--- the query that stands at a place
+-- the query that is at a place
 pub asked : (queries : List (List ℕ × Query)) (i : ℕ) (d : List ℕ × Query) → i < length queries
     → slice_get (named_trees queries) i ≡ Some (query_tree (get_or queries i d).1)
 asked queries i d within = slice_get-map (λ q. query_tree q.1) queries i ∙ ap (option_map (λ q. query_tree q.1)) (slice_get-get_or queries i d within)

@@ -39,7 +39,7 @@ not_more : (bytes : List ℕ) (now before after : Option (List ℕ)) (limit : �
     → ReadsMore (record { left = Some bytes; rest = now; before = before; after = after }) limit → length bytes ≤ limit → ⊥
 not_more bytes now before after limit (text, taken, (long, short)) fits = let most = no_longer bytes text now taken in absurd (omega arith)
 
--- what a command accepts is refused for want of memory alone
+-- what a command accepts is refused because memory runs out alone
 abbrev Completing : Task → Type 0
 Completing task = (o : Outcome) (text : List ℕ) → task.Accepts text → task.Refuses o text → IsDoneOrMemory o
 
@@ -67,7 +67,7 @@ on_done task s text writes written completes accepted none (Speaking t) answer f
 on_done task s text writes written completes accepted none SessionFull answer faults = completes SessionFull text accepted answer
 on_done task s text writes written completes accepted none ScheduleFull answer faults = completes ScheduleFull text accepted answer
 
--- where no read failed and there isn't more to read, reading stops for want of memory alone
+-- where no read failed and there isn't more to read, reading stops because memory runs out alone
 stopped : (task : Task) (s : Streams) (reads read : ℕ) → (ReadsMore s task.limit → ⊥) → HasNoFault reads read
     → (o : Outcome) → StopsReading task o s → HasReadFaults o reads read → IsDoneOrMemory o
 stopped task s reads read no_more none TooLong more faults = no_more more

@@ -44,7 +44,7 @@ part_of_more before after first next (n, part) = (
   subst (Appends before after) (sym (take-append-le (min n (length first)) first next (omega arith) ∙ take_min n first)) part,
 )
 
--- what is cut is a part of it, after a failing write or for want of memory
+-- what is cut is a part of it, after a failing write or because memory runs out
 cut_is : (o : Outcome) (before after : Option (List ℕ)) (bytes : List ℕ) → IsCut o before after bytes
     → AppendsPart before after bytes × ((o ≡ WriteFault) ⊎ (o ≡ Memory))
 cut_is WriteFault before after bytes part = (part, inl refl)
@@ -203,7 +203,7 @@ pub first_unread : (left now put : Option (List ℕ)) (pending : List ℕ) (u : 
 first_unread left now put pending u empty read =
     unread_answer left left now put put [] pending [] u (subst (Parted left left []) (sym empty) (none_parted left)) refl (Appends-nil put) read
 
--- it is no document within all limits
+-- it is not a document within all limits
 pub first_refused : (left now put : Option (List ℕ)) (pending new : List ℕ) (p : Piece) (o : Outcome) → pending ≡ []
     → Reads left now (λ read. IsNext (pending ++ read) now new p)
     → length new ≤ chunk_size → HasNoInstall o p.text.items → IsOfText o → IsSessionAnswer o (streams left now put put)

@@ -20,7 +20,7 @@ use Rattle.pq_command.specs.Sessions.{HasFirst, HasParted, IsSessionAnswer, IsWi
 pub memory : (o : Outcome) → o ≡ Memory → IsDoneOrMemory o
 memory o is = subst IsDoneOrMemory (sym is) tt
 
--- a document within all limits is refused for want of memory alone
+-- a document within all limits is refused because memory runs out alone
 pub document_completes : (o : Outcome) (text : List ℕ) → IsWithinDocument text → HasNoInstall o text → IsDoneOrMemory o
 document_completes o text (d, spells, within) (inl (f, is, fault)) = memory o (is ∙ ap document_outcome (no_document_fault text d f spells fault))
 document_completes o text (d, spells, within) (inr (e, spelt, (f, is, fault))) =

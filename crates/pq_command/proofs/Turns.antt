@@ -104,7 +104,7 @@ ends datapath left mid now before after speaker text is read end short = by spea
     by Installing e = stopped Installing e (λ same. cc)
     by (Failed r) e = stopped (Failed r) e (λ same. cc)
 
--- want of memory between two pieces
+-- running out of memory between two pieces
 pub no-memory : (datapath : ℕ) (left now before after : Option (List ℕ)) (speaker : State) (text : List ℕ)
     → IsUnderWay datapath (streams left now before after) speaker text → length text ≤ install_limit
     → IsSpeakAnswer datapath Memory (streams left now before after)
@@ -426,7 +426,7 @@ no-refusal NoBarrier fact none = absurd none
 no-refusal SessionFull fact none = absurd none
 no-refusal ScheduleFull fact none = absurd none
 
--- the end of a turn is no refusal
+-- the end of a turn is not a refusal
 pub turn-is-none : (t : Talk) (sent : List ℕ) (o : Outcome) (before after : Option (List ℕ)) → IsTurnEnd t sent o before after → OnRefusalInTurns o ⊥
 turn-is-none t sent WriteFault before after end = tt
 turn-is-none t sent Memory before after end = tt

@@ -21,11 +21,11 @@ streams left rest before after = record { left = left; rest = rest; before = bef
 abbrev pub Reads : Streams → (List ℕ → Type 0) → Type 0
 Reads s P = (text : List ℕ) × Consumes s.left s.rest text × P text
 
--- the whole input is a text of at most so many bytes with this property
+-- the whole input is a text of at most this many bytes with this property
 abbrev pub ReadsWhole : Streams → ℕ → (List ℕ → Type 0) → Type 0
 ReadsWhole s limit P = Reads s (λ text. IsAtEnd s.rest × (length text ≤ limit) × P text)
 
--- more than so many bytes were read, and at most one piece more
+-- more than this many bytes were read, and at most one piece more
 abbrev pub ReadsMore : Streams → ℕ → Type 0
 ReadsMore s limit = Reads s (λ text. (limit < length text) × (length text ≤ limit + piece_size))
 

@@ -1,4 +1,4 @@
--- What `speak` reads, and what it writes for that. Its text is a line with a length, an install of so many bytes, and what the switch sent.
+-- What `speak` reads, and what it writes for that. Its text is a line with a length, an install of this many bytes, and what the switch sent.
 use Rattle.std.specs.Prelude.{◌≡◌, ◌≢◌, ℕ, ◌+◌, ◌<◌, ◌≤◌, ◌⊎◌, Bool, true, false, List, [], ◌++◌, length, take, drop, position, nat_lt}
 use Rattle.std.specs.Prelude.{is_none, ◌==◌, ◌&&◌, Option, Some, None}
 use Rattle.std.specs.List.{list_any}

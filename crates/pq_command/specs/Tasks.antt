@@ -45,7 +45,7 @@ install_outcome install.Memory = Memory
 
 -- Summary.
 
--- what is counted of a document, with so many classes of words
+-- what is counted of a document, with this many classes of words
 abbrev pub counts_of : DocumentTree → ℕ → Counts
 counts_of d classes = record {
   parts = length d.parts;

@@ -97,7 +97,7 @@ fn answer_input<S: Source, K: Sink>(
     }
 }
 
-/// Writes this of the generated document of so many switches.
+/// Writes this of the generated document of this many switches.
 fn answer_generated<K: Sink>(alloc: Global, output: Output, number: u32, sink: &mut K) -> Outcome
     requires least { 2 ≤ number }
     requires most { number ≤ 64 }

@@ -20,13 +20,13 @@ pub enum Outcome {
     ReadFault,
     /// The document, or a piece of a session, has more than 524,288 bytes, or the input of another command more than 268,435,456.
     TooLong,
-    /// What begins at this byte of a document is no token.
+    /// What begins at this byte of a document is not a token.
     Lex {
         at: usize,
     },
-    /// The tokens of a document are no sentence: the first one with which no prefix of a sentence ends begins at this
-    /// byte, or the document ends here and all of them are a prefix of a sentence. Or a line of a schedule is no event;
-    /// its first byte is at this place of the input. Or the first line of what `speak` reads is no length.
+    /// The tokens of a document are not sentence: the first one with which no prefix of a sentence ends begins at this
+    /// byte, or the document ends here and all of them are a prefix of a sentence. Or a line of a schedule is not an event;
+    /// its first byte is at this place of the input. Or the first line of what `speak` reads is not a length.
     Syntax {
         at: usize,
     },

@@ -25,7 +25,7 @@ pub enum Unread {
     Memory,
 }
 
-/// So many bytes.
+/// This many bytes.
 pub(crate) fn zeros(alloc: Global, len: usize) -> Result<Vec<u8>, AllocError>
     ensures { IfOk result (λ bytes. vec_len bytes ≡ len) }
 {

@@ -28,7 +28,7 @@ fn count_labels(queries: &[(Name, Query)], topology: &Topology) -> u32
     total
 }
 
-/// What a summary counts of a document with so many classes of words.
+/// What a summary counts of a document with this many classes of words.
 fn counts_of(document: &Document, classes: u64) -> Counts
     requires { HasFewInstances (document_tree document.now) }
     ensures { result ≡ counts_of (document_tree document.now) classes }

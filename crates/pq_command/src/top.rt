@@ -18,7 +18,7 @@ use std::alloc::Global;
 /// Does what the words after the program's name ask for, from the source to the sink.
 ///
 /// `compile` reads a document to its end and writes its install. `session` reads pieces that lines `%%` part, a document and then an
-/// edit each; it writes a frame for each piece before it reads the next one, and at the end the last install. `replay` reads an install and at once behind it a
+/// edit each; it writes a frame for each piece before it reads the next one, and at the end the last install. `replay` reads an install and at once after it a
 /// schedule, and writes where every packet is. `inspect` reads an install and writes it as JSON text. `summary` reads a
 /// document and writes how large it and its install are. `generate N` writes the document of a row of N switches, 2 to 64, and
 /// `summary N` the summary of that document; both read nothing. `speak D` reads a line with the length of an install, the install,

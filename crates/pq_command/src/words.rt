@@ -19,9 +19,9 @@ pub enum Command {
     Inspect,
     /// Write how large a document and its install are.
     Summary,
-    /// Write how large the generated document of so many switches and its install are.
+    /// Write how large the generated document of this many switches and its install are.
     SummaryOf { number: u32 },
-    /// Write the generated document of so many switches.
+    /// Write the generated document of this many switches.
     Generate { number: u32 },
     /// Install in the switch with this datapath number, over its control connection.
     Speak { datapath: u64 },

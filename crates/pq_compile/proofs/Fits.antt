@@ -29,7 +29,7 @@ use Rattle.pq_pred.specs.Values.{ipv4_test, ipv6_test, exact_test, test_of}
 
 -- Addresses.
 
--- groups that spell digits, after so many others
+-- groups that spell digits, after this many others
 value_below : (weight base k value : ℕ) (groups : List (List ℕ)) → spell_digits weight base groups ≡ true → value < weight ^ k
     → fold (λ so_far group. so_far * weight + digits_of base group) value groups < weight ^ (k + length groups)
 value_below weight base k value [] small below = let none : k ≡ k + 0 = omega arith in subst (λ k. value < weight ^ k) none below
@@ -41,7 +41,7 @@ value_below weight base k value (group ∷ groups) small below =
     let one : suc k + length groups ≡ k + length (group ∷ groups) = omega arith in
     subst (λ k. fold (λ so_far group. so_far * weight + digits_of base group) (value * weight + digits_of base group) groups < weight ^ k) one more
 
--- so many groups that spell digits
+-- this many groups that spell digits
 groups_below : (weight base count : ℕ) (groups : List (List ℕ)) → spell_digits weight base groups ≡ true → length groups ≡ count
     → groups_value weight base groups < weight ^ count
 groups_below weight base count groups small long =

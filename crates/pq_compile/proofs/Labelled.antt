@@ -27,7 +27,7 @@ use Rattle.pq_classes.proofs.Values.{Along, instances_along, labels_fit}
 
 -- Each label has a value for each list.
 
--- the label has so many values
+-- the label has this many values
 abbrev IsLong : ℕ → List ℕ → Type 0
 IsLong n label = length label ≡ n
 

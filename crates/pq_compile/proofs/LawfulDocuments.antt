@@ -144,7 +144,7 @@ topology_lawful bytes f T e =
     subst IsNamedTopology same (subst (λ ls. IsNamedTopology (record { switches = switched.0; links = ls })) ordered
     (network_with bytes switched.0 f links.0 links.1 network))
 
--- what stands in a document that is read for a network
+-- what is in a document that is read for a network
 described : (bytes : List ℕ) (f : Forest) (T : Topology) → IsNamedTopology T
     → (parts : List (Named PolicyTree)) (queries : List (Named QueryTree)) (d : DocumentTree) → parts_of T bytes f ≡ Ok parts
     → queries_of T bytes f ≡ Ok queries → record { topology = T; parts = parts; queries = queries } ≡ d → IsLawfulDocument d

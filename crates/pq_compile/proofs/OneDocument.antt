@@ -34,7 +34,7 @@ as_document (LexTerm i) = Lex i
 as_document (SyntaxTerm i) = Syntax i
 as_document MemoryTerm = Memory
 
--- what is not want of memory
+-- what is not running out of memory
 abbrev IsText : TermFault → Type 0
 IsText (LexTerm i) = Unit {0}
 IsText (SyntaxTerm i) = Unit {0}
@@ -64,7 +64,7 @@ one_name_fault bytes i j k l first second =
     let same : first.statements ≡ second.statements = one_forest DocumentSort bytes first.statements second.statements first.sentence second.sentence in
     ap fault_in (sym first.faulty ∙ ap (document_of bytes) same ∙ second.faulty)
 
--- the text has one fault, want of memory aside
+-- the text has one fault, running out of memory aside
 pub one_document_fault : (bytes : List ℕ) (f g : DocumentFault) → IsDocumentFault bytes f → IsDocumentFault bytes g → (f ≡ Memory → ⊥)
     → (g ≡ Memory → ⊥) → f ≡ g
 one_document_fault bytes (Lex i) (Lex j) first second some other = same_fault bytes (LexTerm i) (LexTerm j) tt tt first second

@@ -1,4 +1,4 @@
--- A document has one fault at most besides want of memory, and none where it is within all limits.
+-- A document has one fault at most besides running out of memory, and none where it is within all limits.
 use Rattle.std.proofs.Common.{◌≡◌, ◌≢◌, ◌∙◌, ℕ, List, [], ◌∷◌, refl, sym, ap, arith, inl, inr}
 use Rattle.std.specs.Prelude.{◌⊎◌}
 use Rattle.std.specs.List.{AllByRecursion, AllZip}

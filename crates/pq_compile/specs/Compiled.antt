@@ -58,7 +58,7 @@ rules_fault (rules.TableFull switch table entries) = TableFull switch table entr
 rules_fault (rules.GroupFull switch copies) = GroupFull switch copies
 rules_fault rules.Memory = Memory
 
--- the first limit that the document is beyond; want of memory may come at any time
+-- the first limit that the document is beyond; running out of memory may come at any time
 abbrev pub IsCompileFault : DocumentTree → CompileFault → Type 0
 IsCompileFault d (ValuesFull field count) = IsPrepareFault d (prepare.ValuesFull field count)
 IsCompileFault d (InstancesFull count) = IsPrepareFault d (prepare.InstancesFull count)

@@ -65,7 +65,7 @@ pub record IsNameFault (bytes : List ℕ) (at : ℕ) (kind : NameKind) : Type 0 
   pub sentence : IsForestOf DocumentSort bytes statements
   pub faulty : document_of bytes statements ≡ Err (record { at = at; kind = kind })
 
--- the text spells no document: for what is no token, for tokens that are no sentence, or for what they name; or memory is wanting
+-- the text spells no document: for what is not a token, for tokens that are not sentence, or for what they name; or memory is wanting
 abbrev pub IsDocumentFault : List ℕ → DocumentFault → Type 0
 IsDocumentFault bytes (Lex at) = MeetsNoToken bytes at
 IsDocumentFault bytes (Syntax at) = IsSyntaxFault DocumentSort bytes at

@@ -9,7 +9,7 @@ use Rattle.pq_compile.specs.Compiled.{IsCompileFault, IsWithinLimits}
 use Rattle.pq_compile.specs.Documents.{DocumentTree}
 use Rattle.pq_compile.specs.Prepared.{IsPrepareFault, IsWithin}
 
--- want of memory aside, a document has one fault of what tables are made from
+-- running out of memory aside, a document has one fault of what tables are made from
 abbrev pub HasOnePrepareFault : Type 0
 HasOnePrepareFault = (d : DocumentTree) (f g : PrepareFault) → IsPrepareFault d f → IsPrepareFault d g → f ≢ prepare.Memory → g ≢ prepare.Memory → f ≡ g
 
@@ -17,7 +17,7 @@ HasOnePrepareFault = (d : DocumentTree) (f g : PrepareFault) → IsPrepareFault 
 abbrev pub HasNoPrepareFault : Type 0
 HasNoPrepareFault = (d : DocumentTree) (f : PrepareFault) → IsWithin d → IsPrepareFault d f → f ≡ prepare.Memory
 
--- want of memory aside, a document over a lawful topology has one fault of compiling
+-- running out of memory aside, a document over a lawful topology has one fault of compiling
 abbrev pub HasOneCompileFault : Type 0
 HasOneCompileFault =
     (d : DocumentTree) (f g : CompileFault) → IsLawfulTopology d.topology → IsCompileFault d f → IsCompileFault d g → f ≢ compile.Memory

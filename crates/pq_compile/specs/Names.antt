@@ -10,11 +10,11 @@ use Rattle.pq_topo.specs.Naming.{Reading, faulty, unless, next}
 use Rattle.pq_topo.specs.Statements.{begins_with}
 use Rattle.pq_pred.specs.Values.{name_in}
 
--- the keyword of a statement after so many others of its sort
+-- the keyword of a statement after this many others of its sort
 abbrev pub keyword_at : ℕ → ℕ → Token → Reading Token
 keyword_at most count t = unless t ((nat_le most count, Many) ∷ []) t
 
--- a name that stands among no earlier ones; what is no name stands in no sentence
+-- a name that is among no earlier ones; what is not a name is in no sentence
 abbrev pub new_name : Token → List (List ℕ) → Option (List ℕ) → Reading (List ℕ)
 new_name t names None = faulty t BadValue
 new_name t names (Some name) = unless t ((list_any (λ n. bytes_eq name n) names, Doubled) ∷ []) name
@@ -26,14 +26,14 @@ name_at bytes names t = new_name t names (name_in (text_in bytes t))
 abbrev pub Named : Type 0 → Type 0
 Named A = List ℕ × A
 
--- a statement of a sort after others, which have these names, where there may be so many: its keyword, its name, its body
+-- a statement of a sort after others, which have these names, where there may be this many: its keyword, its name, its body
 abbrev pub named_from : {A : Type 0} → List ℕ → ℕ → (Tree → Reading A) → List (List ℕ) → Token → Token → Tree → Reading (Named A)
 named_from bytes most read names keyword name body =
     next (keyword_at most (length names) keyword) (λ _.
     next (name_at bytes names name) (λ name.
     next (read body) (λ value. Ok (name, value))))
 
--- the statement with these parts; statements with fewer stand in no sentence
+-- the statement with these parts; statements with fewer are in no sentence
 abbrev pub named_of : {A : Type 0} → List ℕ → ℕ → (Tree → Reading A) → List (List ℕ) → Token → Forest → Reading (Named A)
 named_of bytes most read names keyword nothing = faulty keyword BadValue
 named_of bytes most read names keyword (grown name x nothing) = faulty keyword BadValue

@@ -70,7 +70,7 @@ pub record IsWithin (d : DocumentTree) : Type 0 where
   pub instances : HasFewInstances d
   pub classes : HasFewClasses d
 
--- the first limit on what tables are made from that the document is beyond; want of memory may come at any time
+-- the first limit on what tables are made from that the document is beyond; running out of memory may come at any time
 abbrev pub IsPrepareFault : DocumentTree → PrepareFault → Type 0
 IsPrepareFault d (ValuesFull field count) = full_field d ≡ Some (field, count)
 IsPrepareFault d (InstancesFull count) = HasFewValues d × IsCause (listing.InstancesFull count) (label_sum d.topology (queries_in d))

@@ -35,30 +35,30 @@ use thiserror::Error;
 /// Why a document has no install. The faults are tried in this order.
 #[derive(Debug, Drop, Error)]
 pub enum CompileFault {
-    /// This is the first field, in field order, with more stated values than its limit: so many.
+    /// This is the first field, in field order, with more stated values than its limit: this many.
     #[error("{field:?} has {count} stated values")]
     ValuesFull {
         field: Field,
         count: u64,
     },
-    /// There are more than 1,024 instances: so many, or 4,294,967,295 where there are more.
+    /// There are more than 1,024 instances: this many, or 4,294,967,295 where there are more.
     #[error("{count} instances")]
     InstancesFull {
         count: u32,
     },
-    /// There are more than 4,094 classes of words: so many.
+    /// There are more than 4,094 classes of words: this many.
     #[error("{classes} classes")]
     TagWidth {
         classes: u64,
     },
-    /// This is the first table, by switch and then by table, with more entries than its switch's limit: so many.
+    /// This is the first table, by switch and then by table, with more entries than its switch's limit: this many.
     #[error("table {table} of switch {switch} has {entries} entries")]
     TableFull {
         switch: u64,
         table: u8,
         entries: u64,
     },
-    /// The first entry with more than 256 copies has so many.
+    /// The first entry with more than 256 copies has this many.
     #[error("an entry of switch {switch} has {copies} copies")]
     GroupFull {
         switch: u64,

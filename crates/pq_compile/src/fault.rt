@@ -2,10 +2,10 @@
 use pq_topo::NameKind;
 use thiserror::Error;
 
-/// Why a text is no document. Places are bytes of the text.
+/// Why a text is not a document. Places are bytes of the text.
 #[derive(Debug, Drop, Error)]
 pub enum DocumentFault {
-    /// What begins at this byte is no token.
+    /// What begins at this byte is not a token.
     #[error("no token at byte {at}")]
     Lex { at: usize },
     /// The token that begins at this byte is the first with which no prefix of a sentence ends; or the text ends here,

@@ -5,8 +5,8 @@ ghost use Rattle.pq_compile.specs.declared.fault.DocumentFault.TheVariants.{Memo
 ghost use Rattle.pq_compile.specs.Documents.{DocumentTree, IsDocumentFault, Spells};
 ghost use Rattle.pq_compile.specs.Laws.{HasNoCompileFault, HasNoPrepareFault, HasOneCompileFault, HasOnePrepareFault};
 
-/// A text spells one document at most; it is refused for one fault at most, want of memory aside; and a text that spells
-/// a document is refused for want of memory only. It does nothing when it runs.
+/// A text spells one document at most; it is refused for one fault at most, running out of memory aside; and a text that spells
+/// a document is refused because memory runs out only. It does nothing when it runs.
 pub fn has_one_document()
     ensures document { (bytes : List ℕ) (d e : DocumentTree) → Spells bytes d → Spells bytes e → d ≡ e }
     ensures fault { (bytes : List ℕ) (f g : DocumentFault) → IsDocumentFault bytes f → IsDocumentFault bytes g
@@ -14,8 +14,8 @@ pub fn has_one_document()
     ensures none { (bytes : List ℕ) (d : DocumentTree) (f : DocumentFault) → Spells bytes d → IsDocumentFault bytes f → f ≡ Memory }
 {}
 
-/// A document over a lawful topology is refused by `compile`, and by `prepare`, for one limit at most, want of memory aside; and
-/// one that is within the limits is refused for want of memory only. It does nothing when it runs.
+/// A document over a lawful topology is refused by `compile`, and by `prepare`, for one limit at most, running out of memory aside; and
+/// one that is within the limits is refused because memory runs out only. It does nothing when it runs.
 pub fn has_one_compile_fault()
     ensures prepare_fault { HasOnePrepareFault }
     ensures no_prepare_fault { HasNoPrepareFault }

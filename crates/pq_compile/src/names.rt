@@ -10,7 +10,7 @@ use pq_topo::names::{add_name, has_name};
 use pq_topo::{NameFault, NameKind};
 use pq_tree::text_in;
 
-/// Refuses the statement where so many others of its sort stand before it already.
+/// Refuses the statement where this many others of its sort are before it already.
 pub(crate) fn keyword_at(most: usize, count: usize, keyword: &Token) -> Result<Token, NameFault>
     ensures { IsAnswer (λ t. t) result (keyword_at most count keyword.now) }
 {

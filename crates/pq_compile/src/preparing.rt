@@ -74,13 +74,13 @@ pub(crate) struct NetworkTrees {
 /// Why a document can't be prepared.
 #[derive(Debug, Drop, Error)]
 pub enum PrepareFault {
-    /// This is the first field, in field order, with more stated values than its limit: so many.
+    /// This is the first field, in field order, with more stated values than its limit: this many.
     #[error("{field:?} has {count} stated values")]
     ValuesFull { field: Field, count: u64 },
-    /// There are more than 1,024 instances: so many, or 4,294,967,295 where there are more.
+    /// There are more than 1,024 instances: this many, or 4,294,967,295 where there are more.
     #[error("{count} instances")]
     InstancesFull { count: u32 },
-    /// There are more than 4,094 classes of words: so many.
+    /// There are more than 4,094 classes of words: this many.
     #[error("{classes} classes")]
     TagWidth { classes: u64 },
     /// There is not enough memory.

@@ -14,7 +14,7 @@ use Rattle.pq_delta.specs.Changes.{adds_from, delete_of, deletes_from}
 use Rattle.pq_delta.specs.Exact.{match_itself}
 use Rattle.pq_delta.proofs.OwnLemmas.{all-unplaced, own-around, untouched}
 
--- an entry stands in its own place
+-- an entry is in its own place
 pub placed : (f : FlowValue) (e : Entry) → e.table ≡ f.table → e.priority ≡ f.priority → e.matching ≡ f.matching → is_placed f e ≡ true
 placed f e table priority matching =
     and_from _ (same_match e.matching f.matching) (and_from _ _ (eq-eqb e.table f.table table) (eq-eqb e.priority f.priority priority))

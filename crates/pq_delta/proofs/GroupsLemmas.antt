@@ -376,7 +376,7 @@ renewal-numbered n (g ∷ gs) is =
     let rest : map (λ h. h.group) gs ≡ numbers_from (suc n) (length gs) = cc in
     λ i. (here i, g.buckets) ∷ renewal-numbered (suc n) gs rest i
 
--- numbers past the last are no groups
+-- numbers past the last are not groups
 pub past-last : (n : ℕ) (bs : List Buckets) (k : ℕ) → n + length bs ≤ k → contains_key (groups_with (numbered_from n bs)) k ≡ false
 past-last n bs k more = ap is_some (seek-get (numbered_from n bs) k ∙ seek-past k n bs more)
 

@@ -29,7 +29,7 @@ module _ {A : Type 0} where
     among : List A → A → Bool
     among es x = list_any (E x) es
 
-    -- a value that is among others stands in one place
+    -- a value that is among others is in one place
     record Standing (x : A) (es : List A) : Type 0 where
       front : List A
       back : List A

@@ -90,7 +90,7 @@ adds_from xid (e ∷ es) = add_of xid e ∷ adds_from (suc xid) es
 abbrev pub group_delete_of : ℕ → ℕ → GroupValue
 group_delete_of xid number = record { xid = xid; command = Delete; group = number; buckets = [] }
 
--- the DELETEs of so many groups, numbered from here on
+-- the DELETEs of this many groups, numbered from here on
 abbrev pub group_deletes_from : (xid number : ℕ) → ℕ → List GroupValue
 group_deletes_from xid number zero = []
 group_deletes_from xid number (suc more) = group_delete_of xid number ∷ group_deletes_from (suc xid) (suc number) more

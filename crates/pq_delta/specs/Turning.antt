@@ -13,7 +13,7 @@ use Rattle.pq_model.specs.Renewal.{IsRenewing, Renewal}
 use Rattle.pq_model.specs.SwitchMachine.{Tables, applies, groups_named, is_placed, is_removed}
 use Rattle.pq_delta.specs.Added.{groups_added}
 
--- so many numbers from one on
+-- this many numbers from one on
 abbrev pub numbers_from : ℕ → ℕ → List ℕ
 numbers_from n zero = []
 numbers_from n (suc more) = n ∷ numbers_from (suc n) more

@@ -10,7 +10,7 @@ use crate::sending::{push_group, push_group_delete};
 use pq_model::{Action, GroupCommand, GroupMod, Message};
 use std::alloc::{AllocError, Global};
 
-/// Appends the DELETEs of the groups with numbers above `kept`, of so many groups.
+/// Appends the DELETEs of the groups with numbers above `kept`, of this many groups.
 pub(crate) fn push_group_deletes(
     alloc: Global,
     messages: &mut Vec<Message>,

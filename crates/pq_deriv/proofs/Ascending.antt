@@ -36,7 +36,7 @@ module _ {K : Type 0} (cmp : K → K → Ordering) (total : IsTotalOrder cmp) wh
   one_way : (x y : K) → cmp x y ≡ Less → cmp y x ≡ Less → ⊥
   one_way x y up down = search (sym up ∙ total.antisymm x y ∙ ap ordering_reverse down, rules)
 
-  -- of elements that ascend, each behind one of the list is another one of it
+  -- of elements that ascend, each after one of the list is another one of it
   later : (a x y : K) (all : List K) → AllByRecursion (λ z. cmp a z ≡ Less) all → cmp x y ≡ Less → (a ≡ x) ⊎ IsOneOf all x
       → (a ≡ y) ⊎ IsOneOf all y → IsOneOf all y
   later a x y all whole above one (inr other) = other

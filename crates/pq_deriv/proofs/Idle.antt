@@ -15,7 +15,7 @@ abbrev pub ends_from : Bool → List Expr → List ℕ → Bool
 ends_from begins es r = (begins && in_turn (languages (expr_trees es)) []) || turn_left (languages (expr_trees es)) (lefts (expr_trees es))
     (spread (length (languages (expr_trees es))) r) []
 
--- behind an empty set
+-- after an empty set
 ends_behind : (es : List Expr) (gap : ℕ) (left : List ℕ) → (0 < gap) ⊎ (length left ≡ 0)
     → ends_from false es (behind_set (gap ∷ left)) ≡ ends_from false es ((gap - 1) ∷ left)
 ends_behind es gap left (inl some) = rw (behind_none gap left some) refl
@@ -43,7 +43,7 @@ ends_skipped (suc k) gap left (e ∷ es) few idle =
     fewer (inl h) = inl (omega (arith, h))
     fewer (inr h) = inr h
 
--- operands that are passed over, behind others
+-- operands that are passed over, after others
 pub ends_idle : (begins : Bool) (i k gap : ℕ) (left : List ℕ) (es : List Expr) → k ≤ length es - i → (begins ≡ true → k ≡ 0)
     → (k ≤ gap) ⊎ (length left ≡ 0) → ends_from begins (drop (i + k) es) ((gap - k) ∷ left) ≡ ends_from begins (drop i es) (gap ∷ left)
 ends_idle false i k gap left es few none idle = rw (← drop-drop k i es) (ends_skipped k gap left (drop i es) (omega (arith, few, length-drop i es)) idle)

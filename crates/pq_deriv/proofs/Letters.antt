@@ -56,12 +56,12 @@ turn_more l e es begins old set more steps rest w =
     (turn_stepped begins (holds (expr_tree e)) Ps (left (expr_tree e)) (members (first_set old)) l w
     (turn_left Ps ls (spread (length Ps) (behind_set old)) (l ∷ w)))
 
--- the number of empty sets apart from what stands behind it
+-- the number of empty sets apart from what is after it
 pub sets_whole : (l : HalfStep) (es : Exprs) (begins : Bool) (old new : List ℕ)
     → AreSetsStepped l es begins (first_gap old ∷ behind_gap old) new → AreSetsStepped l es begins old new
 sets_whole l es begins old new steps w = rw (← spread_gap (length (languages es)) old) (steps w)
 
--- behind an empty set
+-- after an empty set
 sets_behind : (l : HalfStep) (es : Exprs) (gap : ℕ) (left new : List ℕ) → (0 < gap) ⊎ (length left ≡ 0)
     → AreSetsStepped l es false ((gap - 1) ∷ left) new → AreSetsStepped l es false (behind_set (gap ∷ left)) new
 sets_behind l es gap left new (inl some) steps = rw (behind_none gap left some) steps
@@ -102,7 +102,7 @@ sets_idle l true k gap left more es few none idle steps =
     let all : gap - 0 ≡ gap = omega arith in
     rw (zero_is, wide_none more) (rw (zero_is, all) at steps)
 
--- operands that are passed over, behind others
+-- operands that are passed over, after others
 pub idle_left : (l : HalfStep) (begins : Bool) (i k gap empties : ℕ) (left out : List ℕ) (es : List Expr) (W : List ℕ → Type 0)
     → k ≤ length es - i → (begins ≡ true → k ≡ 0) → (k ≤ gap) ⊎ (length left ≡ 0)
     → ((more : List ℕ) → AreSetsStepped l (expr_trees (drop i es)) begins (gap ∷ left) more → W (out ++ wide empties more))

@@ -105,7 +105,7 @@ count_each : (es : Exprs) → AreLawful es → AreFew (rests es) (mosts es)
 count_each none lawful = tt
 count_each (put top below rest) lawful = (count_top top below (mosts below) lawful.0 (count_each below lawful.1), count_each rest lawful.2)
 
--- a lawful expression has at most so many rests
+-- a lawful expression has at most this many rests
 pub count_rests : (e : ExprTree) → IsLawful e → length (all_rests e) ≤ most e
 count_rests e lawful = (count_each (put e.top e.below none) lawful).0
 
@@ -123,7 +123,7 @@ finds (s ∷ rs) r (inl is) = or_left (pointwise nat_eq r s) (list_any (pointwis
     (subst (λ (z : List ℕ). pointwise nat_eq r z ≡ true) (sym is) (nat_list_eq_equiv.refl r))
 finds (s ∷ rs) r (inr one) = or_right (pointwise nat_eq r s) (list_any (pointwise nat_eq r) rs) (finds rs r one)
 
--- so rests of which no two are equal are at most so many
+-- so rests of which no two are equal are at most this many
 pub count_distinct : (e : ExprTree) → IsLawful e → (rs : List (List ℕ)) → IsDistinct (pointwise nat_eq) rs → AllByRecursion (IsRest e) rs → length rs ≤ most e
 count_distinct e lawful rs distinct are =
     let fewer = length-le_from_is_member nat_list_eq_equiv rs (all_rests e) distinct (λ r is. finds (all_rests e) r (found (IsRest e) rs r are is)) in

@@ -3,7 +3,7 @@ use Rattle.std.proofs.Common.{◌≡◌, ℕ, zero, suc, ◌+◌, ◌-◌, ◌<�
 use Rattle.std.proofs.Math.Seq.{take-append_seam, drop-append_seam}
 use Rattle.pq_deriv.specs.Parts.{first_set, behind_set, spread, widened, set_before, wide, first_gap, behind_gap}
 
--- an empty set stands first
+-- an empty set is first
 pub none_first : (gap : ℕ) (r : List ℕ) → 0 < gap → first_set (gap ∷ r) ≡ []
 none_first zero r some = absurd (omega (arith, some))
 none_first (suc gap) r some = refl
@@ -12,7 +12,7 @@ pub behind_none : (gap : ℕ) (r : List ℕ) → 0 < gap → behind_set (gap ∷
 behind_none zero r some = absurd (omega (arith, some))
 behind_none (suc gap) r some = let less : suc gap - 1 ≡ gap = omega arith in rw less refl
 
--- sets are read behind the number of empty ones
+-- sets are read after the number of empty ones
 pub spread_gap : (n : ℕ) (r : List ℕ) → spread n (first_gap r ∷ behind_gap r) ≡ spread n r
 spread_gap n (gap ∷ r) = refl
 spread_gap zero [] = refl
@@ -24,7 +24,7 @@ first_read [] [] = refl
 first_read [] (gap ∷ r) = refl
 first_read (n ∷ set) r = take-append_seam (n ∷ set) r
 
--- and behind it what was there
+-- and after it what was there
 pub behind_read : (set r : List ℕ) → behind_set (set_before set r) ≡ r
 behind_read [] [] = refl
 behind_read [] (gap ∷ r) = refl
@@ -40,7 +40,7 @@ pub wide_more : (k : ℕ) (r : List ℕ) → wide (k + 1) r ≡ wide k (widened 
 wide_more k [] = refl
 wide_more k (gap ∷ r) = ap (λ n. n ∷ r) (omega arith)
 
--- a set behind empty ones
+-- a set after empty ones
 pub wide_before : (k : ℕ) (set r : List ℕ) → 0 < length set → wide k (set_before set r) ≡ (k ∷ length set ∷ (set ++ r))
 wide_before k [] r some = absurd (omega (arith, some))
 wide_before k (n ∷ set) r some = ap (λ m. m ∷ length (n ∷ set) ∷ ((n ∷ set) ++ r)) (omega arith)
@@ -59,7 +59,7 @@ pub wide_wide : (j k : ℕ) (r : List ℕ) → wide j (wide k r) ≡ wide (j + k
 wide_wide j k [] = refl
 wide_wide j k (gap ∷ r) = ap (λ n. n ∷ r) (omega arith)
 
--- an empty set stands first where a number of them does, or where no set is left
+-- an empty set is first where a number of them does, or where no set is left
 pub first_idle : (gap : ℕ) (left : List ℕ) → (0 < gap) ⊎ (length left ≡ 0) → first_set (gap ∷ left) ≡ []
 first_idle gap left (inl some) = none_first gap left some
 first_idle gap (n ∷ left) (inr none) = absurd (omega (arith, none))

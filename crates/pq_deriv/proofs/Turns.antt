@@ -1,4 +1,4 @@
--- Sets of rests, and what stands behind them, at the empty word and behind a half step.
+-- Sets of rests, and what is after them, at the empty word and after a half step.
 use Rattle.std.proofs.Common.{◌≡◌, ℕ, suc, Bool, true, false, ◌&&◌, ◌||◌, List, [], ◌∷◌, refl, ap, ◌∙◌}
 use Rattle.std.proofs.Math.Bool.{or-true, and-false, or-false, and-true}
 use Rattle.std.specs.List.{list_all}
@@ -37,7 +37,7 @@ mixed true true j A J = refl
 mixed true false true A J = rw (and-true A, or-true A) refl
 mixed true false false A J = refl
 
--- a set behind a half step
+-- a set after a half step
 pub set_cons : (left : Left) (P : Language) (l : HalfStep) (w : Word) (set : List (List ℕ))
     → set_left left P set (l ∷ w) ≡ ((some_ends left set && P (l ∷ w)) || stepped_left l left P set w)
 set_cons left P l w [] = refl
@@ -63,7 +63,7 @@ pub turn_passed : (begins : Bool) (P : Language) (Ps : List Language) (left : Le
 turn_passed begins P Ps left set u = rw (joined_empty P (in_turn Ps), set_ends left (in_turn Ps) set)
     (ended begins (P []) (in_turn Ps []) (some_ends left set) u)
 
--- a set that operands follow, behind a half step
+-- a set that operands follow, after a half step
 juggled : (u s q b j a p : Bool) → ((s || (b && j)) || ((((b && p) || a) && q) || u)) ≡ ((b && ((p && q) || j)) || (((a && q) || s) || u))
 juggled true s q b j a p = simp or-true refl
 juggled false true q b j a p = simp (or-true, or-false) refl

@@ -25,7 +25,7 @@ atom_left s p n w = if n == 0 then is_step s p w else (n == 1 && is_empty w)
 abbrev pub set_left : Left → Language → List (List ℕ) → Language
 set_left left P set w = list_any (λ r. joined (left r) P w) set
 
--- what the sets of operands that stand one after another accept: a member of one set, and then all later operands
+-- what the sets of operands that are one after another accept: a member of one set, and then all later operands
 abbrev pub turn_left : List Language → List Left → List (List ℕ) → Language
 turn_left [] lefts sets w = false
 turn_left (P ∷ Ps) [] sets w = false

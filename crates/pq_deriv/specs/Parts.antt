@@ -1,18 +1,18 @@
 -- Lists of numbers in parts.
 use Rattle.std.specs.Prelude.{ℕ, zero, suc, ◌+◌, List, [], ◌∷◌, ◌++◌, length, take, drop}
 
--- so many parts, each behind its length; where the numbers end too early, parts are short or empty
+-- this many parts, each after its length; where the numbers end too early, parts are short or empty
 abbrev pub parts : ℕ → List ℕ → List (List ℕ)
 parts zero r = []
 parts (suc n) [] = [] ∷ parts n []
 parts (suc n) (len ∷ r) = take len r ∷ parts n (drop len r)
 
--- the members of a set: how many there are, then each behind its length; no numbers are the empty set
+-- the members of a set: how many there are, then each after its length; no numbers are the empty set
 abbrev pub members : List ℕ → List (List ℕ)
 members [] = []
 members (n ∷ r) = parts n r
 
--- parts, each behind its length
+-- parts, each after its length
 abbrev pub spelled : List (List ℕ) → List ℕ
 spelled [] = []
 spelled (p ∷ ps) = length p ∷ (p ++ spelled ps)
@@ -27,24 +27,24 @@ abbrev pub first_part : List ℕ → List ℕ
 first_part [] = []
 first_part (len ∷ r) = take len r
 
--- what is behind the first part
+-- what is after the first part
 abbrev pub behind_part : List ℕ → List ℕ
 behind_part [] = []
 behind_part (len ∷ r) = drop len r
 
--- the first set, of sets of which each one that has members stands behind the number of empty ones before it, and behind its length
+-- the first set, of sets of which each one that has members is after the number of empty ones before it, and after its length
 abbrev pub first_set : List ℕ → List ℕ
 first_set [] = []
 first_set (zero ∷ r) = first_part r
 first_set (suc gap ∷ r) = []
 
--- the sets behind the first one
+-- the sets after the first one
 abbrev pub behind_set : List ℕ → List ℕ
 behind_set [] = []
 behind_set (zero ∷ r) = behind_part r
 behind_set (suc gap ∷ r) = gap ∷ r
 
--- so many sets
+-- this many sets
 abbrev pub spread : ℕ → List ℕ → List (List ℕ)
 spread zero r = []
 spread (suc n) r = first_set r ∷ spread n (behind_set r)
@@ -64,17 +64,17 @@ abbrev pub packed : List (List ℕ) → List ℕ
 packed [] = []
 packed (set ∷ sets) = set_before set (packed sets)
 
--- with so many empty sets in front
+-- with this many empty sets in front
 abbrev pub wide : ℕ → List ℕ → List ℕ
 wide k [] = []
 wide k (gap ∷ r) = (k + gap) ∷ r
 
--- how many empty sets stand first
+-- how many empty sets are first
 abbrev pub first_gap : List ℕ → ℕ
 first_gap [] = 0
 first_gap (gap ∷ r) = gap
 
--- what stands behind that number
+-- what is after that number
 abbrev pub behind_gap : List ℕ → List ℕ
 behind_gap [] = []
 behind_gap (gap ∷ r) = r

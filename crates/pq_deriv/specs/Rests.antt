@@ -14,7 +14,7 @@ abbrev pub ascending : List (List ℕ) → List (List ℕ)
 ascending [] = []
 ascending (r ∷ rs) = insert_key (slice_cmp nat_cmp) (ascending rs) r
 
--- the members of a set: they ascend, each is one of the rests and stands once
+-- the members of a set: they ascend, each is one of the rests and is once
 abbrev pub AreMembers : List (List ℕ) → List (List ℕ) → Type 0
 AreMembers U set = IsStrictlySortedBy (slice_cmp nat_cmp) set × AllByRecursion (IsOneOf U) set
 

@@ -11,7 +11,7 @@ use Rattle.pq_deriv.specs.Left.{Left, left, lefts, set_left, turn_left, each_lef
 abbrev pub some_ends : Left → List (List ℕ) → Bool
 some_ends left set = list_any (λ r. left r []) set
 
--- what the members of the set accept behind a half step, and then a word of the language
+-- what the members of the set accept after a half step, and then a word of the language
 abbrev pub stepped_left : HalfStep → Left → Language → List (List ℕ) → Language
 stepped_left l left P set w = list_any (λ r. joined (λ v. left r (l ∷ v)) P w) set
 
@@ -24,11 +24,11 @@ IsSetStepped l e begins old new = (P : Language) (w : Word)
 abbrev pub AreStarts : Exprs → List ℕ → Type 0
 AreStarts es r = (w : Word) → each_left (lefts es) (parts (length (lefts es)) r) w ≡ map (λ P. P w) (languages es)
 
--- each new part is the rest of its expression that accepts what the old one accepts behind the half step
+-- each new part is the rest of its expression that accepts what the old one accepts after the half step
 abbrev pub AreStepped : HalfStep → Exprs → List ℕ → List ℕ → Type 0
 AreStepped l es old new = (w : Word) → each_left (lefts es) (parts (length (lefts es)) new) w ≡ each_left (lefts es) (parts (length (lefts es)) old) (l ∷ w)
 
--- the new sets accept what the old ones accept behind the half step, and what the operands hold behind it where they begin
+-- the new sets accept what the old ones accept after the half step, and what the operands hold after it where they begin
 abbrev pub AreSetsStepped : HalfStep → Exprs → Bool → List ℕ → List ℕ → Type 0
 AreSetsStepped l es begins old new = (w : Word) →
     turn_left (languages es) (lefts es) (spread (length (languages es)) new) w

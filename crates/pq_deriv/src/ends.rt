@@ -53,7 +53,7 @@ fn turn_ends(exprs: &[Expr], rest: &[u64]) -> bool
     begins
 }
 
-/// Whether what stands behind the operand can begin here: the operand begins here and holds the empty word, or a member
+/// Whether what is after the operand can begin here: the operand begins here and holds the empty word, or a member
 /// of its set accepts the empty word.
 #[cycle(ends)]
 pub(crate) fn passes(expr: &Expr, set: &[u64], begins: bool) -> bool

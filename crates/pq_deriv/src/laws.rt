@@ -16,9 +16,9 @@ pub fn equal_states_of_one_expression_are_one()
     ensures words { (a b : StateValue) → expr_tree a.expr ≡ expr_tree b.expr → state_eq a b ≡ true → (a.rest ≡ b.rest) × ((w : Word) → accepted a w ≡ accepted b w) }
 {}
 
-/// A lawful expression, none of whose lists of operands is empty, has at most `most` rests: so many stand in the list of
-/// all of them, and so many can be found of which no two are equal. Each state that `start` and `step` give has one of
-/// them, so an expression has at most so many states.
+/// A lawful expression, none of whose lists of operands is empty, has at most `most` rests: this many are in the list of
+/// all of them, and this many can be found of which no two are equal. Each state that `start` and `step` give has one of
+/// them, so an expression has at most this many states.
 pub fn rests_are_few()
     ensures all { (e : ExprTree) → IsLawful e → length (all_rests e) ≤ most e }
     ensures distinct { (e : ExprTree) → IsLawful e → (rs : List (List ℕ)) → IsDistinct (pointwise nat_eq) rs → AllByRecursion (IsRest e) rs → length rs ≤ most e }

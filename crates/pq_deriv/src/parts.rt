@@ -1,11 +1,11 @@
-//! Lists of numbers in parts, each behind its length.
+//! Lists of numbers in parts, each after its length.
 ghost use Rattle.std.specs.Prelude.{◌≡◌, ◌⊎◌, true, ◌<◌, ◌≤◌, ◌+◌, ◌^◌, ◌++◌, ℕ, List, [], ◌∷◌, length, IfOk, OnOk};
 ghost use Rattle.std.proofs.Math.ListN.{get_or};
 ghost use Rattle.pq_deriv.specs.Parts.{first_part, behind_part, first_gap, behind_gap, first_set, behind_set, set_before, wide};
 
 use std::alloc::{AllocError, Global};
 
-/// The first part, and what is behind it; a part that the numbers cut short is as long as they are.
+/// The first part, and what is after it; a part that the numbers cut short is as long as they are.
 pub(crate) fn split_part(rest: &[u64]) -> (&[u64], &[u64])
     ensures part { result.0.now ≡ first_part rest.now }
     ensures behind { result.1.now ≡ behind_part rest.now }
@@ -17,7 +17,7 @@ pub(crate) fn split_part(rest: &[u64]) -> (&[u64], &[u64])
     behind.split_at(place)
 }
 
-/// How many empty sets stand first, and what stands behind that number.
+/// How many empty sets are first, and what is after that number.
 pub(crate) fn split_gap(rest: &[u64]) -> (u64, &[u64])
     ensures gap { result.0 ≡ first_gap rest.now }
     ensures behind { result.1.now ≡ behind_gap rest.now }
@@ -28,8 +28,8 @@ pub(crate) fn split_gap(rest: &[u64]) -> (u64, &[u64])
     (*gap, behind)
 }
 
-/// The first set, where so many empty ones stand first, and behind them this; then how many empty ones stand behind the first,
-/// and what stands behind that number.
+/// The first set, where this many empty ones are first, and after them this; then how many empty ones are after the first,
+/// and what is after that number.
 #[tactic(auto, using(crate::proofs::Spread::none_first, crate::proofs::Spread::behind_none))]
 pub(crate) fn split_set(gap: u64, left: &[u64]) -> (&[u64], u64, &[u64])
     ensures set { result.0.now ≡ first_set (gap ∷ left.now) }
@@ -45,7 +45,7 @@ pub(crate) fn split_set(gap: u64, left: &[u64]) -> (&[u64], u64, &[u64])
     (set, gap, behind)
 }
 
-/// How many of the operands from here on, of so many, have empty sets and can't begin: all where no set is left.
+/// How many of the operands from here on, of this many, have empty sets and can't begin: all where no set is left.
 pub(crate) fn idle(begins: bool, gap: u64, left: &[u64], operands: usize) -> usize
     ensures few { result ≤ operands }
     ensures begins { begins ≡ true → result ≡ 0 }
@@ -60,7 +60,7 @@ pub(crate) fn idle(begins: bool, gap: u64, left: &[u64], operands: usize) -> usi
     operands.min(gap as usize)
 }
 
-/// Appends the set behind so many empty ones, unless it is empty too. The answer is how many empty ones stand last then.
+/// Appends the set after this many empty ones, unless it is empty too. The answer is how many empty ones are last then.
 pub(crate) fn push_set(out: &mut Vec<u64>, empties: u64, set: &[u64]) -> Result<u64, AllocError>
     requires { empties + 1 < 2 ^ 64 }
     ensures set { IfOk result (λ n. (more : List ℕ) → out.new.items ++ wide n more ≡ out.old.items ++ wide empties (set_before set.now more)) }
@@ -74,7 +74,7 @@ pub(crate) fn push_set(out: &mut Vec<u64>, empties: u64, set: &[u64]) -> Result<
     Ok(0)
 }
 
-/// Appends the part behind its length.
+/// Appends the part after its length.
 pub(crate) fn push_part(out: &mut Vec<u64>, part: &[u64]) -> Result<(), AllocError>
     ensures { OnOk result (out.new.items ≡ out.old.items ++ (length part.now ∷ part.now)) }
 {

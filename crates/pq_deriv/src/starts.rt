@@ -55,7 +55,7 @@ fn begun(alloc: Global, start: &[u64]) -> Result<Vec<u64>, AllocError>
     Ok(out)
 }
 
-/// The rests that accept the words of the expressions, each behind its length.
+/// The rests that accept the words of the expressions, each after its length.
 #[cycle(starts)]
 fn start_each(alloc: Global, exprs: &[Expr]) -> Result<Vec<u64>, AllocError>
     ensures left { IfOk result (λ r. AreStarts (expr_trees exprs.now) r.items) }

@@ -42,7 +42,7 @@ pub(crate) fn step_rest(
     }
 }
 
-/// The rests after the half step, each behind its length.
+/// The rests after the half step, each after its length.
 #[cycle(steps)]
 fn step_each(
     alloc: Global,

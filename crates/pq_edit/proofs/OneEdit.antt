@@ -36,7 +36,7 @@ as_edit (LexTerm i) = Lex i
 as_edit (SyntaxTerm i) = Syntax i
 as_edit MemoryTerm = Memory
 
--- what is not want of memory
+-- what is not running out of memory
 abbrev IsText : TermFault → Type 0
 IsText (LexTerm i) = Unit {0}
 IsText (SyntaxTerm i) = Unit {0}
@@ -66,7 +66,7 @@ module _ (bytes : List ℕ) (d : DocumentTree) where
       let same : first.statement ≡ second.statement = one_forest EditSort bytes first.statement second.statement first.sentence second.sentence in
       ap fault_in (sym first.faulty ∙ ap (edit_of d bytes) same ∙ second.faulty)
 
-  -- the text has one fault, want of memory aside
+  -- the text has one fault, running out of memory aside
   pub one_edit_fault : (f g : DocumentFault) → IsEditFault bytes d f → IsEditFault bytes d g → (f ≡ Memory → ⊥) → (g ≡ Memory → ⊥) → f ≡ g
   one_edit_fault (Lex i) (Lex j) first second some other = same_fault bytes (LexTerm i) (LexTerm j) tt tt first second
   one_edit_fault (Lex i) (Syntax j) first second some other = same_fault bytes (LexTerm i) (SyntaxTerm j) tt tt first second

@@ -30,26 +30,26 @@ is_among name names = list_any (bytes_eq name) names
 abbrev pub keyword_at : ℕ → List (List ℕ) → Token → List ℕ → Reading Token
 keyword_at most names keyword name = unless keyword ((nat_le most (length names) && not (is_among name names), Many) ∷ []) keyword
 
--- what is put under the name; what is no name stands in no sentence
+-- what is put under the name; what is not a name is in no sentence
 abbrev pub put_under : {A : Type 0} → ℕ → (Tree → Reading A) → List (List ℕ) → Token → Token → Tree → Option (List ℕ) → Reading (Named A)
 put_under most read names keyword t body None = faulty t BadValue
 put_under most read names keyword t body (Some name) =
     next (keyword_at most names keyword name) (λ _.
     next (read body) (λ value. Ok (name, value)))
 
--- what a statement puts among what has these names, of which there is a most; statements without a name and a body stand in no sentence
+-- what a statement puts among what has these names, of which there is a most; statements without a name and a body are in no sentence
 abbrev pub put_of : {A : Type 0} → List ℕ → ℕ → (Tree → Reading A) → List (List ℕ) → Token → Forest → Reading (Named A)
 put_of bytes most read names keyword nothing = faulty keyword BadValue
 put_of bytes most read names keyword (grown name x nothing) = faulty keyword BadValue
 put_of bytes most read names keyword (grown name x (grown head below rest)) =
     put_under most read names keyword name (record { head = head; below = below }) (name_in (text_in bytes name))
 
--- the name of what is removed, which is one of these; what is no name stands in no sentence
+-- the name of what is removed, which is one of these; what is not a name is in no sentence
 abbrev pub removed_name : NameKind → List (List ℕ) → Token → Option (List ℕ) → Reading (List ℕ)
 removed_name kind names t None = faulty t BadValue
 removed_name kind names t (Some name) = unless t ((not (is_among name names), kind) ∷ []) name
 
--- the name after `remove part` or `remove query`; a removal without a name stands in no sentence
+-- the name after `remove part` or `remove query`; a removal without a name is in no sentence
 abbrev pub removed_of : List ℕ → NameKind → List (List ℕ) → Token → Forest → Reading (List ℕ)
 removed_of bytes kind names keyword nothing = faulty keyword BadValue
 removed_of bytes kind names keyword (grown name x rest) = removed_name kind names name (name_in (text_in bytes name))
@@ -61,7 +61,7 @@ remove_part d bytes keyword below = next (removed_of bytes UnknownPart (names_in
 abbrev pub remove_query : DocumentTree → List ℕ → Token → Forest → Reading EditTree
 remove_query d bytes keyword below = next (removed_of bytes UnknownQuery (names_in d.queries) keyword below) (λ name. Ok (QueryRemoved name))
 
--- what is removed from the document; what is neither a part nor a query stands in no sentence
+-- what is removed from the document; what is neither a part nor a query is in no sentence
 abbrev pub removal_at : DocumentTree → List ℕ → Token → Forest → Reading EditTree
 removal_at d bytes keyword below =
     if begins_with bytes PartWord keyword then remove_part d bytes keyword below
@@ -79,7 +79,7 @@ put_part d bytes keyword below = next (put_of bytes 1024 (policy_of d.topology b
 abbrev pub put_query : DocumentTree → List ℕ → Token → Forest → Reading EditTree
 put_query d bytes keyword below = next (put_of bytes 256 (query_of d.topology bytes) (names_in d.queries) keyword below) (λ q. Ok (QueryPut q))
 
--- the edit of a statement, by the keyword that begins it; no other statement stands in a sentence
+-- the edit of a statement, by the keyword that begins it; no other statement is in a sentence
 abbrev pub statement_of : DocumentTree → List ℕ → Token → Forest → Reading EditTree
 statement_of d bytes keyword below =
     if begins_with bytes PartWord keyword then put_part d bytes keyword below
@@ -104,7 +104,7 @@ pub record IsEditNameFault (bytes : List ℕ) (d : DocumentTree) (at : ℕ) (kin
   pub sentence : IsForestOf EditSort bytes statement
   pub faulty : edit_of d bytes statement ≡ Err (record { at = at; kind = kind })
 
--- the text spells no edit of the document: for what is no token, for tokens that are no sentence, or for what they name; or memory is wanting
+-- the text spells no edit of the document: for what is not a token, for tokens that are not sentence, or for what they name; or memory is wanting
 abbrev pub IsEditFault : List ℕ → DocumentTree → DocumentFault → Type 0
 IsEditFault bytes d (Lex at) = MeetsNoToken bytes at
 IsEditFault bytes d (Syntax at) = IsSyntaxFault EditSort bytes at

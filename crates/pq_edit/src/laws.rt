@@ -6,8 +6,8 @@ ghost use Rattle.pq_compile.specs.declared.fault.DocumentFault.TheVariants.{Memo
 ghost use Rattle.pq_edit.specs.Edits.{EditTree};
 ghost use Rattle.pq_edit.specs.Reading.{IsEditFault, SpellsEdit};
 
-/// A text spells one edit of a document at most; it is refused for one fault at most, want of memory aside; and a text that
-/// spells an edit is refused for want of memory only. It does nothing when it runs.
+/// A text spells one edit of a document at most; it is refused for one fault at most, running out of memory aside; and a text that
+/// spells an edit is refused because memory runs out only. It does nothing when it runs.
 pub fn has_one_edit()
     ensures edit { (bytes : List ℕ) (d : DocumentTree) (e f : EditTree) → SpellsEdit bytes d e → SpellsEdit bytes d f → e ≡ f }
     ensures fault { (bytes : List ℕ) (d : DocumentTree) (f g : DocumentFault) → IsEditFault bytes d f → IsEditFault bytes d g

@@ -93,7 +93,7 @@ fn remove_query(
     Ok(Edit::RemoveQuery(name))
 }
 
-/// The edit that removes what stands after `remove`: the keyword of its sort, and its name.
+/// The edit that removes what is after `remove`: the keyword of its sort, and its name.
 fn removal_at(
     keyword: &Token,
     children: &[Term<'_>],

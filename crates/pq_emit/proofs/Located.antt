@@ -20,7 +20,7 @@ use Rattle.pq_store.specs.Store.{HasAt, Keeps}
 use Rattle.pq_store.specs.Tree.{Tree}
 use Rattle.pq_emit.specs.Switches.{AreAllTrees, AreSwitchesAt, IsSwitchAt, trees_of}
 
--- at ids of trees of functions stand these trees
+-- at ids of trees of functions are these trees
 located : {A L : Type 0} (word : A → ℕ) (F : A → Numbers → L) (ts : List (Tree L)) (ks : List A) (ids : List (A × ℕ))
     → AllZip (λ k p. (p.0 ≡ k) × HasAt (IsTreeOf (F k)) ts p.1) ks ids
     → AllZip (λ k p. (p.0 ≡ word k) × IsTreeOf (F k) p.1) ks (trees_with ts (map (λ p. (word p.0, p.1)) ids))
@@ -58,7 +58,7 @@ pub all_located : (T : Topology) (g : Tagging) (writes : Departures) (firsts : L
     → AreSwitchesAt T g writes firsts seconds trees → AreAllTrees T g writes (trees_of firsts seconds trees)
 all_located T g writes firsts seconds trees all = each_located T g writes firsts seconds T.switches trees all
 
--- Stores that keep their ids keep what stands there.
+-- Stores that keep their ids keep what is there.
 
 kept_ids : {A L : Type 0} (F : A → Tree L → Type 0) (old new : List (Tree L)) → Keeps old new → (ks : List A) (ids : List (A × ℕ))
     → AllZip (λ k p. (p.0 ≡ k) × HasAt (F k) old p.1) ks ids → AllZip (λ k p. (p.0 ≡ k) × HasAt (F k) new p.1) ks ids

@@ -18,7 +18,7 @@ use Rattle.pq_store.specs.Tree.{Tree}
 use Rattle.pq_emit.specs.Network.{TestPortsOf}
 
 module _ {A L : Type 0} (F : A → Tree L → Type 0) where
-  -- the trees stand there, and test ports alone
+  -- the trees are there, and test ports alone
   placed : (ts : List (Tree L)) (ks : List A) (ids : List (A × ℕ)) → AllZip (λ k p. (p.0 ≡ k) × HasAt (F k) ts p.1) ks ids
       → All (λ p. TestPortsAt ts p.1) ids → All (λ p. HasAt TestsPortsOrZero ts p.1) ids
   placed ts [] [] all each = All-nil (λ p. HasAt TestsPortsOrZero ts p.1)

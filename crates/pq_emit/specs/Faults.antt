@@ -13,7 +13,7 @@ use Rattle.pq_rules.specs.Counts.{capped}
 use Rattle.pq_rules.specs.Refusals.{arriving_count, leaving_count, many_copies}
 use Rattle.pq_emit.specs.Switches.{AreAllTrees, TablesTrees}
 
--- a table of a switch with so many entries is too large
+-- a table of a switch with this many entries is too large
 abbrev pub full_table : ℕ → ℕ → ℕ → ℕ → Option RulesFault
 full_table datapath limit table entries = if nat_lt limit entries then Some (TableFull datapath table (capped entries)) else None
 
@@ -35,11 +35,11 @@ first_fault fault (s ∷ ss) (t ∷ ts) = option_or (fault s t) (first_fault fau
 abbrev pub fault_of : List Switch → List TablesTrees → Option RulesFault
 fault_of ss ts = option_or (first_fault table_fault ss ts) (first_fault group_fault ss ts)
 
--- the fault is want of memory, or that of the trees
+-- the fault is running out of memory, or that of the trees
 abbrev pub IsFaultOf : List Switch → List TablesTrees → RulesFault → Type 0
 IsFaultOf ss ts fault = (fault ≡ Memory) ⊎ (fault_of ss ts ≡ Some fault)
 
--- the fault of an entry with so many copies, if one was met, or else that of the trees
+-- the fault of an entry with this many copies, if one was met, or else that of the trees
 abbrev pub met_fault : Option (ℕ × ℕ) → Option RulesFault
 met_fault full = option_map (λ p. GroupFull p.0 p.1) full
 
@@ -49,12 +49,12 @@ pub record AreTooLarge (T : Topology) (g : Tagging) (writes : Departures) (fault
   pub all : AreAllTrees T g writes trees
   pub first : fault_of T.switches trees ≡ Some fault
 
--- why there is no install; want of memory may come at any time
+-- why there is no install; running out of memory may come at any time
 abbrev pub IsEmitFault : Topology → Tagging → Departures → RulesFault → Type 0
 IsEmitFault T g writes (TableFull datapath table entries) = AreTooLarge T g writes (TableFull datapath table entries)
 IsEmitFault T g writes (GroupFull datapath copies) = AreTooLarge T g writes (GroupFull datapath copies)
 IsEmitFault T g writes Memory = Unit {0}
 
--- there is no other reason than want of memory
+-- there is no other reason than running out of memory
 abbrev pub HasNoFault : Topology → Tagging → Departures → Type 0
 HasNoFault T g writes = (fault : RulesFault) → IsEmitFault T g writes fault → fault ≡ Memory

@@ -12,7 +12,7 @@ use Rattle.pq_model.specs.TablesMachine.{Report}
 abbrev pub AreHeldBelow : ℕ → Machine → Type 0
 AreHeldBelow n m = (c : ℕ) → c < length m.rows → Ascends (accepted_at m c) × All (λ i. i < n) (accepted_at m c)
 
--- at most 1,024 instances in ascending order, each of one of so many queries
+-- at most 1,024 instances in ascending order, each of one of this many queries
 pub record AreInstances (queries : ℕ) (instances : List Instance) : Type 0 where
   pub few : length instances ≤ 1024
   pub ascend : AscendsBy instance_numbers instances

@@ -27,13 +27,13 @@ abbrev pub AreTreesAt :
 AreTreesAt T forward policy a m firsts seconds trees =
     (p : Tree (List Written)) → slice_get forward policy ≡ Some p → AreSwitchesAt T (tagging_of a m) (departing T (value p)) firsts seconds trees
 
--- so it is for the tags of the classes, over whatever letters, and for all departures whose trees stand at the ids
+-- so it is for the tags of the classes, over whatever letters, and for all departures whose trees are at the ids
 abbrev pub IfTreesAt : Topology → Machine → List (Tree (Option Arrive)) → List (Tree (List Outgoing)) → List SwitchTrees
     → (Tagging → Departures → Type 0) → Type 0
 IfTreesAt T m firsts seconds trees Holds =
     (a : LettersValue) (writes : Departures) → AreSwitchesAt T (tagging_of a m) writes firsts seconds trees → Holds (tagging_of a m) writes
 
--- each test of the layout's trees stands below its prerequisites
+-- each test of the layout's trees is below its prerequisites
 abbrev pub StandBelowAll : Topology → Tagging → Departures → Type 0
 StandBelowAll T g writes =
     (d : ℕ) → d < 2 ^ 64

@@ -11,7 +11,7 @@ module _ {A : Type 0} where
       let one : i + 1 ≡ suc i = omega arith in
       sym (take-append-drop i (slice_set xs i x)) ∙ ap₂ (λ front back. front ++ back) (take-set xs i x) (drop-set xs i x within ∙ ap (λ j. x ∷ drop j xs) one)
 
-  -- what stands in a place is put back
+  -- what is in a place is put back
   pub put_again : (i : ℕ) (new : A) (xs : List A) → i ≤ length xs → replaced i (take 1 (drop i xs)) (replaced i (new ∷ []) xs) ≡ xs
   put_again zero new [] within = refl
   put_again zero new (x ∷ xs) within = refl
@@ -44,7 +44,7 @@ module _ {A : Type 0} where
   removed_long (suc i) [] within = absurd (omega arith)
   removed_long (suc i) (x ∷ xs) within = ap suc (removed_long i xs (omega arith))
 
-  -- where nothing stood in a place, it is the last one
+  -- where nothing was in a place, it is the last one
   pub put_last : (i : ℕ) (new : A) (xs : List A) → i ≤ length xs → [] ≡ take 1 (drop i xs) → length (replaced i (new ∷ []) xs) ≡ suc i
   put_last zero new [] within none = refl
   put_last zero new (x ∷ xs) within none = absurd cc

@@ -22,7 +22,7 @@ pub(crate) fn place_of<T>(named: &[(Name, T)], name: &Name) -> usize
     named.len()
 }
 
-/// Puts what is named into a place; gives what stood there.
+/// Puts what is named into a place; gives what was there.
 #[tactic(auto, using(crate::proofs::PlacesLemmas::set_is))]
 pub(crate) fn put_at<T: Drop>(
     named: &mut Vec<(Name, T)>,
@@ -42,7 +42,7 @@ pub(crate) fn put_at<T: Drop>(
     Ok(None)
 }
 
-/// Puts back what stood in a place; nothing stood in the last one where it was behind the others.
+/// Puts back what was in a place; nothing was in the last one where it was after the others.
 #[tactic(auto, using(crate::proofs::PlacesLemmas::set_is))]
 pub(crate) fn put_back<T: Drop>(named: &mut Vec<(Name, T)>, place: usize, old: Option<(Name, T)>)
     requires place { place < length named.old.items }
@@ -57,7 +57,7 @@ pub(crate) fn put_back<T: Drop>(named: &mut Vec<(Name, T)>, place: usize, old: O
     }
 }
 
-/// Takes what stands in a place out.
+/// Takes what is in a place out.
 pub(crate) fn remove_at<T: Drop>(named: &mut Vec<(Name, T)>, place: usize) -> (Name, T)
     requires { place < length named.old.items }
     ensures removed { named.new.items ≡ replaced place [] named.old.items }

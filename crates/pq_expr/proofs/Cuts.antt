@@ -6,7 +6,7 @@ use Rattle.std.proofs.lemmas.Bool.{or_left, or_right, and_parts, or_cases}
 use Rattle.pq_expr.specs.Word.{HalfStep, Word}
 use Rattle.pq_expr.specs.Language.{Language, Cut, cuts, joined, in_pieces, repeated}
 
--- what a language holds behind a half step
+-- what a language holds after a half step
 abbrev pub after : HalfStep → Language → Language
 after l P w = P (l ∷ w)
 
@@ -15,7 +15,7 @@ pub any_changed : {A B : Type 0} (f : A → B) (t : B → Bool) (xs : List A) �
 any_changed f t [] = refl
 any_changed f t (x ∷ xs) = rw (any_changed f t xs) refl
 
--- a word that isn't empty is cut at its front, or behind its first half step
+-- a word that isn't empty is cut at its front, or after its first half step
 pub joined_cons : (P Q : Language) (l : HalfStep) (w : Word) → joined P Q (l ∷ w) ≡ ((P [] && Q (l ∷ w)) || joined (after l P) Q w)
 joined_cons P Q l w = rw (any_changed {B = Cut} (λ c. record { before = l ∷ c.before; behind = c.behind }) (λ c. P c.before && Q c.behind) (cuts w)) refl
 
@@ -26,7 +26,7 @@ joined_empty P Q = by (P [] && Q []) where
   by true = refl
   by false = refl
 
--- a cut stays one where the second language holds more of what can stand behind it
+-- a cut stays one where the second language holds more of what can be after it
 pub joined_wider : (w : Word) (P Q R : Language) → ((v : Word) → length v ≤ length w → Q v ≡ true → R v ≡ true) → joined P Q w ≡ true → joined P R w ≡ true
 joined_wider [] P Q R wider h = let cut = and_parts (P []) (Q []) (sym (joined_empty P Q) ∙ h) in joined_empty P R
     ∙ rw (cut.0, wider [] (omega arith) cut.1) refl
@@ -54,7 +54,7 @@ enough_pieces (suc n) (suc k) P (l ∷ w) few h =
 pub any_number : (P : Language) (n : ℕ) (w : Word) → in_pieces P n w ≡ true → repeated P w ≡ true
 any_number P n w h = enough_pieces n (length w) P w (omega arith) h
 
--- behind a half step, pieces are what is left of the first that isn't empty, and then pieces
+-- after a half step, pieces are what is left of the first that isn't empty, and then pieces
 pieces_later : (n : ℕ) (P : Language) (l : HalfStep) (w : Word) → in_pieces P n (l ∷ w) ≡ true → joined (after l P) (repeated P) w ≡ true
 pieces_later zero P l w h = absurd (search (h, rules))
 pieces_later (suc n) P l w h =
@@ -68,6 +68,6 @@ pieces_sooner P l w h = joined_cons P (in_pieces P (length w)) l w
     ∙ or_right _ _ (joined_wider w (after l P) (repeated P) (in_pieces P (length w))
     (λ v short. enough_pieces (length v) (length w) P v short) h)
 
--- behind a half step, a repetition is what is left of a word, and then the repetition
+-- after a half step, a repetition is what is left of a word, and then the repetition
 pub repeated_cons : (P : Language) (l : HalfStep) (w : Word) → repeated P (l ∷ w) ≡ joined (after l P) (repeated P) w
 repeated_cons P l w = both_ways _ _ (pieces_later (suc (length w)) P l w) (pieces_sooner P l w)

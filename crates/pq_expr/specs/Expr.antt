@@ -4,7 +4,7 @@ use Rattle.pq_expr.specs.declared.expr.Expr.{Expr}
 use Rattle.pq_expr.specs.declared.expr.Expr.TheOpen.{Expr-F}
 use Rattle.pq_expr.specs.declared.expr.Expr.TheFolds.{fold-Expr}
 
--- what stands at the top of an expression: no word, the empty word, a half step of which a predicate holds, or an operator
+-- what is at the top of an expression: no word, the empty word, a half step of which a predicate holds, or an operator
 pub data ExprTop : Type 0 where
   NoWord : ExprTop
   EmptyWord : ExprTop

@@ -44,7 +44,7 @@ abbrev pub in_turn : List Language → Language
 in_turn [] = is_empty
 in_turn (P ∷ Ps) = joined P (in_turn Ps)
 
--- the word is cut into at most so many words of the language
+-- the word is cut into at most this many words of the language
 abbrev pub in_pieces : Language → ℕ → Language
 in_pieces P zero w = is_empty w
 in_pieces P (suc n) w = is_empty w || joined P (in_pieces P n) w

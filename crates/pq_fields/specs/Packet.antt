@@ -171,7 +171,7 @@ abbrev pub numbers : Numbers → List ℕ
 numbers x = x.switch ∷ x.port ∷ x.eth_type ∷ x.ip_proto ∷ x.eth_src ∷ x.eth_dst ∷ x.ipv4_src ∷ x.ipv4_dst ∷ x.tcp_src ∷ x.tcp_dst ∷
     x.udp_src ∷ x.udp_dst ∷ x.ipv6_src ∷ x.ipv6_dst ∷ []
 
--- the order of lists of numbers: the first that differs decides, and a list stands before each that it begins
+-- the order of lists of numbers: the first that differs decides, and a list is before each that it begins
 abbrev pub is_before : List ℕ → List ℕ → Bool
 is_before xs [] = false
 is_before [] (y ∷ ys) = true

@@ -7,7 +7,7 @@ use Rattle.pq_fields.specs.declared.pred.Pred.TheOpen.{Pred-F}
 use Rattle.pq_fields.specs.declared.pred.Pred.TheFolds.{fold-Pred}
 use Rattle.pq_fields.specs.Packet.{Numbers, has_field, number_in, width_of, is_wide, rank}
 
--- what stands at the top of a predicate
+-- what is at the top of a predicate
 pub data PredTop : Type 0 where
   Always : PredTop
   Never : PredTop
@@ -53,11 +53,11 @@ pred_tree = fold-Pred PredTree pred_step
 abbrev pub pred_trees : List Pred → Preds
 pred_trees ps = preds (map pred_tree ps)
 
--- the leading bits of a number of the field, so many
+-- the leading bits of a number of the field, this many
 abbrev pub leading : Field → ℕ → ℕ → ℕ
 leading f len n = n / 2 ^ (width_of f - len)
 
--- whether what stands at the top holds of the packet, given whether the operands do
+-- whether what is at the top holds of the packet, given whether the operands do
 abbrev pub is_true : PredTop → List Bool → Numbers → Bool
 is_true Always bs x = true
 is_true Never bs x = false

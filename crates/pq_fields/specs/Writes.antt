@@ -129,7 +129,7 @@ diff x y =
           changed UdpDst x y;
     }
 
--- a number to write as a number: None stands below all
+-- a number to write as a number: None is below all
 abbrev pub place_of : Option ℕ → ℕ
 place_of None = 0
 place_of (Some n) = suc n

@@ -71,7 +71,7 @@ impl Packet {
         }
     }
 
-    /// The number in a field that is no IPv6 address.
+    /// The number in a field that is not an IPv6 address.
     pub fn get(&self, field: Field) -> u64
         requires { is_wide field ≡ false }
         ensures { result ≡ number_in field self.now }
@@ -112,7 +112,7 @@ impl Packet {
         (self.number(field) >> (width(field) - 1 - u32::from(index))) % 2 == 1
     }
 
-    /// The packet with `value` in a field that is no IPv6 address; `value` fits the field's width.
+    /// The packet with `value` in a field that is not an IPv6 address; `value` fits the field's width.
     pub fn with(mut self, field: Field, value: u64) -> Packet
         requires fits { value < 2 ^ width_of field }
         requires narrow { is_wide field ≡ false }
@@ -151,7 +151,7 @@ impl Packet {
 }
 
 /// Each number of a packet fits the width of its field. It does nothing when it runs: a caller that
-/// holds a packet behind a reference calls `fits(*x)` to know this of it.
+/// holds a packet after a reference calls `fits(*x)` to know this of it.
 pub fn fits(x: Packet)
     ensures { Fit x }
 {}

@@ -11,9 +11,9 @@ pub enum Pred {
     False,
     /// The field's number is this one.
     Equal(Field, u64),
-    /// The leading bits of an IPv4 address, so many, are those of this address.
+    /// The leading bits of an IPv4 address, this many, are those of this address.
     Prefix(Field, u32, u8),
-    /// The leading bits of an IPv6 address, so many, are those of this address.
+    /// The leading bits of an IPv6 address, this many, are those of this address.
     Wide(Field, u128, u8),
     And(Vec<Pred>),
     Or(Vec<Pred>),

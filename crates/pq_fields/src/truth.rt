@@ -60,14 +60,14 @@ fn equals(field: Field, value: u64, x: &Packet) -> bool
     has(field, x) && x.number(field) == u128::from(value)
 }
 
-/// Whether the packet has the field, with a number whose leading bits, so many, are those of this one.
+/// Whether the packet has the field, with a number whose leading bits, this many, are those of this one.
 fn leads(field: Field, value: u128, len: u8, x: &Packet) -> bool
     ensures { result ≡ (has_field field x.now && (leading field len (number_in field x.now) == leading field len value)) }
 {
     has(field, x) && leading(field, len, x.number(field)) == leading(field, len, value)
 }
 
-/// The leading bits of a field's number, so many.
+/// The leading bits of a field's number, this many.
 fn leading(field: Field, len: u8, number: u128) -> u128
     ensures { result ≡ leading field len number }
 {

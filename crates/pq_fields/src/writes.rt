@@ -25,7 +25,7 @@ use std::marker::Model;
 /// a field without a number stays as it is. Each number fits the width of its field.
 ///
 /// Writes are ordered by their numbers in field order: the first field that differs decides, and no
-/// number stands below every number.
+/// number is below every number.
 #[derive(Clone, Copy, Debug, PartialEq, Eq, PartialOrd, Ord, Hash)]
 pub struct Writes {
     pub port: Option<u64>,

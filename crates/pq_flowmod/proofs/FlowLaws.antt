@@ -46,7 +46,7 @@ unfolding goto_bytes
 goes_on None bytes is long = absurd (omega (arith, ap length is, long))
 goes_on (Some table) bytes is long = ap (λ (bs : List ℕ). Some (get_or bs 4 0)) is
 
--- the match that stands behind the numbers
+-- the match that is after the numbers
 pub match_next : (body : List ℕ) (found m : MatchFields) (end : ℕ) (more : List ℕ) → IsLawfulMatch found → IsLawfulMatch m →
     StandsAt body 40 (match_bytes found) → end ≡ 40 + length (match_bytes found) → drop 40 body ≡ match_bytes m ++ more → (found ≡ m) × (drop end body ≡ more)
 match_next body found m end more law other stands ends is =

@@ -15,7 +15,7 @@ Leads {A} spelling IsLawful bytes read rest = (whole : List A) → All IsLawful 
 pub nothing_read : {A : Type 0} (spelling : A → List ℕ) (IsLawful : A → Type 0) (bytes : List ℕ) → Leads spelling IsLawful bytes [] bytes
 nothing_read spelling IsLawful bytes whole law is = (whole, refl, law, is)
 
--- the first thing that the rest spells, and what it spells behind it
+-- the first thing that the rest spells, and what it spells after it
 next_of : {A : Type 0} (spelling : A → List ℕ) (IsLawful : A → Type 0) (rest : List ℕ) (left : List A) → 0 < length rest → All IsLawful left
     → rest ≡ flat_map spelling left →
     (a : A) × (others : List A) × (left ≡ a ∷ others) × IsLawful a × All IsLawful others × (rest ≡ spelling a ++ flat_map spelling others)

@@ -77,7 +77,7 @@ first_bucket a b more others law other same =
 one_bucket_list : (as_ bs : List (List Action)) → All IsReadable as_ → All IsReadable bs → flat_map bucket_bytes as_ ≡ flat_map bucket_bytes bs → as_ ≡ bs
 one_bucket_list = one_list bucket_bytes IsReadable bucket_long first_bucket
 
--- instructions tell the bytes of the actions, and what stands behind them
+-- instructions tell the bytes of the actions, and what is after them
 one_parting : (as_ bs : List Action) (g h : Option ℕ) → length (apply_bytes as_ ++ goto_bytes g) < 2 ^ 16 → length (apply_bytes bs ++ goto_bytes h) < 2 ^ 16 →
     apply_bytes as_ ++ goto_bytes g ≡ apply_bytes bs ++ goto_bytes h → (actions_bytes as_ ≡ actions_bytes bs) × (goto_bytes g ≡ goto_bytes h)
 one_parting as_ bs g h short other same =

@@ -1,4 +1,4 @@
--- The parts of the spellings of messages, and where they stand.
+-- The parts of the spellings of messages, and where they are.
 use Rattle.std.proofs.Common.{◌≡◌, ℕ, ◌+◌, ◌-◌, ◌^◌, ◌<◌, ◌≤◌, List, [], ◌∷◌, ◌++◌, length, get_or, take, drop, replicate, Some, refl, sym}
 use Rattle.std.proofs.Common.{ap, subst, ◌∙◌, append_assoc, arith, inl, inr}
 use Rattle.std.specs.Prelude.{All}
@@ -21,7 +21,7 @@ use Rattle.pq_model.specs.Spelling.{group_body, with_header, message_bytes}
 use Rattle.pq_flowmod.specs.Reading.{IsReadable, message_kind, message_xid, message_body}
 use Rattle.pq_oxm.proofs.Numbers.{reads_16, reads_32}
 
--- a bucket tells its length, and its actions stand behind its header
+-- a bucket tells its length, and its actions are after its header
 pub record IsBucket (bytes actions : List ℕ) (size : ℕ) : Type 0 where
   pub told : from_be_bytes w16 (get_or bytes 0 0 ∷ get_or bytes 1 0 ∷ []) ≡ size
   pub long : 16 ≤ size
@@ -68,7 +68,7 @@ has_actions a others behind short =
       rest = drop_at (0 ∷ 4 ∷ (to_be_bytes w16 count ++ replicate 4 0 ++ spelled)) behind count (omega arith);
     }
 
--- a flow mod behind its header
+-- a flow mod after its header
 pub record IsFlow (body : List ℕ) (f : FlowValue) : Type 0 where
   pub long : 40 ≤ length body
   pub cookie : f.cookie < 2 ^ 64 → from_be_bytes w64 (take 8 body) ≡ f.cookie
@@ -99,7 +99,7 @@ flow_parted body f is =
       rest = refl;
     })
 
--- a group mod behind its header
+-- a group mod after its header
 pub record IsGroup (body : List ℕ) (g : GroupValue) : Type 0 where
   pub long : 8 ≤ length body
   pub command : get_or body 1 0 ≡ group_code g.command
@@ -115,7 +115,7 @@ group_parted body g is = rw is (record {
   rest = refl;
 })
 
--- a message: its header, and what stands behind it
+-- a message: its header, and what is after it
 pub record IsMessage (bytes : List ℕ) (m : Message) : Type 0 where
   pub kind : get_or bytes 1 0 ≡ message_kind m
   pub told : from_be_bytes w16 (get_or bytes 2 0 ∷ get_or bytes 3 0 ∷ []) ≡ 8 + length (message_body m)

@@ -11,7 +11,7 @@ use Rattle.pq_flowmod.specs.declared.reading.MessageFault.TheVariants.{BadMessag
 abbrev pub HasNoMessageAt : List ℕ → ℕ → Type 0
 HasNoMessageAt bytes at = (m : Message) → IsLawfulMessage m → StandsAt bytes at (message_bytes m) → ⊥
 
--- a message is refused at its place where none is spelled there, or for want of memory
+-- a message is refused at its place where none is spelled there, or because memory runs out
 abbrev pub IsMessageFault : List ℕ → ℕ → MessageFault → Type 0
 IsMessageFault bytes at (BadMessage place) = (place ≡ at) × HasNoMessageAt bytes at
 IsMessageFault bytes at Memory = Unit {0}

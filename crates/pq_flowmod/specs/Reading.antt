@@ -16,7 +16,7 @@ use Rattle.pq_oxm.specs.Reading.{mac_number}
 abbrev pub number_at : ℕ → ℕ → List ℕ → List ℕ
 number_at place size bytes = take size (drop place bytes)
 
--- the field that a set-field sets, by the third byte of its OXM field, and the number behind that field's header
+-- the field that a set-field sets, by the third byte of its OXM field, and the number after that field's header
 unfoldable pub set_in : List ℕ → Option Action
 set_in bytes =
     let field = get_or bytes 6 0 / 2 in
@@ -42,7 +42,7 @@ action_in bytes =
     else if kind == 25 then (if nat_lt (length bytes) 16 then None else set_in bytes)
     else None
 
--- the type of a message, its transaction id, and what stands behind its header
+-- the type of a message, its transaction id, and what is after its header
 abbrev pub message_kind : Message → ℕ
 message_kind (Flow f) = 14
 message_kind (Grouping g) = 15

@@ -12,7 +12,7 @@ use pq_model::Action;
 use pq_oxm::{mac_of, oxm_field, u16_of, u32_of};
 use std::alloc::{AllocError, Global};
 
-// The length of an action that stands at the front, as it tells it itself.
+// The length of an action that is at the front, as it tells it itself.
 fn action_len(bytes: &[u8]) -> Option<usize>
     ensures within { IfSome result (λ size. (8 ≤ size) × (size ≤ length bytes.now)) }
     ensures told { (a : Action) (more : List ℕ) → IsLawfulAction a → bytes.now ≡ action_bytes a ++ more → result ≡ Some (length (action_bytes a)) }

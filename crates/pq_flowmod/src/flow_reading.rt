@@ -24,7 +24,7 @@ use pq_oxm::{MatchFault, keeps_rules, read_match, u16_of, u64_of};
 use std::alloc::{AllocError, Global};
 
 // The bytes of the actions that the first instruction applies, none where it applies none, and what
-// stands behind it.
+// is after it.
 fn applied(bytes: &[u8]) -> Option<(&[u8], &[u8])>
     ensures { (actions : List Action) (goto : Option ℕ) → length (apply_bytes actions ++ goto_bytes goto) < 2 ^ 16
         → bytes.now ≡ apply_bytes actions ++ goto_bytes goto
@@ -74,7 +74,7 @@ fn instructions_of(
     Ok(Some((actions, goto_of(parts.1))))
 }
 
-// The match that stands behind the forty bytes of numbers, and the byte behind it.
+// The match that is after the forty bytes of numbers, and the byte after it.
 fn matching_of(alloc: Global, body: &[u8]) -> Result<Option<(Match, usize)>, AllocError>
     ensures within { IfOk result (λ found. IfSome found (λ x. x.1 ≤ length body.now)) }
     ensures said { IfOk result (λ found. (m : MatchFields) (more : List ℕ) → IsLawfulMatch m → drop 40 body.now ≡ match_bytes m ++ more
@@ -174,7 +174,7 @@ fn command_of(code: u8) -> Option<FlowCommand>
     }
 }
 
-/// The lawful flow mod whose spelling the bytes are behind the header (OpenFlow 1.3.5, section 7.3.4.1).
+/// The lawful flow mod whose spelling the bytes are after the header (OpenFlow 1.3.5, section 7.3.4.1).
 /// Where they are none's, it may be any or none.
 pub fn flow_of(alloc: Global, xid: u32, body: &[u8]) -> Result<Option<FlowMod>, AllocError>
     ensures lawful { IfOk result (λ found. IfSome found IsLawfulFlow) }

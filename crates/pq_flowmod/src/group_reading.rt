@@ -15,7 +15,7 @@ use pq_model::{Action, GroupCommand, GroupMod};
 use pq_oxm::u32_of;
 use std::alloc::{AllocError, Global};
 
-// The length of a bucket that stands at the front, as it tells it itself.
+// The length of a bucket that is at the front, as it tells it itself.
 fn bucket_len(bytes: &[u8]) -> Option<usize>
     ensures within { IfSome result (λ size. (16 ≤ size) × (size ≤ length bytes.now)) }
     ensures told { (actions : List Action) (more : List ℕ) → length (bucket_bytes actions) < 2 ^ 16
@@ -127,7 +127,7 @@ fn filled(
     }))
 }
 
-/// The lawful group mod whose spelling the bytes are behind the header (OpenFlow 1.3.5, section 7.3.4.2).
+/// The lawful group mod whose spelling the bytes are after the header (OpenFlow 1.3.5, section 7.3.4.2).
 /// Where they are none's, it may be any or none.
 pub fn group_of(alloc: Global, xid: u32, body: &[u8]) -> Result<Option<GroupMod>, AllocError>
     ensures lawful { IfOk result (λ found. IfSome found IsLawfulGroup) }

@@ -129,9 +129,9 @@ fn message_in(alloc: Global, bytes: &[u8]) -> Result<Option<(Message, usize)>, A
     Ok(Some((message, length)))
 }
 
-/// The message that is spelled at byte `at`, and the byte behind it (OpenFlow 1.3.5, sections 7.1, 7.3.4
+/// The message that is spelled at byte `at`, and the byte after it (OpenFlow 1.3.5, sections 7.1, 7.3.4
 /// and 7.3.8). A message has one spelling, so what is read as a message is taken only if its spelling
-/// stands there. `BadMessage` comes exactly where no message is spelled at `at`.
+/// is there. `BadMessage` comes exactly where no message is spelled at `at`.
 pub fn read_message(
     alloc: Global,
     bytes: &[u8],

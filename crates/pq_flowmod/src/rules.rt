@@ -68,7 +68,7 @@ fn are_lawful(actions: &[Action]) -> bool
     true
 }
 
-/// Whether an entry may stand in a table of this number.
+/// Whether an entry may be in a table of this number.
 pub fn is_table(number: u8) -> bool
     ensures { IsTrue result ↔ (number ≤ 254) }
 {
@@ -148,7 +148,7 @@ fn place(action: Action) -> u8
     }
 }
 
-// Whether the actions stand in their places, each at most once.
+// Whether the actions are in their places, each at most once.
 fn are_placed(actions: &[Action]) -> bool
     ensures { IsTrue result ↔ Ascends (map bucket_place actions.now) }
 {
@@ -169,7 +169,7 @@ fn end_with_output(actions: &[Action]) -> bool
     matches!(actions, [.., Action::Output(_)])
 }
 
-// Whether the actions may stand in a bucket.
+// Whether the actions may be in a bucket.
 fn is_bucket(actions: &[Action]) -> bool
     ensures { IsTrue result ↔ IsLawfulBucket actions.now }
 {
@@ -182,7 +182,7 @@ fn is_bucket(actions: &[Action]) -> bool
     end_with_output(actions)
 }
 
-// Whether each bucket's actions may stand in a bucket.
+// Whether each bucket's actions may be in a bucket.
 fn each_is_bucket(buckets: &[Vec<Action>]) -> bool
     ensures { IsTrue result ↔ All IsLawfulBucket (map (λ b. b.items) buckets.now) }
 {
@@ -194,7 +194,7 @@ fn each_is_bucket(buckets: &[Vec<Action>]) -> bool
     true
 }
 
-/// Whether there is a bucket, and each one's actions may stand in a bucket.
+/// Whether there is a bucket, and each one's actions may be in a bucket.
 pub fn are_buckets(buckets: &[Vec<Action>]) -> bool
     ensures { IsTrue result ↔ HasBuckets (map (λ b. b.items) buckets.now) }
 {

@@ -46,7 +46,7 @@ IsOfPort s = rank (field_of s) ≡ 1
 of_ports : (ps : List ℕ) (t : Tree (List Written)) → IsSpread ps t → (s : Test) → IsTested s t → IsOfPort s
 of_ports ps t spread s tested = let (k, p, within, at, is) = spread.tests s tested in ap (λ q. rank (field_of q)) is
 
--- the test of a switch stands before them
+-- the test of a switch is before them
 before_ports : (d : ℕ) (t : Tree (List Written)) → ((s : Test) → IsTested s t → IsOfPort s) → IsBefore (Equal Switch d) t
 before_ports d (Tip l) only = tt
 before_ports d (Fork s y n) only = let port = only s (inl refl) in inl (omega (arith, port))
@@ -95,7 +95,7 @@ module _ (s : SwitchValue) (met : List SwitchValue) (y n : Tree (List Written)) 
   abbrev here : Test
   here = Equal Switch s.datapath
 
-  -- it stands before the trees over its ports and over the other switches
+  -- it is before the trees over its ports and over the other switches
   fork_ascends : Ascends (Fork here y n)
   fork_ascends = (before_ports s.datapath y (of_ports s.ports y spread), over.first s.datapath lawful.rise, spread.ascends, over.ascends)
 
@@ -109,7 +109,7 @@ module _ (s : SwitchValue) (met : List SwitchValue) (y n : Tree (List Written)) 
       let own = into s (contains_first s met) in
       fork_within ns here y n own.0 (spread.covers ns own.1).tests (over.flood.covers ns (λ r there. into r (contains_later r s met there))).tests
 
-  -- so it may stand there
+  -- so it may be there
   flood_joins : IsJoinable here y n
   flood_joins =
       let ns = numbers_of (datapaths (s ∷ met)) (ports (s ∷ met)) in
@@ -174,7 +174,7 @@ module _ (s : SwitchValue) (met : List SwitchValue) (y n : Tree (List Written)) 
 
 -- The trees at their places.
 
--- the tree at a place floods at the switches behind these
+-- the tree at a place floods at the switches after these
 pub record IsFloodBehind (front ss : List SwitchValue) (ts : List (Tree (List Written))) (k : ℕ) : Type 0 where
   pub met : List SwitchValue
   pub all : ss ≡ front ++ met
@@ -200,7 +200,7 @@ behind_within front ss ts k behind = slice_get_within ts k behind.has.0 behind.h
 
 module _ (front : List SwitchValue) (s : SwitchValue) (T : Topology) (ts : List (Tree (List Written))) (k : ℕ)
     (behind : IsFloodBehind (push front s) T.switches ts k) (named : IsNamedTopology T) where
-  -- the switch stands before those met
+  -- the switch is before those met
   parts : T.switches ≡ front ++ s ∷ behind.met
   parts = behind.all ∙ append_assoc front (s ∷ []) behind.met
 
@@ -209,7 +209,7 @@ module _ (front : List SwitchValue) (s : SwitchValue) (T : Topology) (ts : List 
   behind_lawful = lawful_there T front s behind.met named parts
 
   module _ (i : ℕ) (there : HasAt (IsSpread s.ports) ts i) where
-    -- its test may stand before the tree
+    -- its test may be before the tree
     pub behind_joins : (y n : Tree (List Written)) → slice_get ts i ≡ Some y → slice_get ts k ≡ Some n → IsJoinable (Equal Switch s.datapath) y n
     behind_joins =
         sides_join ts (Equal Switch s.datapath) i k there.0 behind.has.0 there.1 behind.has.1

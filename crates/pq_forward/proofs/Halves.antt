@@ -1,4 +1,4 @@
--- What policies give together, from what the first of them and those behind these give.
+-- What policies give together, from what the first of them and those after these give.
 use Rattle.std.proofs.Common.{ℕ, ◌+◌, ◌<◌, ◌≤◌, ◌≡◌, ◌∙◌, suc, List, [], ◌∷◌, ◌++◌, map, take, drop, length, length-append, get_or, inl}
 use Rattle.std.proofs.Common.{inr, refl, sym, ap, subst, arith}
 use Rattle.std.specs.Prelude.{◌⊎◌, ◌↔◌}
@@ -21,7 +21,7 @@ halves_of ps front back m front_is back_is =
     ∙ ap policies (map-append policy_tree front back)))
 
 module _ (T : Topology) where
-  -- any one of all is any one of the first or of those behind them
+  -- any one of all is any one of the first or of those after them
   pub either_halves : (ps qs : List PolicyTree) (x y : Numbers)
       → Yields T (policies (ps ++ qs)) AnyOne x y ↔ (Yields T (policies ps) AnyOne x y ⊎ Yields T (policies qs) AnyOne x y)
   either_halves ps qs x y = (into ps, back ps)
@@ -38,7 +38,7 @@ module _ (T : Topology) where
       back (z ∷ zs) (inl (inr front)) = inr (back zs (inl front))
       back (z ∷ zs) (inr later) = inr (back zs (inr later))
 
-  -- all in turn are the first and then those behind them
+  -- all in turn are the first and then those after them
   pub turn_halves : (ps qs : List PolicyTree) (x y : Numbers)
       → Yields T (policies (ps ++ qs)) Chained x y ↔ ((z : Numbers) × Yields T (policies ps) Chained x z × Yields T (policies qs) Chained z y)
   turn_halves ps qs x y = (into ps x, back ps x)
@@ -64,7 +64,7 @@ module _ (T : Topology) where
       back : Yields T (policies (p ∷ [])) Chained x y → yields T p x y
       back (z, given, is) = subst (λ v. yields T p x v) (sym is) given
 
--- numbers of all are those of the first and of those behind them
+-- numbers of all are those of the first and of those after them
 pub within_halves : (ns : Field → List ℕ) (ps qs : List PolicyTree) → ArePoliciesWithin ns (policies (ps ++ qs))
     → ArePoliciesWithin ns (policies ps) × ArePoliciesWithin ns (policies qs)
 within_halves ns [] qs within = (tt, within)
@@ -75,7 +75,7 @@ pub lawful_halves : (ps qs : List PolicyTree) → AreLawfulPolicies (policies (p
 lawful_halves [] qs lawful = (tt, lawful)
 lawful_halves (p ∷ ps) qs lawful = let rest = lawful_halves ps qs lawful.2 in ((lawful.0, lawful.1, rest.0), rest.1)
 
--- so the first fit where all do, and those behind them
+-- so the first fit where all do, and those after them
 pub fit_halves : (T : Topology) (ps qs : List PolicyTree) → FitAsForwards T (policies (ps ++ qs))
     → FitAsForwards T (policies ps) × FitAsForwards T (policies qs)
 fit_halves T ps qs fit = (
@@ -90,12 +90,12 @@ count_of : (ps : List PolicyTree) → number_of (policies ps) ≡ length ps
 count_of [] = refl
 count_of (p ∷ ps) = ap suc (count_of ps)
 
--- those to each of them are those to each of the first and to each of those behind them
+-- those to each of them are those to each of the first and to each of those after them
 works_halves : (ps qs : List PolicyTree) → works (policies (ps ++ qs)) ≡ works (policies ps) + works (policies qs)
 works_halves [] qs = omega arith
 works_halves (p ∷ ps) qs = let rest = works_halves ps qs in omega (arith, rest)
 
--- the steps to all together are one more than those to the first and to those behind them, where there are some of both
+-- the steps to all together are one more than those to the first and to those after them, where there are some of both
 pub steps_halves : (ps qs : List PolicyTree) → 1 ≤ length ps → 1 ≤ length qs → work_of (policies (ps ++ qs)) ≡ work_of (policies ps) + work_of (policies qs) + 1
 steps_halves ps qs some_first some_behind =
     let all = count_of (ps ++ qs) ∙ length-append ps qs in
@@ -111,7 +111,7 @@ abbrev pub size : Policies → ℕ
 size none = 0
 size (put top below rest) = suc (size below + size rest)
 
--- they are those of the first and those of the ones behind
+-- they are those of the first and those of the ones after
 pub size_halves : (ps qs : List PolicyTree) → size (policies (ps ++ qs)) ≡ size (policies ps) + size (policies qs)
 size_halves [] qs = omega arith
 size_halves (p ∷ ps) qs = let rest = size_halves ps qs in omega (arith, rest)
@@ -150,7 +150,7 @@ module _ (ps front back : List Policy) (m : ℕ) (front_is : front ≡ take m ps
     some_first : 1 ≤ length (map policy_tree front)
     some_first = subst (λ n. 1 ≤ n) (sym (length-map front policy_tree)) some_front
 
-    -- and in those behind them
+    -- and in those after them
     some_behind : 1 ≤ length (map policy_tree back)
     some_behind = subst (λ n. 1 ≤ n) (sym (length-map back policy_tree)) some_back
 

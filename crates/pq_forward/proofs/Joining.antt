@@ -1,4 +1,4 @@
--- Diagrams of policies, from those of the first of them and of those behind these.
+-- Diagrams of policies, from those of the first of them and of those after these.
 use Rattle.std.proofs.Common.{ℕ, ◌≡◌, ◌<◌, Bool, true, false, List, ◌++◌, map, take, drop, length, inl, inr, sym, subst}
 use Rattle.std.specs.Prelude.{◌⊎◌}
 use Rattle.std.proofs.lemmas.Bool.{true≢false}
@@ -85,7 +85,7 @@ pub record HaveHalves (T : Topology) (J : Joint) (ps : List Policy) (ts : List (
   pub front : HasAt (IsForwards T J (policies first)) ts i
   pub back : HasAt (IsForwards T J (policies behind)) ts j
 
--- stand where they were made one after the other
+-- are where they were made one after the other
 pub have_halves : (T : Topology) (J : Joint) (ps front back : List Policy) (m : ℕ) (between new : List (Tree (List Written))) (i j : ℕ)
     → front ≡ take m ps → back ≡ drop m ps → Keeps between new
     → HasAt (IsForwards T J (policy_trees front)) between i → HasAt (IsForwards T J (policy_trees back)) new j → HaveHalves T J ps new i j
@@ -98,7 +98,7 @@ have_halves T J ps front back m between new i j front_is back_is keeps in_front 
 }
 
 module _ {T : Topology} {J : Joint} {ps : List Policy} {ts : List (Tree (List Written))} {i j : ℕ} (halves : HaveHalves T J ps ts i j) where
-  -- the first stands within the store
+  -- the first is within the store
   pub front_within : i < length ts
   front_within = has_within (IsForwards T J (policies halves.first)) ts i halves.front
 

@@ -27,7 +27,7 @@ pub without_second : (p q : ℕ) (qs : List ℕ) → Ascends (p ∷ q ∷ qs) �
 without_second p q [] up = tt
 without_second p q (r ∷ rs) up = (omega (arith, up.0, up.1.0), up.1.1)
 
--- and so do the numbers behind some
+-- and so do the numbers after some
 pub last_ascend : (ps qs : List ℕ) → Ascends (ps ++ qs) → Ascends qs
 last_ascend [] qs up = up
 last_ascend (p ∷ ps) qs up = last_ascend ps qs (rest_ascends p (ps ++ qs) up)
@@ -38,7 +38,7 @@ last_ascend (p ∷ ps) qs up = last_ascend ps qs (rest_ascends p (ps ++ qs) up)
 port_before : (p q : ℕ) → p < q → writes_cmp (at_port p) (at_port q) ≡ Less
 port_before p q less = ap (λ o. ordering_then o Same) (sym (nat_cmp_is p q Less less))
 
--- a port stands before those behind it
+-- a port is before those after it
 before_others : (own p : ℕ) (qs : List ℕ) → Ascends (p ∷ qs) → All (λ w. writes_cmp (at_port p) w ≡ Less) (at_others own qs)
 before_others own p [] up = All-nil (λ w. writes_cmp (at_port p) w ≡ Less)
 before_others own p (q ∷ qs) up = by (q == own) (before_others own p qs (without_second p q qs up))
@@ -81,7 +81,7 @@ others_same m n (p ∷ ps) none_m none_n =
     let second = or_parts (p == n) (has ps n) none_n in
     rw (first.0, second.0) (ap (λ ws. at_port p ∷ ws) (others_same m n ps first.1 second.1))
 
--- 0 is no port
+-- 0 is not a port
 zero_no_port : (ps : List ℕ) → All IsPortNumber ps → has ps 0 ≡ false
 zero_no_port [] all = refl
 zero_no_port (p ∷ ps) all =

@@ -72,7 +72,7 @@ module _ (p : ℕ) (met ps : List ℕ) (n : Tree (List Written)) (up : Rises (p 
   fork_tests s (inr (inl none)) = absurd none
   fork_tests s (inr (inr tested)) = any_later (λ q. s ≡ Equal Port q) p met (spread.tests s tested)
 
-  -- it may stand before them
+  -- it may be before them
   spread_joins : IsPortNumber p → length (p ∷ met) ≤ 4096 → IsJoinable (Equal Port p) (Tip (at_others p ps)) n
   spread_joins number few =
       let ns = numbers_of [] (p ∷ met) in
@@ -104,7 +104,7 @@ module _ (p : ℕ) (met ps : List ℕ) (n : Tree (List Written)) (up : Rises (p 
 
 -- The trees at their places, as the ports are met from the last one on.
 
--- the tree at a place tells the ports behind these from all others
+-- the tree at a place tells the ports after these from all others
 pub record IsSpreadBehind (front ps : List ℕ) (ts : List (Tree (List Written))) (k : ℕ) : Type 0 where
   pub met : List ℕ
   pub all : ps ≡ front ++ met
@@ -130,7 +130,7 @@ behind_within front ps ts k behind = slice_get_within ts k behind.has.0 behind.h
 
 module _ (front : List ℕ) (p : ℕ) (ps : List ℕ) (ts : List (Tree (List Written))) (i k : ℕ)
     (behind : IsSpreadBehind (push front p) ps ts k) (leaf : slice_get ts i ≡ Some (Tip (at_others p ps))) (up : Rises ps) where
-  -- the port stands before those met
+  -- the port is before those met
   parts : ps ≡ front ++ p ∷ behind.met
   parts = behind.all ∙ append_assoc front (p ∷ []) behind.met
 
@@ -142,7 +142,7 @@ module _ (front : List ℕ) (p : ℕ) (ps : List ℕ) (ts : List (Tree (List Wri
   number_there : All IsPortNumber ps → IsPortNumber p
   number_there numbers = All-head IsPortNumber p behind.met (all_back IsPortNumber front (p ∷ behind.met) (subst (All IsPortNumber) parts numbers))
 
-  -- its test may stand before the tree
+  -- its test may be before the tree
   pub behind_joins : All IsPortNumber ps → AreFewPorts ps
       → (y n : Tree (List Written)) → slice_get ts i ≡ Some y → slice_get ts k ≡ Some n → IsJoinable (Equal Port p) y n
   behind_joins numbers few =

@@ -57,7 +57,7 @@ port_among (r ∷ ss) s p there port = elim (contains_cases s r ss there) [
   | inr later ↦ Contains-append_right r.ports (ports ss) p (port_among ss s p later port)
 ]
 
--- what a switch and those behind it keep
+-- what a switch and those after it keep
 pub record AreLawful (s : Switch) (met : List Switch) : Type 0 where
   pub switch : IsLawfulSwitch s
   pub rise : Ascends (datapaths (s ∷ met))

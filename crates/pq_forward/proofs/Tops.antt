@@ -1,4 +1,4 @@
--- Diagrams of single policies, by what stands at their tops.
+-- Diagrams of single policies, by what is at their tops.
 use Rattle.std.proofs.Common.{ℕ, ◌==◌, ◌≡◌, ◌∙◌, Bool, true, false, List, [], ◌∷◌, Some, if◌then◌else◌, refl, sym, ap, subst}
 use Rattle.std.specs.Prelude.{All, IfOk, slice_get}
 use Rattle.std.specs.declared.result.Result.{Result}
@@ -35,7 +35,7 @@ use Rattle.pq_forward.specs.Forward.{ArePoliciesWithin, FitAsForward, IsFiltered
 use Rattle.pq_forward.proofs.Halves.{one_either, one_in_turn}
 
 module _ (P Q : Tree (List Written) → Type 0) (follows : (t : Tree (List Written)) → P t → Q t) (ts : List (Tree (List Written))) where
-  -- a tree that stands at a place has what follows from what it has
+  -- a tree that is at a place has what follows from what it has
   has_too : (k : ℕ) → HasAt P ts k → HasAt Q ts k
   has_too k has = (has.0, has.1, follows has.0 has.2)
 
@@ -57,7 +57,7 @@ none_forwards : (T : Topology) (in_turn : Bool) → IsForwards T (joint in_turn)
 none_forwards T true = record { giving = λ x fit. unchanged x; covers = λ ns topology within. leaf_covers ns true }
 none_forwards T false = record { giving = λ x fit. given_none x (λ y. ⊥) (λ y none. none); covers = λ ns topology within. leaf_covers ns false }
 
--- and that leaf stands at its place
+-- and that leaf is at its place
 pub none_at : (T : Topology) (in_turn : Bool) (ts : List (Tree (List Written))) (k : ℕ) → slice_get ts k ≡ Some (Tip (if in_turn then no_writes ∷ [] else []))
     → HasAt (IsForwards T (joint in_turn) none) ts k
 none_at T in_turn ts k there = (Tip (if in_turn then no_writes ∷ [] else []), there, none_forwards T in_turn)

@@ -10,7 +10,7 @@ use Rattle.pq_generate.specs.Generated.{first_query, generated_text, hop_text, h
 two_digits : (n : ℕ) → n < 100 → length (decimal n) ≤ 2
 two_digits n few = length-decimal-le 2 n (omega arith) (omega (arith, few)) (omega (arith, few))
 
--- lines of at most so many bytes, for so many numbers below a limit
+-- lines of at most this many bytes, for this many numbers below a limit
 lines_short : (line : ℕ → List ℕ) (most limit : ℕ) → ((i : ℕ) → i < limit → length (line i) ≤ most)
     → (a n : ℕ) → a + n ≤ limit → length (flat_map line (range_with_len a n)) ≤ n * most
 lines_short line most limit each a zero within = omega arith

@@ -2,7 +2,7 @@
 use Rattle.std.specs.Prelude.{ℕ, ◌+◌, ◌-◌, List, ◌++◌, nat_lt, ◌==◌, if◌then◌else◌, codes, decimal}
 use Rattle.std.specs.List.{flat_map, join_by, range_with_len}
 
--- the numbers from 1 on, so many
+-- the numbers from 1 on, this many
 abbrev pub up_to : ℕ → List ℕ
 up_to n = range_with_len 1 n
 

@@ -17,7 +17,7 @@ fn write_switches(number: u32, text: &mut String) -> Result<(), AllocError>
     Ok(())
 }
 
-/// Appends the lines of so many links.
+/// Appends the lines of this many links.
 fn write_links(number: u32, text: &mut String) -> Result<(), AllocError>
     requires { number ≤ 64 }
     ensures { OnOk result (string_bytes text.new ≡ string_bytes text.old ++ flat_map link_line (up_to number)) }

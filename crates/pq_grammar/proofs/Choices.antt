@@ -113,7 +113,7 @@ begin_append otherwise (Leave ∷ ss) rest k = begin_append otherwise ss rest k
 begin_append otherwise (Close ∷ ss) rest k = begin_append otherwise ss rest k
 begin_append otherwise (Part sort ∷ ss) rest k = ap (λ b. has (first sort) k || (may_be_empty sort && b)) (begin_append otherwise ss rest k)
 
--- what may stand where less may follow may stand where more may
+-- what may be where less may follow may be where more may
 begin_more : (b c : Bool) (ss : List Symbol) (k : ℕ) → (b ≡ true → c ≡ true) → may_begin b ss k ≡ true → may_begin c ss k ≡ true
 begin_more b c [] k more is = more is
 begin_more b c (Token role class ∷ ss) k more is = is
@@ -228,7 +228,7 @@ some_alternative test (b ∷ bs) any = elim (or_cases (test b) (list_any test bs
 pub light : (sort : Sort) → (a : List Symbol) × IsOneOf a (alternatives sort) × (list_all (is_below (weight sort)) a ≡ true)
 light sort = some_alternative (list_all (is_below (weight sort))) (alternatives sort) (told sort).lives
 
--- what stands before the first token, where an alternative stands for its sort
+-- what is before the first token, where an alternative stands for its sort
 pending_append : (a ss : List Symbol) → pending (a ++ ss) ≤ pending a + pending ss
 pending_append [] ss = omega arith
 pending_append (Token role class ∷ a) ss = omega arith

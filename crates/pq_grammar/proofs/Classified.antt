@@ -44,7 +44,7 @@ has_kind Symbol text = each_in (λ c. kind_of c ≡ Symbol) symbol_classes Star 
 no_names : Each (λ c. c ≡ Name → ⊥) word_classes
 no_names = search rules
 
--- a text is a name by a table of other classes where it does not stand in the table
+-- a text is a name by a table of other classes where it isn't in the table
 is_unlisted : (es : List (List ℕ × Class)) (text : List ℕ) → Each (λ c. c ≡ Name → ⊥) es
     → (class_in es Name text ≡ Name) ↔ (list_any (λ word. bytes_eq word text) (map (λ e. e.0) es) ≡ false)
 is_unlisted [] text each = ((λ is. refl), (λ is. refl))

@@ -9,7 +9,7 @@ use Rattle.pq_grammar.specs.declared.mark.Mark.{Mark}
 use Rattle.pq_grammar.specs.declared.mark.Mark.TheVariants.{Token as TokenMark, Close as CloseMark}
 use Rattle.pq_grammar.specs.Sentences.{Completes, tokens, AllShallow, IsSentence, IsPrefix, IsFirstFault}
 
--- the marks up to so many tokens, and those after them
+-- the marks up to this many tokens, and those after them
 record Cut (k : ℕ) (ms : List Mark) : Type 0 where
   front : List Mark
   back : List Mark
@@ -17,7 +17,7 @@ record Cut (k : ℕ) (ms : List Mark) : Type 0 where
   spelled : tokens front ≡ take k (tokens ms)
   shallow : AllShallow front
 
--- shallow marks can be cut behind each token
+-- shallow marks can be cut after each token
 cut : (k : ℕ) (ms : List Mark) → AllShallow ms → Cut k ms
 cut zero ms shallow = record { front = []; back = ms; whole = refl; spelled = refl; shallow = tt }
 cut (suc k) [] shallow = record { front = []; back = []; whole = refl; spelled = refl; shallow = tt }
@@ -57,7 +57,7 @@ whole_prefix start xs ms sentence = record {
   shallow = sentence.shallow;
 }
 
--- no first fault stands before another one
+-- no first fault is before another one
 none_before : (start : Sort) (xs : List Lexeme) (i j : ℕ) → IsFirstFault start xs i → IsFirstFault start xs j → i < j → ⊥
 none_before start xs i j first second before =
     first.bad (omega (arith, second.within)) (subst (IsPrefix start) (take-take (i + 1) j xs (omega arith)) (shorter start (take j xs) (i + 1) second.good))

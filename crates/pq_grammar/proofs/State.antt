@@ -68,7 +68,7 @@ reads_opening role class depth = record {
     inverted zero ss ms derived = absurd derived
     inverted (suc n) ss ms (x, rest, is, has_class, derived) = (n, x, rest, is, has_class, derived)
 
--- the same symbols fit behind a token
+-- the same symbols fit after a token
 fits_behind : (s : Symbol) (role : Role) (class : Class) (before after : ℕ) (ss : List Symbol) → Reads s role class before after → Fits (s ∷ ss) → Fits ss
 fits_behind (Token r c) role class before after ss reads fits = fits
 fits_behind (Opening r c) role class before after ss reads fits = fits

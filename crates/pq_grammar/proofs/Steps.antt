@@ -153,7 +153,7 @@ part_place start xs place out sort a stack new depth found is at = record {
       (part_step start (drop place xs) out sort a (reverse stack) depth found at.state);
 }
 
--- and what stands before the first token weighs less
+-- and what is before the first token weighs less
 pub part_falls : (sort : Sort) (k : ℕ) (a stack new : List Symbol) → chosen sort k ≡ Some a → new ≡ stack ++ reverse a
     → pending (reverse new) < weight sort + pending (reverse stack)
 part_falls sort k a stack new found is = subst (λ ss. pending ss < weight sort + pending (reverse stack)) (pushed stack new a is)

@@ -31,7 +31,7 @@ has classes k = list_any (λ c. number c == k) classes
 abbrev pub follows : Sort → ℕ → Bool
 follows sort k = k == 47 || has (follow sort) k
 
--- the symbols may stand before what comes next; `otherwise` tells whether that may follow them
+-- the symbols may be before what comes next; `otherwise` tells whether that may follow them
 abbrev pub may_begin : Bool → List Symbol → ℕ → Bool
 may_begin otherwise [] k = otherwise
 may_begin otherwise (Token role class ∷ ss) k = number class == k
@@ -48,7 +48,7 @@ is_open sort k a = may_begin (follows sort k) a k
 abbrev pub chosen : Sort → ℕ → Option (List Symbol)
 chosen sort k = find (is_open sort k) (alternatives sort)
 
--- the sum of weights of what stands before the first token
+-- the sum of weights of what is before the first token
 abbrev pub pending : List Symbol → ℕ
 pending [] = 0
 pending (Token role class ∷ ss) = 0

@@ -43,7 +43,7 @@ abbrev pub class_in : List (List ℕ × Class) → Class → List ℕ → Class
 class_in [] other text = other
 class_in (e ∷ es) other text = if bytes_eq e.0 text then e.1 else class_in es other text
 
--- the class of a token of the kind with this text; each symbol stands in the table
+-- the class of a token of the kind with this text; each symbol is in the table
 abbrev pub class_of_text : Kind → List ℕ → Class
 class_of_text Word text = class_in word_classes Name text
 class_of_text NumberKind text = Number

@@ -10,7 +10,7 @@ use Rattle.pq_grammar.specs.declared.parser.Expected.{Expected}
 use Rattle.pq_grammar.specs.Sentences.{Derives, Completes, tokens, AllShallow}
 use Rattle.pq_grammar.specs.Ahead.{look, may_begin, follows, pending}
 
--- the symbols may stand before what comes next, and before nothing else
+-- the symbols may be before what comes next, and before nothing else
 abbrev pub can : List Symbol → ℕ → Bool
 can ss k = may_begin (k == 47) ss k
 
@@ -40,7 +40,7 @@ pub record IsState (start : Sort) (xs : List Lexeme) (out : List Mark) (ss : Lis
   pub backward : (ms : List Mark) → Completes start ms → (rest : List Lexeme) → tokens ms ≡ tokens out ++ rest → look rest ≡ look xs
       → Continues out ss depth rest ms
 
--- the reading has come to the place: so many tokens were read
+-- the reading has come to the place: this many tokens were read
 pub record IsPlace (start : Sort) (xs : List Lexeme) (place : ℕ) (out : List Mark) (ss : List Symbol) (depth : ℕ) : Type 0 where
   pub within : place ≤ length xs
   pub spelled : tokens out ≡ take place xs
@@ -50,7 +50,7 @@ pub record IsPlace (start : Sort) (xs : List Lexeme) (place : ℕ) (out : List M
 abbrev pub IsAt : List Lexeme → Parser → List Symbol → Type 0
 IsAt xs p ss = IsPlace p.start xs p.at p.marks.items ss p.depth
 
--- the symbol is read as the token that is expected, where so many brackets are open before it
+-- the symbol is read as the token that is expected, where this many brackets are open before it
 abbrev pub Expects : Symbol → ℕ → Expected → Type 0
 Expects (Token role class) depth e = e ≡ record { role = role; class = class; depth = depth }
 Expects (Opening role class) depth e = e ≡ record { role = role; class = class; depth = depth + 1 }

@@ -15,7 +15,7 @@ abbrev pub IsOneOf : List Symbol → List (List Symbol) → Type 0
 IsOneOf a [] = ⊥
 IsOneOf a (b ∷ bs) = (a ≡ b) ⊎ IsOneOf a bs
 
--- the symbols give the marks in so many steps, where so many brackets are open before them
+-- the symbols give the marks in this many steps, where this many brackets are open before them
 abbrev pub Derives : ℕ → List Symbol → ℕ → List Mark → Type 0
 Derives n [] depth ms = ms ≡ []
 Derives zero (s ∷ ss) depth ms = ⊥
@@ -57,14 +57,14 @@ pub record IsPrefix (start : Sort) (xs : List Lexeme) : Type 0 where
   pub spelled : tokens before ≡ xs
   pub shallow : AllShallow before
 
--- the tokens are no sentence: the place is that of the first token with which no prefix of a sentence ends, or the number of tokens where all of them are one
+-- the tokens are not sentence: the place is that of the first token with which no prefix of a sentence ends, or the number of tokens where all of them are one
 pub record IsFirstFault (start : Sort) (xs : List Lexeme) (place : ℕ) : Type 0 where
   pub within : place ≤ length xs
   pub good : IsPrefix start (take place xs)
   pub bad : place < length xs → IsPrefix start (take (place + 1) xs) → ⊥
   pub short : place ≡ length xs → (ms : List Mark) → IsSentence start xs ms → ⊥
 
--- the tokens are refused for their first fault, or for want of memory
+-- the tokens are refused for their first fault, or because memory runs out
 abbrev pub IsCause : Sort → List Lexeme → SentenceFault → Type 0
 IsCause start xs (Syntax place) = IsFirstFault start xs place
 IsCause start xs Memory = Unit {0}

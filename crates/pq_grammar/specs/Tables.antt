@@ -210,7 +210,7 @@ follow Group = Comma ∷ RightBracket ∷ []
 follow ValuesOption = Comma ∷ RightBracket ∷ []
 follow ValuesMore = Right ∷ []
 
--- a weight that is above that of each sort in some alternative, and above the sum of what stands before each alternative's first token
+-- a weight that is above that of each sort in some alternative, and above the sum of what is before each alternative's first token
 abbrev pub weight : Sort → ℕ
 weight Document = 5
 weight Switches = 1

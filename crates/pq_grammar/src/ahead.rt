@@ -39,7 +39,7 @@ fn may_follow(sort: Sort, next: Option<Class>) -> bool
     }
 }
 
-/// Whether the symbols may stand before the next token, where `otherwise` tells whether that may follow them.
+/// Whether the symbols may be before the next token, where `otherwise` tells whether that may follow them.
 fn may_begin(otherwise: bool, symbols: &[Symbol], next: Option<Class>) -> bool
     ensures { result ≡ may_begin otherwise symbols.now (ahead next) }
 {

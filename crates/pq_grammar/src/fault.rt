@@ -4,7 +4,7 @@ use thiserror::Error;
 /// Why tokens are refused.
 #[derive(Debug, Drop, Error)]
 pub enum SentenceFault {
-    /// The tokens are no sentence. The index is that of the first token with which no prefix of a sentence ends, or
+    /// The tokens are not sentence. The index is that of the first token with which no prefix of a sentence ends, or
     /// the number of tokens where all of them together are a proper prefix of a sentence.
     #[error("the tokens are no sentence at token {index}")]
     Syntax { index: usize },

@@ -8,7 +8,7 @@ use pq_term::Token;
 pub struct Lexeme {
     /// What the grammar tells of it.
     pub class: Class,
-    /// Its kind, and where its bytes stand.
+    /// Its kind, and where its bytes are.
     pub token: Token,
 }
 

@@ -174,7 +174,7 @@ impl Parser {
 
 /// The tokens as a sentence of the start sort, with its tree.
 ///
-/// `Syntax` comes exactly where the tokens are no sentence, with their first fault. At most 100 of `(`, `[`, `not` and
+/// `Syntax` comes exactly where the tokens are not sentence, with their first fault. At most 100 of `(`, `[`, `not` and
 /// `~` are open at once; whether tokens are a prefix of a sentence is judged by the grammar without this limit, except
 /// that no prefix ends with the token that would be the 101st.
 pub fn read_marks(

@@ -11,7 +11,7 @@ pub enum Role {
     Spelled,
     /// The head of a tree whose children are the trees up to the `Close` that belongs to it.
     Head,
-    /// The head of such a tree whose first child is the tree that stands last before the token.
+    /// The head of such a tree whose first child is the tree that is last before the token.
     Lead,
 }
 

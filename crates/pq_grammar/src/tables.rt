@@ -1,4 +1,4 @@
-//! What may stand at the front of a phrase of each sort, and behind it.
+//! What may be at the front of a phrase of each sort, and after it.
 ghost use Rattle.std.specs.Prelude.{◌≡◌};
 ghost use Rattle.pq_grammar.specs.Tables.{first, follow, may_be_empty};
 

@@ -77,7 +77,7 @@ packet_of l0 =
 pub numbers_tell : (x y : Numbers) → numbers x ≡ numbers y → x ≡ y
 numbers_tell x y same = ap packet_of same
 
--- what stands behind the numbers of a packet
+-- what is after the numbers of a packet
 abbrev after_numbers : List ℕ → List ℕ
 after_numbers l = rest_of (rest_of (rest_of (rest_of (rest_of (rest_of (rest_of (rest_of (rest_of (rest_of (rest_of (rest_of (rest_of (rest_of l)))))))))))))
 

@@ -5,12 +5,12 @@ use Rattle.std.specs.List.{Contains}
 use Rattle.pq_model.specs.Orders.{IsReordering}
 
 module _ {A : Type 0} where
-  -- the value stands in the list
+  -- the value is in the list
   abbrev pub StandsIn : A → List A → Type 0
   StandsIn z [] = ⊥
   StandsIn z (x ∷ xs) = (z ≡ x) ⊎ StandsIn z xs
 
-  -- no value stands in the list twice
+  -- no value is in the list twice
   abbrev pub AreApart : List A → Type 0
   AreApart [] = Unit {0}
   AreApart (x ∷ xs) = (StandsIn x xs → ⊥) × AreApart xs
@@ -41,7 +41,7 @@ module _ {A : Type 0} where
   among_parts z (x ∷ xs) ys (inl is) = inl (inl is)
   among_parts z (x ∷ xs) ys (inr there) = elim (among_parts z xs ys there) [ inl l ↦ inl (inr l) | inr r ↦ inr r ]
 
-  -- the value with what stands around it
+  -- the value with what is around it
   pub split_at : (z : A) (xs : List A) → StandsIn z xs → (front : List A) × (back : List A) × (xs ≡ front ++ z ∷ back)
   split_at z [] there = absurd there
   split_at z (x ∷ xs) (inl is) = ([], xs, λ i. sym is i ∷ xs)

@@ -19,7 +19,7 @@ module _ {A : Type 0} where
   pub reordering-both : (xs ys us vs : List A) → IsReordering xs ys → IsReordering us vs → IsReordering (xs ++ us) (ys ++ vs)
   reordering-both xs ys us vs h k = reordering-trans (xs ++ us) (ys ++ us) (ys ++ vs) (reordering-more xs ys us h) (reordering-left ys us vs k)
 
-  -- a part moves behind the next
+  -- a part moves after the next
   pub reordering-moved : (xs ys zs : List A) → IsReordering (xs ++ (ys ++ zs)) (ys ++ (xs ++ zs))
   reordering-moved [] ys zs = reordering-refl (ys ++ zs)
   reordering-moved (x ∷ xs) ys zs = (ys, xs ++ zs, refl, reordering-moved xs ys zs)

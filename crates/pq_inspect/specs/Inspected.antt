@@ -21,7 +21,7 @@ IsFollowed bytes size = (i : Install) × IsInstallIn bytes i size × (size < len
 abbrev pub IsSpoiledAt : List ℕ → ℕ → Type 0
 IsSpoiledAt bytes at = IsDamagedAt bytes at ⊎ IsFollowed bytes at
 
--- what a fault tells is true of the bytes; want of memory has no cause
+-- what a fault tells is true of the bytes; running out of memory has no cause
 abbrev pub IsInspectFault : List ℕ → InstallFault → Type 0
 IsInspectFault bytes (Damaged at) = IsSpoiledAt bytes at
 IsInspectFault bytes Memory = Unit {0}

@@ -28,7 +28,7 @@ fn inspection(alloc: Global, install: &Install) -> Result<Value, AllocError>
 }
 
 /// The text of an install: one JSON object (RFC 8259) without white space, and a line feed. It fails
-/// only where there is no memory for the text. In each object the keys stand in alphabetical order.
+/// only where there is no memory for the text. In each object the keys are in alphabetical order.
 ///
 /// - `links`: for each link its four numbers, the datapath number and the port of its first end and
 ///   of its second.

@@ -115,7 +115,7 @@ lists_cut v done (ms ∷ lists) read whole bytes left front cut =
           (lists_cut v (done ++ ms ∷ []) lists (subst (All (IsReadList v)) (sym regrouped) read) whole behind.0 left longer behind.2)
     ]
 
--- the units behind a magic
+-- the units after a magic
 abbrev units_in : Version → Install → List (List ℕ)
 units_in v i = magic_bytes v ∷ (topology_units i.topology ++ (report_units i ++ flat_map list_units i.messages))
 

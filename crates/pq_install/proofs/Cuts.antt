@@ -14,7 +14,7 @@ use Rattle.pq_install.proofs.Closed.{Closed, up_to}
 use Rattle.pq_install.proofs.Front.{Unique}
 use Rattle.pq_install.proofs.UnitLists.{all_more}
 
--- the bytes are those of some units and so many of the next, which is not whole
+-- the bytes are those of some units and this many of the next, which is not whole
 abbrev pub IsCut : List (List ℕ) → List ℕ → ℕ → Type 0
 IsCut [] bytes left = ⊥
 IsCut (u ∷ us) bytes left = ((byte : ℕ) × (behind : List ℕ) × (u ≡ bytes ++ byte ∷ behind) × (left ≡ length bytes)) ⊎
@@ -59,7 +59,7 @@ cut_at (u ∷ us) n below = elim (cases_lt n (length u)) [
       (later.0, omega (arith, past, start_behind u us n past, later.1), inr (take (n - length u) (concat us), front, later.2))
 ]
 
--- a cut is in the first units or behind them
+-- a cut is in the first units or after them
 pub cut_in : (us vs : List (List ℕ)) → (bytes : List ℕ) (left : ℕ) → IsCut (us ++ vs) bytes left
     → IsCut us bytes left ⊎ ((rest : List ℕ) × (bytes ≡ concat us ++ rest) × IsCut vs rest left)
 cut_in [] vs bytes left cut = inr (bytes, refl, cut)
@@ -69,7 +69,7 @@ cut_in (u ∷ us) vs bytes left (inr (rest, e, cut)) = elim (cut_in us vs rest l
   | inr behind ↦ inr (behind.0, e ∙ (ap (λ (more : List ℕ). u ++ more) behind.1 ∙ sym (append_assoc u (concat us) behind.0)), behind.2)
 ]
 
--- where the first units cut fail and those behind them too, all fail
+-- where the first units cut fail and those after them too, all fail
 pub cut_or_after : {X : Type 0} (Fails : List ℕ → ℕ → Type 0) (P : X → Type 0) (spell : X → List ℕ) (After : X → List ℕ → ℕ
     → Type 0) (us vs : List (List ℕ)) (x : X) → P x → concat us ≡ spell x → CutsFail Fails us → CutsFail (After x) vs
     → CutsFail (FailsOrAfter Fails (IsAtFront P spell) After) (us ++ vs)

@@ -36,7 +36,7 @@ unique_u64 x y a b fx fy e =
     let same = same_fronts (to_be_bytes w64 x) (to_be_bytes w64 y) a b refl e in
     (sym (from_be_bytes-to_be_bytes_8 x fx) ∙ (ap (from_be_bytes w64) same.0 ∙ from_be_bytes-to_be_bytes_8 y fy), same.1)
 
--- where a list stands that is shorter than another, a further value of the other stands behind it
+-- where a list is that is shorter than another, a further value of the other is after it
 pub longer_goes_on : {X : Type 0} (P : X → Type 0) (spell : X → List ℕ) → Unique P spell → (xs ys : List X) (rest more : List ℕ) → All P xs
     → All P ys → length xs < length ys → flat_map spell xs ++ rest ≡ flat_map spell ys ++ more → NoneAtFront P spell rest → ⊥
 longer_goes_on P spell unique [] [] rest more px py shorter e none = omega (arith, shorter)

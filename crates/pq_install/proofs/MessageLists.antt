@@ -15,7 +15,7 @@ use Rattle.pq_install.specs.Units.{UnitFails, ListFails, Tells}
 use Rattle.pq_install.specs.Damage.{IsReadList, IsReadMessage, ListFailsAt, ListsFail}
 use Rattle.pq_install.proofs.UnitLists.{all_more, list_fails, one_more_unit}
 
--- what stands at the first place is the front
+-- what is at the first place is the front
 pub front_of : (bytes text : List ℕ) → StandsAt bytes 0 text → bytes ≡ text ++ drop (length text) bytes
 front_of bytes text stands = sym (take-append-drop (length text) bytes) ∙ rw stands refl
 

@@ -42,7 +42,7 @@ module _ (bytes rest text after : List ℕ) (len : ℕ) (is : bytes ≡ len ∷ 
       let whole : bytes ≡ (length text ∷ text) ++ after = rw (is, parts, fills) refl in
       rw (whole, drop_at (length text ∷ text) after (length text + 1) (omega arith)) refl
 
-  -- what the test on the bytes behind the length tells
+  -- what the test on the bytes after the length tells
   pub name_tells : (found : Option (List ℕ)) → found ≡ (if is_name text then Some text else None)
       → MatchOption found (NoneAtFront IsName name_bytes bytes)
       (λ name. IsAtFront IsName name_bytes bytes name (drop (length name + 1) bytes))

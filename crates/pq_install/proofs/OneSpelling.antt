@@ -12,7 +12,7 @@ in_front bytes i n (inl spelled) = (_, spelled_at_front bytes i (drop n bytes) s
 in_front bytes i n (inr spelled) =
     (_, spelled_old_at_front bytes i (drop n bytes) spelled.lawful spelled.old (sym (take-append-drop n bytes) ∙ rw spelled.spelled refl))
 
--- two spellings in front leave the same behind them
+-- two spellings in front leave the same after them
 pub same_rest : (bytes : List ℕ) (i j : Install) (m n : ℕ) → IsSpelled i (take m bytes) ⊎ IsSpelledOld i (take m bytes)
     → IsSpelled j (take n bytes) ⊎ IsSpelledOld j (take n bytes) → drop n bytes ≡ drop m bytes
 same_rest bytes i j m n first second =

@@ -1,4 +1,4 @@
--- Links in which no port stands twice are fewer than the ports.
+-- Links in which no port is twice are fewer than the ports.
 use Rattle.std.specs.Prelude.{◌≡◌, ℕ, ◌+◌, ◌≤◌, Bool, true, false, ◌||◌, if◌then◌else◌, List, [], ◌∷◌, All, length}
 use Rattle.std.proofs.Common.{arith, refl, suc, zero}
 use Rattle.std.specs.List.{IsDistinct, AllByRecursion, list_any}

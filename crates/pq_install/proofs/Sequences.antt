@@ -6,7 +6,7 @@ use Rattle.std.specs.List.{flat_map}
 use Rattle.pq_install.specs.Front.{NoneAtFront, IsAtFront, AreFew, counted_by}
 use Rattle.pq_install.proofs.Front.{Unique, unique_list}
 
--- a value and another behind it
+-- a value and another after it
 module _ {X Y : Type 0} (P : X → Type 0) (first : X → List ℕ) (unique : Unique P first) (Q : Y → Type 0) (second : Y → List ℕ) where
   abbrev pub Both : X × Y → Type 0
   Both p = P p.0 × Q p.1
@@ -18,7 +18,7 @@ module _ {X Y : Type 0} (P : X → Type 0) (first : X → List ℕ) (unique : Un
   pub no_first : (bytes : List ℕ) → NoneAtFront P first bytes → NoneAtFront Both both bytes
   no_first bytes none p rest fit e = none p.0 (second p.1 ++ rest) fit.0 (e ∙ append_assoc (first p.0) (second p.1) rest)
 
-  -- nor where there is no second behind it
+  -- nor where there is no second after it
   pub no_second : (bytes : List ℕ) (x : X) (after : List ℕ) → IsAtFront P first bytes x after → NoneAtFront Q second after → NoneAtFront Both both bytes
   no_second bytes x after front none p rest fit e =
       let same = unique x p.0 after (second p.1 ++ rest) front.0 fit.0 (sym front.1 ∙ (e ∙ append_assoc (first p.0) (second p.1) rest)) in
@@ -38,7 +38,7 @@ module _ {X Y : Type 0} (P : X → Type 0) (first : X → List ℕ) (unique : Un
       let later = unique_second p.1 q.1 a b fp.1 fq.1 same.1 in
       (rw (same.0, later.0) refl, later.1)
 
--- values behind their count
+-- values after their count
 module _ {X : Type 0} (w : Width) (Fits : ℕ → Type 0) (unique_count : Unique Fits (to_be_bytes w)) (P : X → Type 0) (spell : X
     → List ℕ) (unique : Unique P spell) where
   pub unique_counted : Unique (AreFew Fits P) (counted_by w spell)
@@ -48,7 +48,7 @@ module _ {X : Type 0} (w : Width) (Fits : ℕ → Type 0) (unique_count : Unique
       ∙ (e ∙ append_assoc (to_be_bytes w (length ys)) (flat_map spell ys) b)) in
       unique_list P spell unique xs ys a b fx.1 fy.1 same.0 same.1
 
--- a value that is read but has not the property stands in the way of each that has it
+-- a value that is read but has not the property is in the way of each that has it
 pub none_but : {X : Type 0} (P : X → Type 0) (spell : X → List ℕ) → Unique P spell
     → (Q : X → Type 0) (bytes : List ℕ) (x : X) (rest : List ℕ) → ((y : X) → Q y → P y) → IsAtFront P spell bytes x rest → (Q x → ⊥)
     → NoneAtFront Q spell bytes

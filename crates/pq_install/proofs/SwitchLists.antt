@@ -27,6 +27,6 @@ follows before s are fit =
       λ all. ((chain.0 ((up (before ++ s ∷ [])).0 all.ascending)).1, omega (arith, sum, all.few_ports)),
     )
 
--- each of switches that may stand together may stand alone
+-- each of switches that may be together may be alone
 pub last_is_read : (before : List Switch) (s : Switch) → AreReadSwitches (before ++ s ∷ []) → IsReadSwitch s
 last_is_read before s are = ((all_more IsReadSwitch before s).0 are.each).1

@@ -1,4 +1,4 @@
--- A switch at the front of bytes: its datapath number, and its ports behind their count.
+-- A switch at the front of bytes: its datapath number, and its ports after their count.
 use Rattle.std.specs.Prelude.{◌≡◌, ℕ, List, ◌++◌}
 use Rattle.std.proofs.Common.{arith, refl, sym, ap, ◌∙◌}
 use Rattle.std.specs.Int.{w16, w32, w64, to_be_bytes}

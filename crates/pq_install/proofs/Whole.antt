@@ -19,7 +19,7 @@ use Rattle.pq_install.proofs.Parts.{tells_first, tells_after}
 
 module _ (bytes : List ℕ) (v : Version) (behind_magic : List ℕ) (magic : IsAtFront IsVersion magic_bytes bytes v behind_magic)
     (t : Topology) (behind_topology : List ℕ) (topology : IsAtFront IsReadTopology topology_bytes behind_magic t behind_topology) where
-  -- what fails behind the topology fails in the install
+  -- what fails after the topology fails in the install
   after_topology : (fault : Fault) → Tells (FailsAfterTopology v t behind_topology) fault → Tells (InstallFails bytes) fault
   after_topology fault fails =
       tells_after (UnitFails IsVersion magic_bytes) (IsAtFront IsVersion magic_bytes) FailsAfterMagic bytes v behind_magic fault magic

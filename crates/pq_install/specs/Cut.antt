@@ -23,7 +23,7 @@ report_units i = counted_units w16 name_bytes i.queries ++ counted_units w16 row
 abbrev pub list_units : List Message → List (List ℕ)
 list_units ms = counted_units w32 message_bytes ms
 
--- the units of an install in order, behind a magic that ends with this byte
+-- the units of an install in order, after a magic that ends with this byte
 abbrev pub install_units : ℕ → Install → List (List ℕ)
 install_units version i = (0x50 ∷ 0x51 ∷ 0x49 ∷ version ∷ []) ∷ (topology_units i.topology ++ (report_units i ++ flat_map list_units i.messages))
 

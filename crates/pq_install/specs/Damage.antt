@@ -48,7 +48,7 @@ abbrev pub ListFailsAt : Version → List ℕ → ℕ → Type 0
 ListFailsAt v = FailsOrAfter (UnitFails IsU32 (to_be_bytes w32)) (IsAtFront IsU32 (to_be_bytes w32))
     (λ count. ListFails (All (IsReadMessage v)) message_bytes count)
 
--- the messages to some of so many switches are read, and those to the next fail
+-- the messages to some of this many switches are read, and those to the next fail
 abbrev pub ListsFail : Version → ℕ → List ℕ → ℕ → Type 0
 ListsFail v count bytes left = (lists : List (List Message)) × (rest : List ℕ) × (length lists < count) × IsAtFront (All (IsReadList v))
     (flat_map list_bytes) bytes lists rest × ListFailsAt v rest left
@@ -86,11 +86,11 @@ pub record IsReadReport (r : Reporting) : Type 0 where
 abbrev pub report_bytes : Reporting → List ℕ
 report_bytes r = counted_by w16 name_bytes r.0 ++ counted_by w16 row_bytes r.1
 
--- behind the topology the report fails, or the messages
+-- after the topology the report fails, or the messages
 abbrev pub FailsAfterTopology : Version → Topology → List ℕ → ℕ → Type 0
 FailsAfterTopology v t = FailsOrAfter ReportFails (IsAtFront IsReadReport report_bytes) (λ r. ListsFail v (length t.switches))
 
--- behind the magic the topology fails, or what follows it
+-- after the magic the topology fails, or what follows it
 abbrev pub FailsAfterMagic : Version → List ℕ → ℕ → Type 0
 FailsAfterMagic v = FailsOrAfter TopologyFails (IsAtFront IsReadTopology topology_bytes) (FailsAfterTopology v)
 

@@ -1,4 +1,4 @@
--- What stands at the front of bytes.
+-- What is at the front of bytes.
 use Rattle.std.specs.Prelude.{◌≡◌, ℕ, ◌<◌, ◌^◌, List, ◌++◌, All, length}
 use Rattle.std.specs.Int.{Width, to_be_bytes}
 use Rattle.std.specs.List.{flat_map}
@@ -7,7 +7,7 @@ use Rattle.std.specs.List.{flat_map}
 abbrev pub NoneAtFront : {X : Type 0} → (X → Type 0) → (X → List ℕ) → List ℕ → Type 0
 NoneAtFront {X} P spell bytes = (x : X) (rest : List ℕ) → P x → bytes ≡ spell x ++ rest → ⊥
 
--- a value with the property is spelled at the front, and these bytes stand behind it
+-- a value with the property is spelled at the front, and these bytes are after it
 abbrev pub IsAtFront : {X : Type 0} → (X → Type 0) → (X → List ℕ) → List ℕ → X → List ℕ → Type 0
 IsAtFront P spell bytes x rest = P x × (bytes ≡ spell x ++ rest)
 
@@ -21,7 +21,7 @@ IsU32 n = n < 2 ^ 32
 abbrev pub IsU64 : ℕ → Type 0
 IsU64 n = n < 2 ^ 64
 
--- so many values with the property
+-- this many values with the property
 abbrev pub AreCounted : {X : Type 0} → (X → Type 0) → ℕ → List X → Type 0
 AreCounted P count xs = (length xs ≡ count) × All P xs
 
@@ -29,6 +29,6 @@ AreCounted P count xs = (length xs ≡ count) × All P xs
 abbrev pub AreFew : {X : Type 0} → (ℕ → Type 0) → (X → Type 0) → List X → Type 0
 AreFew Fits P xs = Fits (length xs) × All P xs
 
--- values behind the count of them
+-- values after the count of them
 abbrev pub counted_by : {X : Type 0} → Width → (X → List ℕ) → List X → List ℕ
 counted_by w spell xs = to_be_bytes w (length xs) ++ flat_map spell xs

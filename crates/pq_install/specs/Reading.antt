@@ -28,13 +28,13 @@ IsInstallAtFront bytes i rest = (v : Version) × IsReadIn v i × (bytes ≡ part
 abbrev pub HasReadNames : Topology → Type 0
 HasReadNames t = All (λ s. (s.name ≡ read_name s.datapath) × (s.limit ≡ 0)) t.switches
 
--- so many bytes are the spelling of the install, or its old spelling
+-- this many bytes are the spelling of the install, or its old spelling
 pub record IsInstallIn (bytes : List ℕ) (i : Install) (n : ℕ) : Type 0 where
   pub within : n ≤ length bytes
   pub spelled : IsSpelled i (take n bytes) ⊎ IsSpelledOld i (take n bytes)
   pub named : HasReadNames i.topology
 
--- a fault tells where the bytes are damaged; want of memory has no cause
+-- a fault tells where the bytes are damaged; running out of memory has no cause
 abbrev pub IsInstallFault : List ℕ → InstallFault → Type 0
 IsInstallFault bytes (Damaged at) = IsDamagedAt bytes at
 IsInstallFault bytes Memory = Unit {0}

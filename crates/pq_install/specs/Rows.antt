@@ -19,6 +19,6 @@ pub record AreReadRows (queries : ℕ) (rows : List Row) : Type 0 where
   pub each : All (IsLawfulRow queries) rows
   pub ascending : Ascends (map (λ row. row.tag) rows)
 
--- the numbers by which labels are in order: a label stands before each that it begins
+-- the numbers by which labels are in order: a label is before each that it begins
 abbrev pub label_numbers : List ℕ → List ℕ
 label_numbers label = map (λ v. v + 1) label ++ 0 ∷ []

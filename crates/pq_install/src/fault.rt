@@ -7,7 +7,7 @@ use thiserror::Error;
 /// Why a part of an install was not read.
 #[derive(Debug, Drop)]
 pub enum Fault {
-    /// A unit is missing, cut or unlawful, and so many bytes are left from its first on.
+    /// A unit is missing, cut or unlawful, and this many bytes are left from its first on.
     Damaged { left: usize },
     /// There is not enough memory.
     Memory,

@@ -16,7 +16,7 @@ pub fn bytes_begin_with_one_install()
     ensures { (bytes rest more : List ℕ) (i j : InstallValue) → IsInstallAtFront bytes i rest → IsInstallAtFront bytes j more → (i ≡ j) × (rest ≡ more) }
 {}
 
-/// No spelling of an install begins another's: two that stand in front of the same bytes have one length. It does
+/// No spelling of an install begins another's: two that are in front of the same bytes have one length. It does
 /// nothing when it runs.
 pub fn no_spelling_begins_another()
     ensures { (bytes : List ℕ) (m n : ℕ) (i j : InstallValue) → m ≤ length bytes → n ≤ length bytes

@@ -1,4 +1,4 @@
-//! Reading an install: each part where it stands at the front of bytes.
+//! Reading an install: each part where it is at the front of bytes.
 
 pub mod front;
 pub mod links;

@@ -1,4 +1,4 @@
--- What a write leaves behind where it fails in the middle of its piece.
+-- What a write leaves after where it fails in the middle of its piece.
 use Rattle.std.specs.Prelude.{ℕ, List, take, Option}
 use Rattle.std.specs.Io.KnownBytes.{Appends}
 

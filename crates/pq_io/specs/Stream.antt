@@ -1,4 +1,4 @@
--- What clauses see of a reader or a writer behind an adapter.
+-- What clauses see of a reader or a writer after an adapter.
 use Rattle.std.specs.Prelude.{ℕ}
 
 -- the inner object, and how many of the calls failed

@@ -2,7 +2,7 @@
 //!
 //! A `Source` gives bytes and a `Sink` takes them. Either may fail at any call, and then raises its
 //! count of faults. `MemorySource` and `MemorySink` tell contracts their bytes, and fail at the
-//! calls that their maker chose. `StreamSource` and `StreamSink` stand over a reader and a writer of
+//! calls that their maker chose. `StreamSource` and `StreamSink` are over a reader and a writer of
 //! std.
 //!
 //! `Steps` counts steps of work, for contracts alone.

@@ -42,7 +42,7 @@ impl MemorySink {
     /// An empty sink for `room` bytes. They are allocated here, and no write allocates: where there
     /// is no memory for them, the answer is `AllocError`.
     ///
-    /// The writes whose numbers, counted from 1, stand in `failing` fail, as does one whose piece is
+    /// The writes whose numbers, counted from 1, are in `failing` fail, as does one whose piece is
     /// longer than what is left of the room. A failing write adds the first `kept` bytes of its
     /// piece, or as many as the piece has or the room holds where that is fewer.
     pub fn new(

@@ -37,7 +37,7 @@ impl Model for MemorySource {
 }
 
 impl MemorySource {
-    /// A source that gives these bytes. The calls whose numbers, counted from 1, stand in `failing`
+    /// A source that gives these bytes. The calls whose numbers, counted from 1, are in `failing`
     /// fail, and no other.
     pub fn new(bytes: Vec<u8>, failing: Vec<u64>) -> MemorySource
         ensures { result ≡ record {

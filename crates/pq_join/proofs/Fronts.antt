@@ -22,7 +22,7 @@ abbrev pub test_tree : Test → Tree Bool
 test_tree s = Fork s (Tip true) (Tip false)
 
 module _ {L : Type 0} where
-  -- a tree without tests of a field starts behind it
+  -- a tree without tests of a field starts after it
   pub starts_side : (b : Bool) (f : Field) (s : Test) (y n : Tree L) → Starts f (Fork s y n) → Starts f (if b then y else n)
   starts_side true f s y n starts r tested = starts r (inr (inl tested))
   starts_side false f s y n starts r tested = starts r (inr (inr tested))
@@ -76,7 +76,7 @@ module _ {L : Type 0} where
 
   -- Choices by a test.
 
-  -- it may choose between two trees where the test may stand before them
+  -- it may choose between two trees where the test may be before them
   pub test_fits : (s : Test) (cs : List (Tree Bool)) (k : ℕ) (ts : List (Tree L)) (i j : ℕ) → slice_get cs k ≡ Some (test_tree s)
       → FitByTestAt s ts i j → FitAsChoiceAt cs k ts i j
   test_fits s cs k ts i j test fits c y n c_is y_is n_is =

@@ -114,7 +114,7 @@ module _ (T : Topology) (a : LettersValue) (m : Machine) (lt : Tree ℕ) (lt_is 
       flat_same (copies_by T (tagging_of a m) b (with_number f n y)) (copies_by T (tagging_of a m) b y) (w ∷ ws)
       (λ k e within. copies_same b y (get_or (w ∷ ws) k e) fit lacks (fits k e within))
 
--- each test in a tree of the first table stands below its prerequisites
+-- each test in a tree of the first table is below its prerequisites
 pub arriving_stand_below : ArrivingStandBelow
 arriving_stand_below T a m d fits lt lt_is ignores k t tree f = prerequisites_first f t tree.diagram same
   where

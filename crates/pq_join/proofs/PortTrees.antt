@@ -35,7 +35,7 @@ without_second : (p q : ℕ) (qs : List ℕ) → Rises (p ∷ q ∷ qs) → Rise
 without_second p q [] up = tt
 without_second p q (r ∷ rs) up = (omega (arith, up.0, up.1.0), up.1.1)
 
--- and so do the numbers behind some
+-- and so do the numbers after some
 last_rise : (ps qs : List ℕ) → Rises (ps ++ qs) → Rises qs
 last_rise [] qs up = up
 last_rise (p ∷ ps) qs up = last_rise ps qs (rest_ascends p (ps ++ qs) up)
@@ -79,7 +79,7 @@ module _ (kind : ℕ → PortKind) (p : ℕ) (met : List ℕ) (n : Tree PortKind
   fork_tests s (inr (inl none)) = absurd none
   fork_tests s (inr (inr tested)) = any_later (λ q. s ≡ Equal Port q) p met (over.tests s tested)
 
-  -- it may stand before them
+  -- it may be before them
   over_joins : IsPortNumber p → HasRoom (λ ns. All (λ q. IsAmong q (ns Port)) (p ∷ met)) → IsJoinable (Equal Port p) (Tip (kind p)) n
   over_joins number room = record {
     lawful = (refl, omega (arith, number.1));
@@ -109,7 +109,7 @@ module _ (kind : ℕ → PortKind) (p : ℕ) (met : List ℕ) (n : Tree PortKind
 
 -- The trees at their places, as the ports are met from the last one on.
 
--- the tree at a place tells what the ports behind these are
+-- the tree at a place tells what the ports after these are
 pub record IsBehind (kind : ℕ → PortKind) (front ps : List ℕ) (ts : List (Tree PortKind)) (k : ℕ) : Type 0 where
   pub met : List ℕ
   pub all : ps ≡ front ++ met
@@ -135,7 +135,7 @@ behind_within kind front ps ts k behind = slice_get_within ts k behind.has.0 beh
 
 module _ (kind : ℕ → PortKind) (front : List ℕ) (p : ℕ) (ps : List ℕ) (ts : List (Tree PortKind)) (i k : ℕ)
     (behind : IsBehind kind (push front p) ps ts k) (leaf : slice_get ts i ≡ Some (Tip (kind p))) (up : Rises ps) where
-  -- the port stands before those met
+  -- the port is before those met
   parts : ps ≡ front ++ p ∷ behind.met
   parts = behind.all ∙ append_assoc front (p ∷ []) behind.met
 
@@ -147,7 +147,7 @@ module _ (kind : ℕ → PortKind) (front : List ℕ) (p : ℕ) (ps : List ℕ) 
   number_there : All IsPortNumber ps → IsPortNumber p
   number_there numbers = All-head IsPortNumber p behind.met (all_back IsPortNumber front (p ∷ behind.met) (subst (All IsPortNumber) parts numbers))
 
-  -- its test may stand before the tree
+  -- its test may be before the tree
   pub behind_joins : All IsPortNumber ps → HasRoom (λ ns. All (λ q. IsAmong q (ns Port)) ps)
       → (y n : Tree PortKind) → slice_get ts i ≡ Some y → slice_get ts k ≡ Some n → IsJoinable (Equal Port p) y n
   behind_joins numbers room =

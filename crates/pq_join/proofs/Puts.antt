@@ -26,7 +26,7 @@ abbrev pub header_fields : List Field
 header_fields = EthSrc ∷ EthDst ∷ Ipv4Src ∷ Ipv4Dst ∷ TcpSrc ∷ TcpDst ∷ UdpSrc ∷ UdpDst ∷ []
 
 module _ {L : Type 0} where
-  -- a restriction stands in the store
+  -- a restriction is in the store
   pub restricts_within : (f : Field) (n : ℕ) (old new : List (Tree L)) (k id : ℕ) → k < length old → RestrictsAt f n old k new id → id < length new
   restricts_within f n old new k id within restricts =
       let t = at_place old k within in

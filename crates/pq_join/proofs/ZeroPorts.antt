@@ -1,4 +1,4 @@
--- Port 0 is not tested: it is no port, and neither is the first number beyond those of ports.
+-- Port 0 is not tested: it is not a port, and neither is the first number beyond those of ports.
 use Rattle.std.proofs.Common.{ℕ, ◌⊎◌, get_or, ◌<◌, ◌≤◌, ◌^◌, ◌≡◌, ◌∙◌, Bool, true, false, List, ◌∷◌, [], Option, None, Some, ◌==◌, ◌&&◌}
 use Rattle.std.proofs.Common.{if◌then◌else◌, inl, inr, refl, sym, ap, subst, arith}
 use Rattle.std.specs.Prelude.{is_none}
@@ -58,7 +58,7 @@ module _ {L : Type 0} where
   yes_later (Fork (Bit g i) y n) (inl less) skips lawful = less
   yes_later (Fork (Bit g i) y n) (inr same) skips lawful = absurd (kinds_differ Port g refl lawful.0.0 same.0)
 
-  -- what stands behind the ports is what packets at an untested port reach
+  -- what is after the ports is what packets at an untested port reach
   rest_value : (n : Tree L) → Ascends n → AllLawful n → Starts Port n → (IsTested (Equal Port beyond) n → ⊥) → (x : Numbers)
       → value n (with_number Port beyond x) ≡ value (rest Port n) x
   rest_value (Tip l) up lawful starts untested x = refl

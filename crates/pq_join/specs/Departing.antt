@@ -31,7 +31,7 @@ pub record IsDeparting (t : Tree Seen) (u : Tree (List Written)) (r : Tree (List
   pub gives : (x : Numbers) → value r x ≡ departures_of t x (value u x)
   pub tests : (s : Test) → IsTested s r → IsTested s t ⊎ IsTested s u
 
--- such a tree stands at a place, and the sight at a place of its own
+-- such a tree is at a place, and the sight at a place of its own
 pub record DepartsAt (u : Tree (List Written)) (ts : List (Tree Seen)) (root : ℕ) (into : List (Tree (List Departure))) (id : ℕ) : Type 0 where
   pub seen : Tree Seen
   pub made : Tree (List Departure)

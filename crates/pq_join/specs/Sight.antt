@@ -24,7 +24,7 @@ seen_of T a d x = record { letter = letter_number a (at_switch d x); port = port
 abbrev pub WithinAt : {L : Type 0} → (Field → List ℕ) → List (Tree L) → ℕ → Type 0
 WithinAt {L} ns ts k = (t : Tree L) → slice_get ts k ≡ Some t → Within ns t
 
--- the test stands in the tree at a place
+-- the test is in the tree at a place
 abbrev pub IsTestedAt : {L : Type 0} → List (Tree L) → ℕ → Test → Type 0
 IsTestedAt {L} ts k s = (t : Tree L) → slice_get ts k ≡ Some t → IsTested s t
 

@@ -67,7 +67,7 @@ LeavingAreSound =
 abbrev pub IgnoresLacking : {L : Type 0} → Tree L → Type 0
 IgnoresLacking t = (f : Field) → Ignores f (λ x. has_field f x ≡ false) t
 
--- where letters don't depend on numbers that packets lack, each test of a tree of the first table stands below its prerequisites
+-- where letters don't depend on numbers that packets lack, each test of a tree of the first table is below its prerequisites
 abbrev pub ArrivingStandBelow : Type 0
 ArrivingStandBelow =
     (T : Topology) (a : LettersValue) (m : Machine) (d : ℕ) → d < 2 ^ 64 → (lt : Tree ℕ) → slice_get a.trees a.root ≡ Some lt → IgnoresLacking lt

@@ -16,7 +16,7 @@ pub fn trees_are_sound()
 {}
 
 /// Law: where neither letters nor the policy depend on the number in a field that a packet lacks, each test of the trees of a
-/// switch stands below its prerequisites (OpenFlow 1.3.5, section 7.2.3.6).
+/// switch is below its prerequisites (OpenFlow 1.3.5, section 7.2.3.6).
 pub fn tests_stand_below_prerequisites()
     ensures arriving { ArrivingStandBelow }
     ensures leaving { LeavingStandBelow }

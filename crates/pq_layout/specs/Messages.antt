@@ -72,7 +72,7 @@ group_needed [] = None
 group_needed (c ∷ []) = None
 group_needed (c ∷ d ∷ cs) = Some (buckets_of (c ∷ d ∷ cs))
 
--- each once, where it stands first
+-- each once, where it is first
 abbrev pub each_once : List Buckets → List Buckets
 each_once [] = []
 each_once (b ∷ bs) = b ∷ filter (λ c. not (same_buckets b c)) (each_once bs)

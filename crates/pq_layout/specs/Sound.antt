@@ -22,7 +22,7 @@ use Rattle.pq_layout.specs.Messages.{ArrivingTrees, LeavingTrees}
 abbrev pub TestsPorts : {L : Type 0} → Tree L → Type 0
 TestsPorts t = (v : ℕ) → IsTested (Equal Port v) t → IsPortNumber v
 
--- the tree has no test of the switch, each test stands below its prerequisites, and tested ports are numbers of ports
+-- the tree has no test of the switch, each test is below its prerequisites, and tested ports are numbers of ports
 pub record IsMatchable {L : Type 0} (t : Tree L) : Type 0 where
   pub diagram : IsDiagram t
   pub switch : IsUntested Switch t

@@ -25,7 +25,7 @@ pub leaf_within : (ts : List (Tree (List Bool))) (found : List Least) (i : ℕ) 
     → e ≡ get_or found i e → e.leaf < length ts
 leaf_within ts found i e leaves within is = let leaf = leaf_at ts found i e leaves within is in slice_get_within ts e.leaf (Tip leaf.0) leaf.1
 
--- no branch stands there
+-- no branch is there
 pub no_branch : (ts : List (Tree (List Bool))) (found : List Least) (i : ℕ) (e : Least) → AreLeaves ts found → i < length found
     → e ≡ get_or found i e → {s : _} {j k : ℕ} → ShowsBranch ts e.leaf s j k → ⊥
 no_branch ts found i e leaves within is shows = let leaf = leaf_at ts found i e leaves within is in absurd cc

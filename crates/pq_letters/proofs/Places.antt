@@ -9,7 +9,7 @@ use Rattle.indexmap.specs.IndexSet.{insert_key}
 use Rattle.pq_letters.specs.Numbering.{place_in}
 use Rattle.pq_letters.specs.Order.{same_truths, truths_eq, truths_equiv}
 
--- the place of a signature that stands first is 0
+-- the place of a signature that is first is 0
 pub place_here : (t : List Bool) (ts : List (List Bool)) (s : List Bool) → truths_eq t s ≡ true → place_in (t ∷ ts) s ≡ 0
 place_here t ts s equal = ap (λ b. if b then zero else suc (place_in ts s)) equal
 
@@ -61,7 +61,7 @@ not_there (t ∷ ts) s last = elim (cases_Bool (truths_eq t s)) [
   | inr other ↦ rw (truths_equiv.symm s t, other) (not_there ts s (omega (arith, last, place_later t ts s other)))
 ]
 
--- what stands at a place that is below the length is the signature
+-- what is at a place that is below the length is the signature
 pub at_place : (ts : List (List Bool)) (s : List Bool) → place_in ts s < length ts → get_or ts (place_in ts s) [] ≡ s
 at_place [] s within = absurd (omega arith)
 at_place (t ∷ ts) s within = elim (cases_Bool (truths_eq t s)) [
@@ -69,7 +69,7 @@ at_place (t ∷ ts) s within = elim (cases_Bool (truths_eq t s)) [
   | inr other ↦ rw (place_later t ts s other) (at_place ts s (omega (arith, within, place_later t ts s other)))
 ]
 
--- a signature that stands at a place has one at or before it
+-- a signature that is at a place has one at or before it
 place_before : (ts : List (List Bool)) (k : ℕ) → k < length ts → place_in ts (get_or ts k []) ≤ k
 place_before [] k within = absurd (omega arith)
 place_before (t ∷ ts) zero within = omega (arith, place_here t ts t (truths_equiv.refl t))
@@ -78,14 +78,14 @@ place_before (t ∷ ts) (suc k) within = elim (cases_Bool (truths_eq t (get_or t
   | inr other ↦ omega (arith, place_later t ts (get_or ts k []) other, place_before ts k (omega arith))
 ]
 
--- the place of a signature among different ones is where it stands
+-- the place of a signature among different ones is where it is
 pub own_place : (ts : List (List Bool)) → ((i j : ℕ) → i < length ts → j < length ts → get_or ts i [] ≡ get_or ts j [] → i ≡ j) → (k : ℕ)
     → k < length ts → place_in ts (get_or ts k []) ≡ k
 own_place ts differ k within =
     let before = place_before ts k within in
     differ (place_in ts (get_or ts k [])) k (omega arith) within (at_place ts (get_or ts k []) (omega arith))
 
--- one more signature is put behind the others where it isn't there
+-- one more signature is put after the others where it isn't there
 pub put_last : (ts us : List (List Bool)) (s t : List Bool) → s ≡ t → place_in ts t ≡ length ts → us ≡ insert_key truths_eq ts s → us ≡ ts ++ t ∷ []
 put_last ts us s t same last put =
     let there : list_any (truths_eq s) ts ≡ false = subst (λ r. list_any (truths_eq r) ts ≡ false) (sym same) (not_there ts t last) in

@@ -67,7 +67,7 @@ both_fit us vs ls rs x y fit (t, t_is, left) (u, u_is, right) =
     fit_there ls x rs y t u t_is u_is
     (room_for (λ ns within. (left.tests ns (all_front (Within ns) us vs within), right.tests ns (all_back (Within ns) us vs within))) fit)
 
--- the trees at the first places and then those at the places behind them are the trees at all places
+-- the trees at the first places and then those at the places after them are the trees at all places
 pub both_parts : (ts : List (Tree Bool)) (ids front back : List ℕ) (m : ℕ) → front ≡ take m ids → back ≡ drop m ids
     → trees_at ts front ++ trees_at ts back ≡ trees_at ts ids
 both_parts ts ids front back m front_is back_is =

@@ -1,4 +1,4 @@
--- What stands at the places of lists.
+-- What is at the places of lists.
 use Rattle.std.proofs.Common.{◌≡◌, ℕ, zero, suc, ◌+◌, ◌<◌, ◌∙◌, List, [], ◌∷◌, ◌++◌, Some, length, map, drop, get_or, inl, inr, refl, sym, ap, arith}
 use Rattle.std.specs.Prelude.{◌⊎◌, slice_get}
 use Rattle.std.proofs.lemmas.Option.{same_Some}
@@ -10,7 +10,7 @@ module _ {X : Type 0} where
   kept_places (a ∷ xs) ys zero x h = h
   kept_places (a ∷ xs) ys (suc k) x h = kept_places xs ys k x h
 
-  -- a new element stands at the end
+  -- a new element is at the end
   pub last_place : (xs : List X) (y : X) → slice_get (xs ++ y ∷ []) (length xs) ≡ Some y
   last_place [] y = refl
   last_place (a ∷ xs) y = last_place xs y
@@ -36,7 +36,7 @@ module _ {X : Type 0} where
       let next : suc i + 1 ≡ suc (i + 1) = omega arith in
       from_place ys i x (omega (arith, less)) is ∙ ap (λ k. x ∷ drop k (y ∷ ys)) (sym next)
 
--- the image of an element stands at its place among the images
+-- the image of an element is at its place among the images
 pub image_place : {A B : Type 0} (f : A → B) (xs : List A) (k : ℕ) (x : A) → slice_get xs k ≡ Some x → slice_get (map f xs) k ≡ Some (f x)
 image_place {A} f [] k x there = absurd (none there)
   where

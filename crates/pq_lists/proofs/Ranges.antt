@@ -15,7 +15,7 @@ unfolding IsDistinct
 range_differs a zero = tt
 range_differs a (suc n) = (beyond a (a + 1) n (omega arith), range_differs (a + 1) n)
 
--- the next number stands last
+-- the next number is last
 pub range_push : (a n : ℕ) → range_with_len a (suc n) ≡ range_with_len a n ++ (a + n) ∷ []
 range_push a zero = ap (λ m. m ∷ []) (omega arith)
 range_push a (suc n) = ap (λ l. a ∷ l) (range_push (a + 1) n ∙ ap (λ m. range_with_len (a + 1) n ++ m ∷ []) (omega arith))

@@ -1,4 +1,4 @@
--- Diagrams behind the tests of the switch that they begin with.
+-- Diagrams after the tests of the switch that they begin with.
 use Rattle.std.proofs.Common.{◌≡◌, ◌∙◌, ◌<◌, ℕ, Bool, true, false, List, Some, if◌then◌else◌, refl, sym, ap}
 use Rattle.std.specs.Prelude.{length}
 use Rattle.std.specs.Option.{option_map}

@@ -16,7 +16,7 @@ use Rattle.pq_emit.specs.Faults.{HasNoFault, fault_of, first_fault, full_table, 
 use Rattle.pq_emit.specs.Switches.{AreAllTrees, TablesTrees}
 use Rattle.pq_emit.proofs.Concluded.{fault_told}
 
--- The fault of trees is never want of memory.
+-- The fault of trees is never running out of memory.
 
 abbrev IsNamed : Option RulesFault → Type 0
 IsNamed None = Unit {0}

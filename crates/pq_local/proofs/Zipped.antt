@@ -30,7 +30,7 @@ module _ {A B : Type 0} where
       subst (λ us. AllZip P us (map items pushed)) (sym front) (subst (λ ms. AllZip P (take k xs ++ x ∷ []) ms) (sym back)
       (all_zipped_more P (take k xs) (map items vs) x (items v) all one))
 
--- what stands at a place
+-- what is at a place
 pub there_is : {A : Type 0} (xs : List A) (k : ℕ) (x : A) → k < length xs → x ≡ get_or xs k x → slice_get xs k ≡ Some x
 there_is xs k x within at = slice_get-get_or xs k x within ∙ ap Some (sym at)
 

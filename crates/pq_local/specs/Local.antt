@@ -39,7 +39,7 @@ pub record IsBefore (d : DocumentTree) (forward : List (Tree (List Written))) (b
 abbrev pub AgreeAt : {L : Type 0} → List (Tree L) → ℕ → ℕ → ℕ → Type 0
 AgreeAt ts d i j = (x : Numbers) → value_at ts i (at_switch d x) ≡ value_at ts j (at_switch d x)
 
--- the messages of a switch: they are lawful, and made of its trees, for which entries can stand; no table has more entries than the switch's limit, and no entry more than 256 copies
+-- the messages of a switch: they are lawful, and made of its trees, for which entries can be; no table has more entries than the switch's limit, and no entry more than 256 copies
 pub record IsServed (T : Topology) (g : Tagging) (writes : Departures) (s : Switch) (ms : List Message) : Type 0 where
   pub trees : TablesTrees
   pub are : AreTrees T g writes s.datapath trees.first trees.second
@@ -60,7 +60,7 @@ IsPlaceServed T forward policy a m k ms = (s : Switch) → slice_get T.switches 
 abbrev pub AreServedAt : Topology → List (Tree (List Written)) → ℕ → LettersValue → Machine → List (List Message) → Type 0
 AreServedAt T forward policy a m all = AllZip (IsServedAt T forward policy a m) T.switches all
 
--- the trees of the switch at a place of the topology, for which entries can stand, at their ids
+-- the trees of the switch at a place of the topology, for which entries can be, at their ids
 pub record AreTablesOf (T : Topology) (g : Tagging) (writes : Departures) (s : Switch) (t : TablesAt) : Type 0 where
   pub trees : IsSwitchAt T g writes t.first t.second s t.trees
   pub sound : IsSoundAt t.first t.second t.trees

@@ -18,7 +18,7 @@ fn is_of_switch(test: Test) -> bool
     tested == own
 }
 
-/// The place behind the tests of the switch that a diagram begins with, for the packets at a switch.
+/// The place after the tests of the switch that a diagram begins with, for the packets at a switch.
 pub(crate) fn switch_place(store: &Store<WriteSet>, node: NodeId, datapath: u64) -> NodeId
     requires { node < length store.now }
     ensures { AgreeAt store.now datapath result node }

@@ -113,7 +113,7 @@ module _ {L : Type 0} where
     joined true false es fs l k v first second none = let found = second refl in (found.0, first-none es fs first ∙ found.1, found.2)
     joined false p es fs l k v first second none = first-none es fs first ∙ none refl
 
-    -- of what stands below a match, the first that covers the packet tells the leaf that it reaches
+    -- of what is below a match, the first that covers the packet tells the leaf that it reaches
     tells : (t : Tree L) (m : MatchFields) → Stands m t → (b : Bool) → covers m x ≡ b → Tells b (matches_below m t) (value t x.packet) m.vlan
     tells (Tip l) m h true c = (m, ap (λ b. if b then Some (m, l) else None) c, refl)
     tells (Tip l) m h false c = ap (λ b. if b then Some (m, l) else None) c
@@ -129,7 +129,7 @@ module _ {L : Type 0} where
         (λ none. subst (Tells b (matches_below (failing s m) n) (value n x.packet)) (failing-vlan s m)
         (in_no (failing-leaves s m x lawful fresh (c ∙ none) ∙ sym none)))
 
-  -- a tree stands below the match of its VLAN_VID word
+  -- a tree is below the match of its VLAN_VID word
   stands : (word : ℕ) (t : Tree L) → IsMatchable t → Stands (vlan_match word) t
   stands word t h = record {
     lawful = h.diagram.lawful;

@@ -55,7 +55,7 @@ buckets_exact = same_items (pointwise actions.eq) (same_items actions.eq action_
 pub buckets_itself : (b : Buckets) → same_buckets b b ≡ true
 buckets_itself = items_itself (pointwise actions.eq) (items_itself actions.eq action_itself)
 
--- the value stands in the list
+-- the value is in the list
 abbrev pub IsIn : {A : Type 0} → A → List A → Type 0
 IsIn a [] = ⊥
 IsIn a (x ∷ xs) = (x ≡ a) ⊎ IsIn a xs

@@ -32,7 +32,7 @@ use Rattle.pq_lookup.proofs.Copying.{to_eth_src, to_eth_dst, to_ipv4_src, to_ipv
 use Rattle.pq_lookup.proofs.Taken.{entry_at}
 use Rattle.pq_lookup.proofs.Grouped.{IsIn, group-there, in-groups}
 
--- what holds of each value that stands in a list
+-- what holds of each value that is in a list
 all-in : {A : Type 0} (P : A → Type 0) (xs : List A) → ((a : A) → IsIn a xs → P a) → AllByRecursion P xs
 all-in P [] h = tt
 all-in P (x ∷ xs) h = (h x (inl refl), all-in P xs (λ a i. h a (inr i)))
@@ -61,7 +61,7 @@ entries-added xid table index (r ∷ rs) = (refl, entries-added (suc xid) table 
 abbrev entries_from : (xid table index : ℕ) → List Rule → List Entry
 entries_from xid table index rs = map entry_of (adds_from xid table index rs)
 
--- an entry of lower index, and so of higher priority, is apart from those behind it
+-- an entry of lower index, and so of higher priority, is apart from those after it
 behind-apart : (e : Entry) (i xid table index : ℕ) (rs : List Rule) → e.priority ≡ 65535 - i → i < index → index + length rs ≤ 65536
     → AllByRecursion (AreApart e) (entries_from xid table index rs)
 behind-apart e i xid table index [] is less few = tt

@@ -38,7 +38,7 @@ module _ {L : Type 0} (blank : L → Bool) where
     none-tells [] all other = refl
     none-tells (p ∷ ps) (h, all) (here, other) = first-none x (entries_of blank p) (table_of blank ps) (others-none p h here) ∙ none-tells ps all other
 
-    -- those with its word, where no tree behind has it
+    -- those with its word, where no tree after has it
     own-tells : (p : ℕ × Tree L) (fs : List (MatchFields × L)) → IsMatchable p.1 → p.0 ≡ vlan_word x.vlan → first_covering x fs ≡ None
         → IsTold (entries_of blank p ++ fs) (value p.1 x.packet)
     own-tells p fs h own none = by (is_blank blank p.1) refl

@@ -48,12 +48,12 @@ stated_bits UdpDst m = None
 stated_bits Ipv6Src m = m.ipv6_src
 stated_bits Ipv6Dst m = m.ipv6_dst
 
--- all of these tests behind one
+-- all of these tests after one
 abbrev all_after : List Bool → Bool → Bool
 all_after [] s = s
 all_after (r ∷ rs) s = all_after rs (s && r)
 
--- the test of a side goes from one conjunct behind all
+-- the test of a side goes from one conjunct after all
 regrouped : (p q r : Bool) → (p && q) && r ≡ (p && r) && q
 regrouped true true true = refl
 regrouped true true false = refl

@@ -1,11 +1,11 @@
--- Led words: what stands behind a word where queries join words.
+-- Led words: what is after a word where queries join words.
 use Rattle.std.proofs.Common.{◌≡◌, ◌≢◌, ℕ, Bool, true, false, inl, inr, ◌⊎◌, [], ◌∷◌, ◌++◌, refl, sym, ap, subst, ◌∙◌, append-nil, append_assoc, rules}
 use Rattle.pq_model.specs.Word.{In, Out, Word, alternates, is_word}
 use Rattle.pq_query.specs.Language.{Joins}
 use Rattle.pq_lower.proofs.Seams.{behind, alternating_cut, AtEnd, AtOnce, Over, seam, seam_before, out_next, join_at_once, join_over}
 use Rattle.pq_lower.proofs.Seen.{IsLead}
 
--- a word of the language, or a word that isn't empty behind an Out
+-- a word of the language, or a word that isn't empty after an Out
 abbrev pub IsLed : (Word → Type 0) → Word → Type 0
 IsLed L [] = L []
 IsLed L (In x ∷ w) = L (In x ∷ w)
@@ -33,7 +33,7 @@ led_word L [] word held = held
 led_word L (In x ∷ w) word held = held
 led_word L (Out x ∷ w) word held = absurd (search (word, rules))
 
--- a word that isn't empty, behind a lead
+-- a word that isn't empty, after a lead
 pub lead_on : (L : Word → Type 0) (lead w : Word) → IsLead lead → is_word w ≡ true → w ≢ [] → L w → IsLed L (lead ++ w)
 lead_on L lead [] is_lead word some held = absurd (some refl)
 lead_on L lead (Out x ∷ w) is_lead word some held = absurd (search (word, rules))
@@ -148,7 +148,7 @@ led_cut L M b (Out x ∷ []) word joined = absurd joined
 led_cut L M true (Out x ∷ o ∷ w) word joined = absurd (search (word, rules))
 led_cut L M false (Out x ∷ o ∷ w) word joined = cut_behind L M (Out x ∷ []) (o ∷ w) (inr (x, refl)) word (λ none. cc) joined
 
--- a word and a led word behind it
+-- a word and a led word after it
 join_led : (L M : Word → Type 0) (u v : Word) → is_word u ≡ true → alternates (behind true u) v ≡ true → L u → IsLed M v → Join L M (u ++ v)
 join_led L M u [] word more held later = (u, [], append-nil u, held, later)
 join_led L M u (In x ∷ v) word more held later = (u, In x ∷ v, join_at_once u (In x ∷ v) word (in_next (behind true u) more), held, later) where

@@ -33,7 +33,7 @@ has_second all n ps qs has = record {
   there = ap (λ m. m + length ps) has.there ∙ sym (length-append has.before ps);
 }
 
--- a predicate behind others
+-- a predicate after others
 truth_behind : (ps more : List PredTree) (p : PredTree) (x : Numbers) → truth (ps ++ p ∷ more) (length ps) x ≡ holds p x
 truth_behind [] more p x = refl
 truth_behind (q ∷ ps) more p x = truth_behind ps more p x

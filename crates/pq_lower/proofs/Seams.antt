@@ -9,7 +9,7 @@ abbrev pub behind : Bool → Word → Bool
 behind b [] = b
 behind b (o ∷ u) = behind (not b) u
 
--- what stands on the two sides of a cut
+-- what is on the two sides of a cut
 pub alternating_cut : (b : Bool) (u v : Word) → alternates b (u ++ v) ≡ true → (alternates b u ≡ true) × (alternates (behind b u) v ≡ true)
 alternating_cut b [] v h = (refl, h)
 alternating_cut true (In x ∷ u) v h = alternating_cut false u v h
@@ -34,7 +34,7 @@ pub word_ends : (u : Word) → is_word u ≡ true → ends_inward u ≡ not (beh
 word_ends [] h = refl
 word_ends (o ∷ u) h = ends_behind true o u h
 
--- how a word joins u and v: with nothing behind u, with v at once, or with an Out between them
+-- how a word joins u and v: with nothing after u, with v at once, or with an Out between them
 pub data Seam (u v w : Word) : Type 0 where
   AtEnd : v ≡ [] → w ≡ u → Seam u v w
   AtOnce : behind true u ≡ true → is_word v ≡ true → v ≢ [] → w ≡ u ++ v → Seam u v w
@@ -68,12 +68,12 @@ seam u (o ∷ v) w word joins = by (ends_inward u) refl joins where
         flag true h = refl
         flag false h = absurd (search (h, rules))
 
--- a word behind an even one
+-- a word after an even one
 pub join_at_once : (u v : Word) → is_word u ≡ true → behind true u ≡ true → Joins u v (u ++ v)
 join_at_once u [] word even = append-nil u
 join_at_once u (o ∷ v) word even = subst (λ b. Linked b u (o ∷ v) (u ++ o ∷ v)) (sym (word_ends u word ∙ ap (λ b. not b) even)) refl
 
--- a word that isn't empty behind an odd one
+-- a word that isn't empty after an odd one
 pub join_over : (u v : Word) (x : Numbers) → v ≢ [] → is_word u ≡ true → behind true u ≡ false → Joins u v (u ++ Out x ∷ v)
 join_over u [] x some word odd = absurd (some refl)
 join_over u (o ∷ v) x some word odd = subst (λ b. Linked b u (o ∷ v) (u ++ Out x ∷ o ∷ v)) (sym (word_ends u word ∙ ap (λ b. not b) odd)) (x, refl)

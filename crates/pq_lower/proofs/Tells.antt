@@ -42,7 +42,7 @@ EachTells ps (e ∷ es) (put top below rest) label = Tells ps (holds e) (Holds t
 
 -- Atoms.
 
--- the words of a language that begin with In, behind an optional Out
+-- the words of a language that begin with In, after an optional Out
 pub lead_tells : (ps : List PredTree) (t : ℕ) (Q : Language) (L : Word → Type 0) → IsAlways ps t
     → ((w : Word) → L w → Q (half_steps ps w) ≡ true)
     → ((w : Word) → Q (half_steps ps w) ≡ true → L w × (x : Numbers) × (v : Word) × (w ≡ In x ∷ v) × (is_word w ≡ true))

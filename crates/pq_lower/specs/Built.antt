@@ -20,7 +20,7 @@ AreBuilt P (put top below rest) = P top below × AreBuilt P below × AreBuilt P 
 abbrev pub IsBuilt : Say → PredTree → Type 0
 IsBuilt P p = AreBuilt P (preds (p ∷ []))
 
--- it is true of what stands around the predicates of a query: operators, the test of port 0, and predicates without a test
+-- it is true of what is around the predicates of a query: operators, the test of port 0, and predicates without a test
 pub record IsKept (P : Say) : Type 0 where
   pub always : P Always none
   pub never : P Never none
@@ -34,7 +34,7 @@ AreTested P [] label = Unit {0}
 AreTested P (g ∷ gs) [] = Unit {0}
 AreTested P (g ∷ gs) (n ∷ label) = P (Equals g.field n) none × AreTested P gs label
 
--- the predicates that stand in queries
+-- the predicates that are in queries
 abbrev pub top_own : QueryTop → List PredTree
 top_own (Enters p gs) = p ∷ []
 top_own (Leaves p gs) = p ∷ []

@@ -25,7 +25,7 @@ all_of P each [] = tt
 all_of P each (x ∷ xs) = (each x, all_of P each xs)
 
 module _ {A : Type 0} (R : A → A → Type 0) where
-  -- each stands before all behind it
+  -- each is before all after it
   abbrev Rise : List A → Type 0
   Rise [] = Unit {0}
   Rise (x ∷ xs) = AllByRecursion (R x) xs × Rise xs
@@ -58,7 +58,7 @@ unfolding IsStrictlySortedBy
 sorted [] = tt
 sorted (n ∷ ns) = ascends_inserted nat_cmp nat_cmp_total (ascending ns) n (sorted ns)
 
--- so each stands before all behind it
+-- so each is before all after it
 numbers_rise : (ns : List ℕ) → IsStrictlySortedBy nat_cmp ns → Rise (λ m n. m < n) ns
 unfolding IsStrictlySortedBy
 numbers_rise [] up = tt
@@ -70,7 +70,7 @@ numbers_rise (n ∷ ns) up = (all_weaker (λ m. nat_cmp n m ≡ Less) (λ m. n <
     by Greater above is = absurd cc
 
 module _ (R : List (List ℕ)) where
-  -- the labels, each behind each of the numbers
+  -- the labels, each after each of the numbers
   abbrev led : List ℕ → List (List ℕ)
   led ns = flat_map (λ n. map (λ label. n ∷ label) R) ns
 
@@ -120,7 +120,7 @@ under_rise place (l ∷ ls) up = (
   under_rise place ls up.1,
 )
 
--- the queries of instances stand behind the first place
+-- the queries of instances are after the first place
 behind : (T : Topology) (place first : ℕ) (qs : List QueryTree) → first ≤ place → AllByRecursion (λ i. first ≤ i.query) (instances_from T place qs)
 behind T place first [] below = tt
 behind T place first (q ∷ qs) below =

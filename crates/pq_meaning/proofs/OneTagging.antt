@@ -34,7 +34,7 @@ module _ {A : Type 0} where
       let longer = length-append front (x ∷ back) in
       omega (arith, more, whole, long, longer)
 
-  -- each stands at one place
+  -- each is at one place
   abbrev StandOnce : List A → Type 0
   StandOnce xs = (i j : ℕ) (x : A) → slice_get xs i ≡ Some x → slice_get xs j ≡ Some x → i ≡ j
 

@@ -1,4 +1,4 @@
--- The diagram of parts, from those of the first of them and of those behind these.
+-- The diagram of parts, from those of the first of them and of those after these.
 use Rattle.std.proofs.Common.{ℕ, ◌+◌, ◌<◌, ◌≤◌, ◌≡◌, ◌∙◌, List, [], ◌∷◌, ◌++◌, take, drop, length, length-append, get_or, Some, inl, inr, sym, ap, subst, arith}
 use Rattle.std.specs.Prelude.{◌⊎◌, slice_get}
 use Rattle.std.proofs.lemmas.List.{length-map, map-append}
@@ -41,7 +41,7 @@ none_united T = record {
   covers = λ ns topology within. record { tests = λ f v none. absurd none; writes = λ f n (x, fit, written). absurd (any_none _ written) };
 }
 
--- and stands at its place
+-- and is at its place
 pub none_at : (T : Topology) (parts : List (List ℕ × Policy)) (ts : List (Tree (List Written))) (k : ℕ)
     → length parts < 1 → slice_get ts k ≡ Some (Tip []) → HasAt (IsUnionOfParts T (part_trees parts)) ts k
 none_at T parts ts k short there = (Tip [], there, subst (λ ps. IsUnionOfParts T ps (Tip [])) (sym (ap part_trees (none_there parts short))) (none_united T))
@@ -80,7 +80,7 @@ pub record HaveHalves (T : Topology) (all : List PolicyTree) (ts : List (Tree (L
   pub front : HasAt (IsUnionOfParts T first) ts i
   pub back : HasAt (IsUnionOfParts T behind) ts j
 
--- stand where they were made one after the other
+-- are where they were made one after the other
 pub have_halves : (T : Topology) (parts front back : List (List ℕ × Policy)) (m : ℕ) (between new : List (Tree (List Written))) (i j : ℕ)
     → front ≡ take m parts → back ≡ drop m parts → Keeps between new
     → HasAt (IsUnionOfParts T (part_trees front)) between i → HasAt (IsUnionOfParts T (part_trees back)) new j → HaveHalves T (part_trees parts) new i j
@@ -129,7 +129,7 @@ module _ {T : Topology} {all : List PolicyTree} {ts : List (Tree (List Written))
             (halves_united T halves.first halves.behind front.0 back.0 made.0 front.2 back.2 made.2),
       )
 
--- The first and those behind them fit and are lawful where all are.
+-- The first and those after them fit and are lawful where all are.
 
 module _ (parts front back : List (List ℕ × Policy)) (m : ℕ) (front_is : front ≡ take m parts) (back_is : back ≡ drop m parts) where
   pub halves_lawful : AreLawful (part_trees parts) → AreLawful (part_trees front) × AreLawful (part_trees back)

@@ -29,7 +29,7 @@ pub record IsMarking (Ls : Languages) (mark : Word → ℕ) : Type 0 where
 abbrev pub TellsApart : Languages → (Word → ℕ) → Type 0
 TellsApart Ls mark = (u v : Word) → IsPath u → IsPath v → mark u ≡ mark v → AreSame Ls u v
 
--- so many words of packets have different marks
+-- this many words of packets have different marks
 pub record HasMarks (mark : Word → ℕ) (n : ℕ) : Type 0 where
   pub words : List Word
   pub count : length words ≡ n
@@ -40,7 +40,7 @@ pub record HasMarks (mark : Word → ℕ) (n : ℕ) : Type 0 where
 abbrev pub HasMarkPerClass : Languages → (Word → ℕ) → Type 0
 HasMarkPerClass Ls mark = (n : ℕ) → HasClasses Ls n → HasMarks mark n
 
--- so if all marks are below a number, there are at most so many classes
+-- so if all marks are below a number, there are at most this many classes
 abbrev pub HasClassPerMark : Languages → (Word → ℕ) → Type 0
 HasClassPerMark Ls mark = (n m : ℕ) → HasClasses Ls n → ((w : Word) → IsPath w → mark w < m) → n ≤ m
 

@@ -18,7 +18,7 @@ past_front m (n ∷ front) back (here, rest) t =
     (same-applies_all (applies (applies t m) n) (applies (applies t n) m) (front ++ back) (here t))
     (past_front m front back rest (applies t n))
 
--- the message commutes with a front, if it does so with what a shorter list of messages lets stand in front
+-- the message commutes with a front, if it does so with what a shorter list of messages lets are in front
 with_one_more : (m n : Message) (ms front back first last : List Message) →
     ((others after : List Message) → HasNoBarrier others → IsLawfulOrder ms (others ++ after) → AllByRecursion (Commute m) others) →
     Commute m n → HasNoBarrier front → IsLawfulOrder ms (first ++ last) → Within front back first last n ⊎ Behind front back first last n →
@@ -33,7 +33,7 @@ with_one_more m n ms front back first last shorter here none order (inr b) =
     shorter front (b.between ++ last) none
     (subst (IsLawfulOrder ms) (ap (λ l. l ++ last) b.before ∙ append_assoc front b.between last) order)
 
--- nothing stands in front of a barrier
+-- nothing is in front of a barrier
 none_in_front : (m : Message) (xid : ℕ) (front back last : List Message) → HasNoBarrier front → front ++ back ≡ Barrier xid ∷ last
     → AllByRecursion (Commute m) front
 none_in_front m xid [] back last none e = tt
@@ -41,7 +41,7 @@ none_in_front m xid (f ∷ front) back last (here, rest) e =
     let is : f ≡ Barrier xid = cc in
     absurd (subst IsNoBarrier is here)
 
--- what stands in a front without barrier are messages before the first barrier
+-- what is in a front without barrier are messages before the first barrier
 commutes_with_front : (m : Message) (ms front back : List Message) → HasNoBarrier front → IsLawfulOrder ms (front ++ back)
     → CommutesUpToBarrier m ms → AllByRecursion (Commute m) front
 commutes_with_front m [] [] back none order commutes = tt

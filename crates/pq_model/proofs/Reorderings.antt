@@ -5,7 +5,7 @@ use Rattle.std.proofs.lemmas.List.Elements.{filter-append}
 use Rattle.pq_model.specs.Orders.{IsReordering}
 
 module _ {A : Type 0} where
-  -- of two divisions of one list, the value lies within the first part, or behind it
+  -- of two divisions of one list, the value lies within the first part, or after it
   pub record Within (front back first last : List A) (x : A) : Type 0 where
     pub between : List A
     pub holds : front ≡ first ++ x ∷ between

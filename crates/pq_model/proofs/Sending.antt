@@ -27,7 +27,7 @@ exchanged false false d e h o = refl
 in_table : (a n : ℕ) (b : Bool) → (a == n) && b ≡ true → a ≡ n
 in_table a n b h = grind (arith, nat_tests)
 
--- an entry that is apart from all of a front may stand before it
+-- an entry that is apart from all of a front may be before it
 taken-put : (e : Entry) (front back : List Entry) → AllByRecursion (AreApart e) front → (n : ℕ) (x : TaggedPacket)
     → taken (front ++ e ∷ back) n x ≡ taken (e ∷ (front ++ back)) n x
 taken-put e [] back apart n x = refl

@@ -26,7 +26,7 @@ pub record AreSame (Ls : Languages) (u v : Word) : Type 0 where
   pub parity : has_even_length u ≡ has_even_length v
   pub held : (e : Word) → IsPath (u ++ e) → IsPath (v ++ e) → (i : ℕ) → Ls i (u ++ e) ↔ Ls i (v ++ e)
 
--- there are so many words, no two of them the same, and every word is the same as one of them
+-- there are this many words, no two of them the same, and every word is the same as one of them
 pub record HasClasses (Ls : Languages) (n : ℕ) : Type 0 where
   pub words : List Word
   pub count : length words ≡ n

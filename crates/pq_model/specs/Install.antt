@@ -79,7 +79,7 @@ IsLawfulRow queries row = (1 ≤ row.tag) × (row.tag ≤ 4094) × (row.pairs �
 abbrev pub IsLawfulList : List Message → Type 0
 IsLawfulList ms = (length ms < 2 ^ 32) × All IsLawfulMessage ms
 
--- the rules of an install; names of switches and limits are no part of its bytes
+-- the rules of an install; names of switches and limits are not part of its bytes
 pub record IsLawfulInstall (i : Install) : Type 0 where
   pub topology : IsLawfulTopology i.topology
   pub few_queries : length i.queries ≤ 256
@@ -113,7 +113,7 @@ row_bytes row = to_be_bytes w16 row.tag ++ to_be_bytes w16 (length row.pairs) ++
 abbrev pub list_bytes : List Message → List ℕ
 list_bytes ms = to_be_bytes w32 (length ms) ++ flat_map message_bytes ms
 
--- the bytes of an install behind a magic that ends with this byte
+-- the bytes of an install after a magic that ends with this byte
 unfoldable pub install_bytes : ℕ → Install → List ℕ
 install_bytes version i =
     0x50 ∷ 0x51 ∷ 0x49 ∷ version ∷ []

@@ -80,7 +80,7 @@ Ascends [] = Unit {0}
 Ascends (x ∷ []) = Unit {0}
 Ascends (x ∷ y ∷ zs) = (x < y) × Ascends (y ∷ zs)
 
--- a bucket's actions stand in their places, each at most once, and end with an Output, so there is no Group
+-- a bucket's actions are in their places, each at most once, and end with an Output, so there is no Group
 pub record IsLawfulBucket (actions : List Action) : Type 0 where
   pub each : All IsLawfulAction actions
   pub placed : Ascends (map bucket_place actions)

@@ -47,7 +47,7 @@ IsPortNumber p = (1 ≤ p) × (p ≤ 0xffffff00)
 abbrev pub IsTagWord : ℕ → Type 0
 IsTagWord w = (0x1001 ≤ w) × (w ≤ 0x1ffe)
 
--- a value and a mask of so many bits; the mask has a one, and the value has none outside it
+-- a value and a mask of this many bits; the mask has a one, and the value has none outside it
 abbrev pub IsMasked : ℕ → ℕ × ℕ → Type 0
 IsMasked bits a = (0 < a.1) × (a.1 < 2 ^ bits) × (bit_and a.0 a.1 ≡ a.0)
 

@@ -37,7 +37,7 @@ abbrev pub item_packet : Item → Numbers
 item_packet (Traced w x) = x
 item_packet (Stranger x) = x
 
--- a packet that stands at another end
+-- a packet that is at another end
 abbrev pub moved_to : Numbers → ℕ × ℕ → Numbers
 moved_to y e = record y { switch = e.0; port = e.1 }
 

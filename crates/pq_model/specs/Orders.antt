@@ -29,7 +29,7 @@ MayFollow (Flow f) front = HasNoBarrier front
 MayFollow (Group g) front = HasNoBarrier front
 MayFollow (Barrier xid) front = front ≡ []
 
--- the messages in an order in which none passes a barrier: each in turn stands behind later messages that may be processed before it
+-- the messages in an order in which none passes a barrier: each in turn is after later messages that may be processed before it
 abbrev pub IsLawfulOrder : List Message → List Message → Type 0
 IsLawfulOrder [] order = order ≡ []
 IsLawfulOrder (m ∷ ms) order = (front : List Message) × (back : List Message) × (order ≡ front ++ m ∷ back) × MayFollow m front

@@ -180,7 +180,7 @@ emits groups (Group n) x = flat_map (λ b. runs emits_in_bucket b x) (buckets_in
 emits groups (SetVlan word) x = []
 emits groups (SetField f n) x = []
 
--- what is sent from a table on, through at most so many tables; `onward` does the same with one table fewer
+-- what is sent from a table on, through at most this many tables; `onward` does the same with one table fewer
 abbrev pub sent_onward : (ℕ → TaggedPacket → List Sent) → Option ℕ → TaggedPacket → List Sent
 sent_onward onward None x = []
 sent_onward onward (Some n) x = onward n x
@@ -212,7 +212,7 @@ to_ports sent = filter_map port_copy sent
 abbrev pub to_controller : List Sent → List TaggedPacket
 to_controller sent = filter_map controller_copy sent
 
--- copies to ports stand first, each part in packet order and then by VLAN number, a copy without a header first
+-- copies to ports are first, each part in packet order and then by VLAN number, a copy without a header first
 abbrev pub in_order : List Sent → List Sent
 in_order sent = map Port (sort_by tagged_numbers (to_ports sent)) ++ map Controller (sort_by tagged_numbers (to_controller sent))
 

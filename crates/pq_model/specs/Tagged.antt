@@ -9,7 +9,7 @@ pub record TaggedPacket : Type 0 where
   pub packet : Numbers
   pub vlan : Option ℕ
 
--- no header stands before every number
+-- no header is before every number
 abbrev pub vlan_key : Option ℕ → ℕ
 vlan_key None = 0
 vlan_key (Some t) = t + 1

@@ -20,7 +20,7 @@ pub fn flow_mods_commute()
     ensures add_and_delete { (f g : FlowValue) → f.command ≡ Add → g.command ≡ DeleteStrict → is_placed g (entry_of f) ≡ false → Commute (Flow f) (Flow g) }
 {}
 
-/// A flow mod that is no Add commutes with every group mod; two group mods commute if both are
+/// A flow mod that is not an Add commutes with every group mod; two group mods commute if both are
 /// DELETEs, or if neither is one and their groups differ.
 pub fn group_mods_commute()
     ensures with_flow_mods { (f : FlowValue) (g : GroupValue) → f.command ≢ Add → Commute (Flow f) (Group g) }

@@ -1,5 +1,5 @@
 //! What everything above speaks of: OpenFlow messages and how they are spelled, how a switch and a network of
-//! switches act on them, and what a document means. The definitions stand in `specs/`; the laws over them are
+//! switches act on them, and what a document means. The definitions are in `specs/`; the laws over them are
 //! the contracts of the functions here.
 #![tactic(auto)]
 

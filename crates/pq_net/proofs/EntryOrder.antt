@@ -14,11 +14,11 @@ joined Less s t = refl
 joined Equal s t = refl
 joined Greater s t = refl
 
--- the end of a label stands below each value
+-- the end of a label is below each value
 nil_first : (b : ℕ) → nat_cmp 0 (b + 1) ≡ Less
 nil_first b = grind (arith, nat_tests)
 
--- each value stands above the end of a label
+-- each value is above the end of a label
 nil_last : (a : ℕ) → nat_cmp (a + 1) 0 ≡ Greater
 nil_last a = grind (arith, nat_tests)
 

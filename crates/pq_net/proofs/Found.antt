@@ -33,7 +33,7 @@ row_absent (row ∷ rows) tag none =
     let differs : row.tag ≢ tag = none 0 row (omega arith) in
     grind (arith, nat_tests, rest, differs)
 
--- at the place of the switch that was found stand its tables
+-- at the place of the switch that was found are its tables
 pub switch_found : (ss : List Switch) (tables : List Tables) (d i : ℕ) (t : Tables) → Ascends (map (λ s. s.datapath) ss)
     → length tables ≡ length ss → IsAt (λ s. s.datapath) ss d i → tables_in ss tables d ≡ get_or tables i t
 switch_found [] tables d i t up listed at = grind (arith, at.0)

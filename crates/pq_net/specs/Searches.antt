@@ -2,7 +2,7 @@
 use Rattle.std.specs.Prelude.{◌≡◌, ◌≢◌, ℕ, ◌<◌, List, All, length}
 use Rattle.std.specs.List.{HoldsAt}
 
--- the value with this number stands at this place
+-- the value with this number is at this place
 abbrev pub IsAt : {A : Type 0} → (A → ℕ) → List A → ℕ → ℕ → Type 0
 IsAt number xs n i = (i < length xs) × HoldsAt (λ x. number x ≡ n) xs i
 

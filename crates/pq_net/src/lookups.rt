@@ -26,7 +26,7 @@ pub(crate) fn pairs_of(report: &[ReportRow], tag: u16) -> &[Instance]
     }
 }
 
-// Where the row with this tag stands.
+// Where the row with this tag is.
 fn row_at(report: &[ReportRow], tag: u16) -> Option<usize>
     requires { Ascends (map (λ row. row.tag) report.now) }
     ensures { MatchOption result (IsNowhere (λ row. row.tag) report.now tag)
@@ -59,7 +59,7 @@ pub(crate) fn copies_of(
     }
 }
 
-// Where the switch with this datapath number stands.
+// Where the switch with this datapath number is.
 fn switch_at(wiring: &Wiring, datapath: u64) -> Option<usize>
     ensures ascending { Ascends (map (λ s. s.datapath) wiring.now.switches) }
     ensures place { MatchOption result (IsNowhere (λ s. s.datapath) wiring.now.switches datapath)

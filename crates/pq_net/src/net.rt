@@ -81,8 +81,8 @@ impl Net {
         })
     }
 
-    /// What an event makes of the network. An injection at what is no edge port, and a hop or a loss at a number that is
-    /// no place of the flight list, change nothing; so does a refusal, for want of memory.
+    /// What an event makes of the network. An injection at what is not an edge port, and a hop or a loss at a number that is
+    /// no place of the flight list, change nothing; so does a refusal, because memory runs out.
     pub fn event(&mut self, alloc: Global, event: Event) -> Result<(), AllocError>
         ensures ok { OnOk result (self.new ≡ after self.old event) }
         ensures err { OnErr result (self.new ≡ self.old) }

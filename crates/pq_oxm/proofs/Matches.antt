@@ -15,7 +15,7 @@ some_of : {A : Type 0} (P Q : A → Type 0) → ((a : A) → P a → Q a) → (x
 some_of P Q f None p = tt
 some_of P Q f (Some a) p = f a p
 
--- a value under a mask of so many bits has no more
+-- a value under a mask of this many bits has no more
 masked_below : (bits : ℕ) (a : ℕ × ℕ) → IsMasked bits a → (a.0 < 2 ^ bits) × (a.1 < 2 ^ bits)
 masked_below bits a masked =
     let value : a.0 ≤ a.1 = subst (λ (n : ℕ). n ≤ a.1) masked.2 (and_le_r a.0 a.1) in

@@ -6,7 +6,7 @@ use Rattle.std.proofs.Math.Nat.{div-div-eq-div-mul, mul_assoc, mul_comm, add-mul
 use Rattle.pq_model.specs.Spelling.{byte, mac_bytes}
 use Rattle.pq_oxm.specs.Reading.{byte_number, mac_number}
 
--- a spelling of numbers below a limit in so many bytes, and how they are read
+-- a spelling of numbers below a limit in this many bytes, and how they are read
 pub record Reads (size limit : ℕ) (bytes : ℕ → List ℕ) (number : List ℕ → ℕ) : Type 0 where
   pub long : (n : ℕ) → length (bytes n) ≡ size
   pub again : (n : ℕ) → n < limit → number (bytes n) ≡ n

@@ -1,4 +1,4 @@
--- A piece that stands at a place.
+-- A piece that is at a place.
 use Rattle.std.proofs.Common.{◌≡◌, ℕ, ◌≤◌, ◌-◌, List, ◌++◌, length, take, drop, refl, sym, ap, ◌∙◌, arith}
 use Rattle.std.proofs.lemmas.List.{take-append-drop, take_at, length-take, length-drop}
 use Rattle.pq_oxm.specs.Standing.{StandsAt}

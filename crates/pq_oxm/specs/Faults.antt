@@ -10,7 +10,7 @@ use Rattle.pq_oxm.specs.Standing.{StandsAt}
 abbrev pub HasNoMatchAt : List ℕ → ℕ → Type 0
 HasNoMatchAt bytes at = (m : MatchFields) → IsLawfulMatch m → StandsAt bytes at (match_bytes m) → ⊥
 
--- a match is refused at its place where none is spelled there, or for want of memory
+-- a match is refused at its place where none is spelled there, or because memory runs out
 abbrev pub IsMatchFault : List ℕ → ℕ → MatchFault → Type 0
 IsMatchFault bytes at (BadMatch place) = (place ≡ at) × HasNoMatchAt bytes at
 IsMatchFault bytes at Memory = Unit {0}

@@ -10,14 +10,14 @@ use Rattle.pq_model.specs.Spelling.{ones32, ones128}
 abbrev pub is_field : ℕ → ℕ → List ℕ → Bool
 is_field code size bytes = nat_le (4 + size) (length bytes) && (get_or bytes 2 0 == code)
 
--- the number of a field at the front, and what stands behind the field
+-- the number of a field at the front, and what is after the field
 unfoldable pub number_field : ℕ → ℕ → (List ℕ → ℕ) → List ℕ → Option ℕ × List ℕ
 number_field field size number bytes = if is_field (field * 2) size bytes then (
   Some (number (take size (drop 4 bytes))),
   drop (4 + size) bytes,
 ) else (None, bytes)
 
--- the address of a field at the front with its mask, and what stands behind the field
+-- the address of a field at the front with its mask, and what is after the field
 unfoldable pub address_field : ℕ → ℕ → (List ℕ → ℕ) → ℕ → List ℕ → Option (ℕ × ℕ) × List ℕ
 address_field field size number ones bytes =
     if is_field (field * 2) size bytes then (Some (number (take size (drop 4 bytes)), ones), drop (4 + size) bytes)

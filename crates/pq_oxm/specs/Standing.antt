@@ -1,4 +1,4 @@
--- What stands at a place in bytes.
+-- What is at a place in bytes.
 use Rattle.std.specs.Prelude.{◌≡◌, ℕ, List, length, take, drop}
 
 -- the bytes from the place on begin with the piece

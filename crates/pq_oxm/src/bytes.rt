@@ -12,7 +12,7 @@ pub fn padding(length: usize) -> usize
     (8 - length % 8) % 8
 }
 
-/// Appends so many zeros, at most eight; where there is no memory for them `into` is as before.
+/// Appends this many zeros, at most eight; where there is no memory for them `into` is as before.
 pub fn write_zeros(count: usize, into: &mut Vec<u8>) -> Result<(), AllocError>
     requires { count ≤ 8 }
     ensures ok { OnOk result (into.new.items ≡ into.old.items ++ replicate count 0) }

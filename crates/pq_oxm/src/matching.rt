@@ -60,7 +60,7 @@ pub fn write_match(alloc: Global, value: &Match, into: &mut Vec<u8>) -> Result<(
 }
 
 /// The numbers of a match fit their fields, and each field has its prerequisites. It does nothing
-/// when it runs: a caller that holds a match behind a reference calls `keeps_rules(*value)` to know
+/// when it runs: a caller that holds a match after a reference calls `keeps_rules(*value)` to know
 /// this of it.
 pub fn keeps_rules(value: Match)
     ensures { IsLawfulMatch value }

@@ -12,7 +12,7 @@ ghost use Rattle.pq_oxm.specs.Reading.{
 use crate::bytes::{mac_of, u16_of, u32_of, u128_of};
 
 // Whether an OXM field of class `OPENFLOW_BASIC` with this third byte, which names it and tells of a
-// mask, stands at the front with a payload of so many bytes (OpenFlow 1.3.5, section 7.2.3.2).
+// mask, is at the front with a payload of this many bytes (OpenFlow 1.3.5, section 7.2.3.2).
 fn is_field(code: u8, size: usize, bytes: &[u8]) -> bool
     requires { size ≤ 32 }
     ensures { result ≡ is_field code size bytes.now }
@@ -20,7 +20,7 @@ fn is_field(code: u8, size: usize, bytes: &[u8]) -> bool
     bytes.len() >= 4 + size && bytes[2] == code
 }
 
-/// The number of a field of one byte that stands at the front, and what stands behind it.
+/// The number of a field of one byte that is at the front, and what is after it.
 #[tactic(auto, unfolding(crate::specs::Reading::number_field))]
 pub fn next_byte(field: u8, bytes: &[u8]) -> (Option<u8>, &[u8])
     requires { field < 128 }
@@ -34,7 +34,7 @@ pub fn next_byte(field: u8, bytes: &[u8]) -> (Option<u8>, &[u8])
     }
 }
 
-/// The number of a field of two bytes that stands at the front, and what stands behind it.
+/// The number of a field of two bytes that is at the front, and what is after it.
 #[tactic(auto, unfolding(crate::specs::Reading::number_field))]
 pub fn next_u16(field: u8, bytes: &[u8]) -> (Option<u16>, &[u8])
     requires { field < 128 }
@@ -47,7 +47,7 @@ pub fn next_u16(field: u8, bytes: &[u8]) -> (Option<u16>, &[u8])
     }
 }
 
-/// The number of a field of four bytes that stands at the front, and what stands behind it.
+/// The number of a field of four bytes that is at the front, and what is after it.
 #[tactic(auto, unfolding(crate::specs::Reading::number_field))]
 pub fn next_u32(field: u8, bytes: &[u8]) -> (Option<u32>, &[u8])
     requires { field < 128 }
@@ -60,7 +60,7 @@ pub fn next_u32(field: u8, bytes: &[u8]) -> (Option<u32>, &[u8])
     }
 }
 
-/// The MAC address of a field that stands at the front, and what stands behind it.
+/// The MAC address of a field that is at the front, and what is after it.
 #[tactic(auto, unfolding(crate::specs::Reading::number_field))]
 pub fn next_mac(field: u8, bytes: &[u8]) -> (Option<u64>, &[u8])
     requires { field < 128 }
@@ -73,8 +73,8 @@ pub fn next_mac(field: u8, bytes: &[u8]) -> (Option<u64>, &[u8])
     }
 }
 
-/// The IPv4 address of a field that stands at the front with its mask, which is all ones where none
-/// stands there, and what stands behind it.
+/// The IPv4 address of a field that is at the front with its mask, which is all ones where none
+/// is there, and what is after it.
 #[tactic(auto, unfolding(crate::specs::Reading::address_field))]
 pub fn next_ipv4(field: u8, bytes: &[u8]) -> (Option<(u32, u32)>, &[u8])
     requires { field < 127 }
@@ -91,8 +91,8 @@ pub fn next_ipv4(field: u8, bytes: &[u8]) -> (Option<(u32, u32)>, &[u8])
     }
 }
 
-/// The IPv6 address of a field that stands at the front with its mask, which is all ones where none
-/// stands there, and what stands behind it.
+/// The IPv6 address of a field that is at the front with its mask, which is all ones where none
+/// is there, and what is after it.
 #[tactic(auto, unfolding(crate::specs::Reading::address_field))]
 pub fn next_ipv6(field: u8, bytes: &[u8]) -> (Option<(u128, u128)>, &[u8])
     requires { field < 127 }

@@ -16,7 +16,7 @@ pub fn write_oxm(field: u8, value: &[u8], into: &mut Vec<u8>) -> Result<(), Allo
     into.extend_from_slice(value)
 }
 
-/// Appends an OXM field of class `OPENFLOW_BASIC` with a mask, which stands behind the value.
+/// Appends an OXM field of class `OPENFLOW_BASIC` with a mask, which is after the value.
 pub fn write_masked_oxm(
     field: u8,
     value: &[u8],

@@ -55,10 +55,10 @@ fn spelled_len(alloc: Global, found: &Match, bytes: &[u8]) -> Result<Option<usiz
     }
 }
 
-/// The match that is spelled at byte `at`, and the byte behind its padding (OpenFlow 1.3.5, section
-/// 7.2.3). A match has one spelling: its fields stand in a fixed order, each at most once, a mask of all
+/// The match that is spelled at byte `at`, and the byte after its padding (OpenFlow 1.3.5, section
+/// 7.2.3). A match has one spelling: its fields are in a fixed order, each at most once, a mask of all
 /// ones is left out, and the padding is 0. So what is read as a match is taken only if its spelling
-/// stands there. `BadMatch` comes exactly where no match is spelled at `at`.
+/// is there. `BadMatch` comes exactly where no match is spelled at `at`.
 pub fn read_match(alloc: Global, bytes: &[u8], at: usize) -> Result<(Match, usize), MatchFault>
     ensures ok { IfOk result (λ found. StandsAt bytes.now at (match_bytes found.0) × (found.1 ≡ at + length (match_bytes found.0))) }
     ensures within { IfOk result (λ found. found.1 ≤ length bytes.now) }

@@ -52,7 +52,7 @@ fn is_mac(value: Option<u64>) -> bool
     }
 }
 
-// An IP protocol stands beside the Ethernet type of IPv4 or IPv6.
+// An IP protocol is beside the Ethernet type of IPv4 or IPv6.
 fn is_ip_proto(value: Option<u8>, eth_type: Option<u16>) -> bool
     ensures { IsTrue result ↔ IfSome value (λ n. (n < 2 ^ 8) × ((eth_type ≡ Some 0x0800) ⊎ (eth_type ≡ Some 0x86dd))) }
 {
@@ -63,7 +63,7 @@ fn is_ip_proto(value: Option<u8>, eth_type: Option<u16>) -> bool
     }
 }
 
-// An IPv4 address stands beside the Ethernet type of IPv4. Its mask has a one, and it has none outside it.
+// An IPv4 address is beside the Ethernet type of IPv4. Its mask has a one, and it has none outside it.
 fn is_ipv4(value: Option<(u32, u32)>, eth_type: Option<u16>) -> bool
     ensures { IsTrue result ↔ IfSome value (λ a. IsMasked 32 a × (eth_type ≡ Some 0x0800)) }
 {
@@ -76,7 +76,7 @@ fn is_ipv4(value: Option<(u32, u32)>, eth_type: Option<u16>) -> bool
     }
 }
 
-// An IPv6 address stands beside the Ethernet type of IPv6. Its mask has a one, and it has none outside it.
+// An IPv6 address is beside the Ethernet type of IPv6. Its mask has a one, and it has none outside it.
 fn is_ipv6(value: Option<(u128, u128)>, eth_type: Option<u16>) -> bool
     ensures { IsTrue result ↔ IfSome value (λ a. IsMasked 128 a × (eth_type ≡ Some 0x86dd)) }
 {
@@ -89,7 +89,7 @@ fn is_ipv6(value: Option<(u128, u128)>, eth_type: Option<u16>) -> bool
     }
 }
 
-// A port of TCP or UDP stands beside its IP protocol.
+// A port of TCP or UDP is beside its IP protocol.
 fn is_port_of(value: Option<u16>, ip_proto: Option<u8>, protocol: u8) -> bool
     ensures { IsTrue result ↔ IfSome value (λ n. (n < 2 ^ 16) × (ip_proto ≡ Some protocol)) }
 {

@@ -106,7 +106,7 @@ is_stopped_at_end before left rest line piece limit TooLong (read, taken, within
     (read, taken, if_none (λ more. BeginsLong limit (pieces_of ((before ++ read) ++ more))) rest ended (subst (BeginsLong limit) (sym (within [])) stopped))
 is_stopped_at_end before left rest line piece limit Memory (read, taken, within) ended stopped = (read, taken, tt)
 
--- what stops a piece is no fault of a read
+-- what stops a piece is not a fault of a read
 pub no_fault : (T : Type 0) (unread : Unread) (limit : ℕ) (pieces : List (List ℕ)) (before now : ℕ) → IsStopped unread limit pieces
     → now ≡ before → HasReadCause {T = T} (Err unread) before now
 no_fault T Failed limit pieces before now stopped same = absurd stopped

@@ -28,7 +28,7 @@ in_line lines line (b ∷ bs) parts = by (b == 10) refl (in_line lines (line ++ 
     by true is later = rw (is, none_here line parts) (ap (λ l. pieces_from l [] bs) (sym (append_assoc lines line (10 ∷ []))))
     by false is later = rw is (later ∙ ap (λ l. within_line l bs) (sym (append_assoc lines line (b ∷ []))))
 
--- after this byte the line is no separator
+-- after this byte the line is not a separator
 abbrev pub Breaks : Line → ℕ → Type 0
 Breaks Start b = (b == 37) ≡ false
 Breaks OneMark b = (b == 37) ≡ false

@@ -32,7 +32,7 @@ pub record IsOnly (text : List ℕ) (left : Option (List ℕ)) (piece : List ℕ
 abbrev pub IsNext : (text : List ℕ) → (left : Option (List ℕ)) → (pending : List ℕ) → Piece → Type 0
 IsNext text left pending p = MatchBool p.is_last (IsOnly text left p.text.items) (IsFirst text left pending p.text.items)
 
--- the text ends within its first piece, of which it has at most so many bytes: it has no whole line that parts it from the next
+-- the text ends within its first piece, of which it has at most this many bytes: it has no whole line that parts it from the next
 pub record IsOpen (limit : ℕ) (text : List ℕ) : Type 0 where
   pub line : Line
   pub piece : List ℕ

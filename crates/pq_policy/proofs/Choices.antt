@@ -25,7 +25,7 @@ with_both T bytes a b p = next (policy_of T bytes a) (with_second T bytes b p)
 abbrev pub choice_among : Topology → List ℕ → Tree → Tree → Tree → Reading PolicyTree
 choice_among T bytes p a b = next (pred_of T bytes p) (with_both T bytes a b)
 
--- a term to stand where there is none
+-- a term to be where there is none
 abbrev pub blank : Term
 blank = roll-Term (record { head = record { kind = Word; at = 0; len = 0 }; children = record { ref_ptr = (0, 0); now = [] } })
 
@@ -39,7 +39,7 @@ three T bytes head (x ∷ y ∷ []) d few many = absurd (omega (arith, few))
 three T bytes head (x ∷ y ∷ z ∷ []) d few many = refl
 three T bytes head (x ∷ y ∷ z ∷ w ∷ ts) d few many = absurd (omega (arith, many))
 
--- other numbers of children are no choice
+-- other numbers of children are not choice
 pub others : (T : Topology) (bytes : List ℕ) (head : Token) (ts : List Term) → length ts ≢ 3
     → choice_of T bytes head (trees ts) (policy_readings T bytes (trees ts)) ≡ faulty head BadValue
 others T bytes head [] other = refl

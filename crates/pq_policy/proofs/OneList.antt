@@ -8,7 +8,7 @@ use Rattle.pq_fields.specs.Packet.{Numbers, is_before, numbers}
 use Rattle.pq_policy.specs.Policy.{IsInPacketOrder, IsListOf}
 use Rattle.pq_policy.proofs.Members.{IsIn, contained, is_in}
 
--- no two lists stand before each other
+-- no two lists are before each other
 never_both : (xs ys : List ℕ) → is_before xs ys ≡ true → is_before ys xs ≡ true → ⊥
 never_both [] [] is back = both_ways true (sym is) refl
 never_both [] (y ∷ ys) is back = both_ways true (sym back) refl
@@ -19,11 +19,11 @@ never_both (x ∷ xs) (y ∷ ys) is back =
       | inr same ↦ elim (first_or_rest y x ys xs back) [ inl more ↦ omega (arith, same.0, more) | inr also ↦ never_both xs ys same.1 also.1 ]
     ]
 
--- x stands before y
+-- x is before y
 abbrev Before : Numbers → Numbers → Type 0
 Before x y = is_before (numbers x) (numbers y) ≡ true
 
--- what is in the list stands behind what stands before all of it
+-- what is in the list is after what is before all of it
 behind : (x : Numbers) (xs : List Numbers) (y : Numbers) → All (Before x) xs → IsIn y xs → Before x y
 behind x xs y all here = All-contains (Before x) xs y all (contained xs y here)
 
@@ -33,7 +33,7 @@ same_first x y xs ys before after (inl same) back = same
 same_first x y xs ys before after (inr later) (inl same) = sym same
 same_first x y xs ys before after (inr later) (inr also) = absurd (never_both (numbers x) (numbers y) (behind x xs y before also) (behind y ys x after later))
 
--- what stands behind x and is y or behind it stands behind y, where x is y
+-- what is after x and is y or after it is after y, where x is y
 in_rest : (x y z : Numbers) (ys : List Numbers) → x ≡ y → Before x z → (z ≡ y) ⊎ IsIn z ys → IsIn z ys
 in_rest x y z ys first less (inl same) =
     let itself = subst (Before x) (same ∙ sym first) less in

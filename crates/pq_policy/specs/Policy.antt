@@ -9,7 +9,7 @@ use Rattle.pq_policy.specs.declared.policy.Policy.{Policy}
 use Rattle.pq_policy.specs.declared.policy.Policy.TheOpen.{Policy-F}
 use Rattle.pq_policy.specs.declared.policy.Policy.TheFolds.{fold-Policy}
 
--- what stands at the top of a policy
+-- what is at the top of a policy
 pub data PolicyTop : Type 0 where
   Pass : PolicyTop
   Discard : PolicyTop
@@ -95,7 +95,7 @@ Yields t (put top below rest) Second x y = Yields t rest First x y
 abbrev pub yields : Topology → PolicyTree → Numbers → Numbers → Type 0
 yields t p x y = Gives t p.top (Yields t p.below) x y
 
--- each packet stands before all later ones in packet order: by their numbers in field order, where the first that differs decides
+-- each packet is before all later ones in packet order: by their numbers in field order, where the first that differs decides
 abbrev pub IsInPacketOrder : List Numbers → Type 0
 IsInPacketOrder [] = Unit {0}
 IsInPacketOrder (x ∷ xs) = All (λ y. is_before (numbers x) (numbers y) ≡ true) xs × IsInPacketOrder xs

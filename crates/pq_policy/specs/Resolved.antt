@@ -29,7 +29,7 @@ write_at T bytes field value =
     next (writable_at bytes field) (λ f.
     next (named value (value_of T f (text_in bytes value))) (λ n. Ok (leaf (Write f n))))
 
--- the write of the value that stands below the field
+-- the write of the value that is below the field
 abbrev pub write_below : Topology → List ℕ → Token → Forest → Reading PolicyTree
 write_below T bytes field nothing = faulty field BadValue
 write_below T bytes field (grown value x y) = write_at T bytes field value

@@ -51,7 +51,7 @@ fn write_at(
     }
 }
 
-/// The write of the value that stands below its field.
+/// The write of the value that is below its field.
 fn write_below(
     field: &Token,
     children: &[Term<'_>],

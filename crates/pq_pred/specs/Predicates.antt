@@ -17,7 +17,7 @@ test_at T bytes field value =
     next (field_at bytes field) (λ f.
     named value (test_of T f (text_in bytes value)))
 
--- the test whose value stands below its field; what has no value is no tree of a sentence
+-- the test whose value is below its field; what has no value is not a tree of a sentence
 abbrev pub test_below : Topology → List ℕ → Token → Forest → Reading PredTree
 test_below T bytes field nothing = faulty field BadValue
 test_below T bytes field (grown value x y) = test_at T bytes field value

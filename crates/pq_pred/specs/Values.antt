@@ -68,7 +68,7 @@ value_of T Ipv6Dst text = Err BadValue
 
 -- Tests.
 
--- the number with its leading bits alone, so many, and 0 in all others
+-- the number with its leading bits alone, this many, and 0 in all others
 abbrev pub cleared : Field → ℕ → ℕ → ℕ
 cleared f len n = leading f len n * 2 ^ (width_of f - len)
 
@@ -81,7 +81,7 @@ address_test exact prefix most (Some n) (Some length) = by (decimal_of most leng
   by (Some len) = Ok (leaf (prefix n len))
   by None = Err BadValue
 
--- the text before `/`, and the one behind it
+-- the text before `/`, and the one after it
 abbrev pub address_part : List ℕ → List ℕ
 address_part text = before_separator (byte "/") text
 

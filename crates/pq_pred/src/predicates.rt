@@ -120,7 +120,7 @@ fn test_at(
     }
 }
 
-/// The test of the field for the value that stands below it.
+/// The test of the field for the value that is below it.
 fn test_below(
     field: &Token,
     children: &[Term<'_>],

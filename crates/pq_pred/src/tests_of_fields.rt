@@ -27,7 +27,7 @@ fn ipv4_test(field: Field, text: &[u8]) -> Result<Pred, NameKind>
     }
 }
 
-/// The address with its leading bits alone, so many.
+/// The address with its leading bits alone, this many.
 fn cleared_ipv4(field: Field, len: u8, value: u32) -> u32
     requires prefixed { is_prefixed field ≡ true }
     requires short { len ≤ 32 }
@@ -56,7 +56,7 @@ fn ipv6_test(field: Field, text: &[u8]) -> Result<Pred, NameKind>
     }
 }
 
-/// The address with its leading bits alone, so many.
+/// The address with its leading bits alone, this many.
 fn cleared_ipv6(field: Field, len: u8, value: u128) -> u128
     requires wide { is_wide field ≡ true }
     requires short { len ≤ 128 }

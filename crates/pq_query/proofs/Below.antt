@@ -1,4 +1,4 @@
--- What stands below a tree.
+-- What is below a tree.
 use Rattle.std.proofs.Common.{◌≡◌, ◌≤◌, true, List, [], ◌∷◌, length, refl, arith}
 use Rattle.pq_tree.specs.declared.term.Term.{Term}
 use Rattle.pq_tree.specs.Trees.{trees}

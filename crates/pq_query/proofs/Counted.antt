@@ -80,11 +80,11 @@ groups_counted T (g ∷ gs) n =
     let product : length (one_from_each (lists_over T (g ∷ gs))) ≡ own * later = each_length (ascending (group_values T g)) (lists_over T gs) in
     ap (on_groups (times s) gs) step ∙ (groups_counted T gs (n * own) ∙ ap capped (mul_assoc n own later ∙ ap (λ k. n * k) (sym product)))
 
--- a query has so many labels
+-- a query has this many labels
 pub labels_counted : (T : Topology) (q : QueryTree) → counted (sizes_of T) q ≡ capped (length (labels T q))
 labels_counted T q = groups_below (times (sizes_of T)) (queries (q ∷ [])) 1 ∙ (groups_counted T (groups_of (queries (q ∷ []))) 1 ∙ ap capped (omega arith))
 
--- queries have so many labels together
+-- queries have this many labels together
 pub sum_is : (T : Topology) (qs : List QueryTree) (n : ℕ) → sum_counted (sizes_of T) qs (capped n) ≡ capped (n + label_sum T qs)
 sum_is T [] n = ap capped (omega arith)
 sum_is T (q ∷ qs) n =

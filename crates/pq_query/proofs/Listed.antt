@@ -44,7 +44,7 @@ opened : (qs : List (List ℕ × Query)) (place : ℕ) (d : List ℕ × Query) �
     → named_trees (drop place qs) ≡ query_tree (get_or qs place d).1 ∷ named_trees (drop (place + 1) qs)
 opened qs place d below = ap named_trees (drop_more qs place d below)
 
--- where the queries that are left have few labels, the one at hand and those behind it have
+-- where the queries that are left have few labels, the one at hand and those after it have
 pub few_left : (T : Topology) (qs : List (List ℕ × Query)) (place : ℕ) (d : List ℕ × Query) → place < length qs
     → label_sum T (named_trees (drop place qs)) ≤ 1024 → (length (labels T (query_tree (get_or qs place d).1)) ≤ 1024)
     × (label_sum T (named_trees (drop (place + 1) qs)) ≤ 1024)

@@ -7,7 +7,7 @@ use Rattle.std.proofs.lemmas.List.{drop_more, get_or_default, get_or_append_left
 use Rattle.std.proofs.Common.{length-append}
 use Rattle.pq_query.specs.Labels.{one_from_each}
 
--- the lists, each behind each of the values
+-- the lists, each after each of the values
 abbrev led : List (List ℕ) → List ℕ → List (List ℕ)
 led R ns = flat_map (λ n. map (λ label. n ∷ label) R) ns
 
@@ -44,7 +44,7 @@ factors zero b place lt = absurd (grind (arith, lt))
 factors (suc a) zero place lt = absurd (grind (arith, lt))
 factors (suc a) (suc b) place lt = (omega arith, omega arith)
 
--- among so many lists the one of this number has a first value, and what follows it has a number among the rest
+-- among this many lists the one of this number has a first value, and what follows it has a number among the rest
 pub record Parted (ns : List ℕ) (rest : List (List ℕ)) (count place : ℕ) : Type 0 where
   pub block : count / length ns ≡ length (one_from_each rest)
   pub room : 0 < count / length ns
@@ -80,7 +80,7 @@ pub parted_at : (lists : List (List ℕ)) (i : ℕ) (item ns : List ℕ) (count 
 parted_at lists i item ns count place below is same all within =
     parted ns (drop (i + 1) lists) count place (all ∙ ap (λ ls. length (one_from_each ls)) (opened lists i item ns below is same)) within
 
--- one more value is put behind those that begin the label
+-- one more value is put after those that begin the label
 pub label_more : (lists : List (List ℕ)) (i : ℕ) (item ns : List ℕ) (count place : ℕ) (begun new whole : List ℕ) → i < length lists
     → item ≡ get_or lists i item → ns ≡ item → count ≡ length (one_from_each (drop i lists)) → place < count
     → new ≡ begun ++ get_or ns (place / (count / length ns)) 0 ∷ [] → begun ++ get_or (one_from_each (drop i lists)) place [] ≡ whole

@@ -43,7 +43,7 @@ others_fit (p ∷ ps) known n fits = others_fit ps known (count_other p known n)
     by true = fits
     by false = omega arith
 
--- so many ports and those of the switches
+-- this many ports and those of the switches
 abbrev with_ports : ℕ → List Switch → ℕ
 with_ports n ss = capped (n + length (ascending (flat_map (λ s. s.ports) ss)))
 

@@ -40,7 +40,7 @@ two_grouped : labels network (leaf (Passes any_packet (by_switch ∷ []) any_pac
     (7 ∷ 6 ∷ []) ∷ (7 ∷ 17 ∷ []) ∷ []
 two_grouped = refl
 
--- the grouped fields of operands stand in text order
+-- the grouped fields of operands are in text order
 operands_grouped : labels network (record {
   top = InTurn;
   below = queries (leaf (Enters any_packet (by_protocol ∷ [])) ∷ leaf (Enters any_packet (by_switch ∷ [])) ∷ []);

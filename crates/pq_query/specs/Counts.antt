@@ -46,7 +46,7 @@ value_count s g = by g.values where
   by (Some ns) = capped (length (ascending ns))
   by None = listed_count s g.field
 
--- so many labels, each with each value of one more group
+-- this many labels, each with each value of one more group
 abbrev pub times : Sizes → Group → ℕ → ℕ
 times s g n = capped (n * value_count s g)
 
@@ -54,16 +54,16 @@ times s g n = capped (n * value_count s g)
 abbrev pub counted : Sizes → QueryTree → ℕ
 counted s q = on_query (times s) q 1
 
--- so many instances and those of the queries
+-- this many instances and those of the queries
 abbrev pub sum_counted : Sizes → List QueryTree → ℕ → ℕ
 sum_counted s [] n = n
 sum_counted s (q ∷ qs) n = sum_counted s qs (capped (n + counted s q))
 
--- so many numbers and this one, where it is none of those that are known
+-- this many numbers and this one, where it is none of those that are known
 abbrev pub count_other : ℕ → List ℕ → ℕ → ℕ
 count_other p known n = if list_any (λ q. q == p) known then n else capped (n + 1)
 
--- so many numbers and those of the first list that are none of the second
+-- this many numbers and those of the first list that are none of the second
 abbrev pub count_others : List ℕ → List ℕ → ℕ → ℕ
 count_others [] known n = n
 count_others (p ∷ ps) known n = count_others ps known (count_other p known n)
@@ -82,6 +82,6 @@ values_of datapaths ports g = by g.values where
   by (Some ns) = ascending ns
   by None = if rank g.field == 0 then datapaths else ports
 
--- the values of one more group behind those of others
+-- the values of one more group after those of others
 abbrev pub with_values : List ℕ → List ℕ → Group → List (List ℕ) → List (List ℕ)
 with_values datapaths ports g lists = lists ++ values_of datapaths ports g ∷ []

@@ -13,6 +13,6 @@ pub record Group : Type 0 where
 abbrev pub stored_group : Inside → Group
 stored_group g = record { field = g.field; values = option_map (λ ns. ns.items) g.values }
 
--- each stated value stands once
+-- each stated value is once
 abbrev pub DiffersEach : Group → Type 0
 DiffersEach g = IfSome g.values (λ ns. IsDistinct nat_eq ns)

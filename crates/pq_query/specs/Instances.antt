@@ -12,7 +12,7 @@ use Rattle.pq_query.specs.Query.{QueryTree, query_tree}
 abbrev pub under_labels : ℕ → List (List ℕ) → List Instance
 under_labels place ls = map (λ label. record { query = place; label = label }) ls
 
--- the instances of queries of which the first stands at this place
+-- the instances of queries of which the first is at this place
 abbrev pub instances_from : Topology → ℕ → List QueryTree → List Instance
 instances_from T place [] = []
 instances_from T place (q ∷ qs) = under_labels place (labels T q) ++ instances_from T (place + 1) qs
@@ -29,7 +29,7 @@ label_sum T qs = sum_by (λ q. length (labels T q)) qs
 abbrev pub named_trees : List (List ℕ × Query) → List QueryTree
 named_trees qs = map (λ q. query_tree q.1) qs
 
--- why there are no instances: too many labels, so many or 2 ^ 32 - 1 where there are more; or want of memory
+-- why there are no instances: too many labels, this many or 2 ^ 32 - 1 where there are more; or running out of memory
 abbrev pub IsCause : InstancesFault → ℕ → Type 0
 IsCause (InstancesFull count) sum = (1024 < sum) × (count ≡ min sum (2 ^ 32 - 1))
 IsCause Memory sum = sum ≤ 1024

@@ -9,7 +9,7 @@ use Rattle.pq_model.specs.Topology.{Topology}
 use Rattle.pq_query.specs.Groups.{Group}
 use Rattle.pq_query.specs.Query.{QueryTop, Enters, Leaves, Passes, Ends, InTurn, Either, Both, Other, Repeated, Queries, none, put, QueryTree, queries}
 
--- the grouped fields of what stands at the top of a query, in text order
+-- the grouped fields of what is at the top of a query, in text order
 abbrev pub top_groups : QueryTop → List Group
 top_groups (Enters p gs) = gs
 top_groups (Leaves p gs) = gs

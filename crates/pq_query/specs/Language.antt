@@ -16,7 +16,7 @@ ends_inward (In x ∷ []) = true
 ends_inward (Out x ∷ []) = false
 ends_inward (o ∷ p ∷ w) = ends_inward (p ∷ w)
 
--- w is u and then v, which isn't empty; after a u that ends in an In, as the flag says, an Out with some packet stands between them
+-- w is u and then v, which isn't empty; after a u that ends in an In, as the flag says, an Out with some packet is between them
 abbrev pub Linked : Bool → Word → Word → Word → Type 0
 Linked true u v w = (x : Numbers) × (w ≡ u ++ Out x ∷ v)
 Linked false u v w = w ≡ u ++ v
@@ -26,7 +26,7 @@ abbrev pub Joins : Word → Word → Word → Type 0
 Joins u [] w = w ≡ u
 Joins u (o ∷ v) w = Linked (ends_inward u) u (o ∷ v) w
 
--- w joins so many words of the language
+-- w joins this many words of the language
 abbrev pub Rounds : (Word → Type 0) → ℕ → Word → Type 0
 Rounds L zero w = w ≡ []
 Rounds L (suc n) w = (u : Word) × (v : Word) × Joins u v w × L u × Rounds L n v

@@ -1,4 +1,4 @@
--- Lawful queries: which numbers may stand in predicates and groups, and no list of operands is empty.
+-- Lawful queries: which numbers may be in predicates and groups, and no list of operands is empty.
 use Rattle.std.specs.Prelude.{◌≡◌, ◌≢◌, ℕ, true, false, List, [], ◌∷◌, map, All, nat_eq, Option, Some, None}
 use Rattle.std.specs.List.{IsDistinct}
 use Rattle.pq_fields.specs.declared.field.Field.{Field}
@@ -21,7 +21,7 @@ abbrev pub MayTake : (Field → ℕ → Type 0) → Field → Option (List ℕ) 
 MayTake V f (Some ns) = AreValuesOver V f ns
 MayTake V f None = is_listed f ≡ true
 
--- the field is no IPv6 address, and may take the values
+-- the field is not an IPv6 address, and may take the values
 abbrev pub IsGroupOver : (Field → ℕ → Type 0) → Group → Type 0
 IsGroupOver V g = (is_wide g.field ≡ false) × MayTake V g.field g.values
 

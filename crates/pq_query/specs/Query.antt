@@ -6,7 +6,7 @@ use Rattle.pq_query.specs.declared.query.Query.{Query}
 use Rattle.pq_query.specs.declared.query.Query.TheOpen.{Query-F}
 use Rattle.pq_query.specs.declared.query.Query.TheFolds.{fold-Query}
 
--- what stands at the top of a query: an atom with its predicates, each with its grouped fields; or an operator
+-- what is at the top of a query: an atom with its predicates, each with its grouped fields; or an operator
 pub data QueryTop : Type 0 where
   Enters : PredTree → List Group → QueryTop
   Leaves : PredTree → List Group → QueryTop

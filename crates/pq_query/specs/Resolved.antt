@@ -64,7 +64,7 @@ unstated f = record { field = f; values = None }
 abbrev pub stated : Field → List ℕ → Group
 stated f ns = record { field = f; values = Some ns }
 
--- the group of a field, with the values that stand below it
+-- the group of a field, with the values that are below it
 abbrev pub with_values : Topology → List ℕ → Field → Forest → Reading Group
 with_values T bytes f nothing = Ok (unstated f)
 with_values T bytes f (grown t below rest) = next (values_after T bytes f [] (grown t below rest)) (λ ns. Ok (stated f ns))
@@ -89,12 +89,12 @@ abbrev pub later : Forest → Forest
 later nothing = nothing
 later (grown t below rest) = rest
 
--- the predicate that stands first
+-- the predicate that is first
 abbrev pub pred_in : Topology → List ℕ → Token → Forest → Reading PredTree
 pred_in T bytes head nothing = faulty head BadValue
 pred_in T bytes head (grown t below rest) = pred_of T bytes (record { head = t; below = below })
 
--- the groups of the brackets that stand first
+-- the groups of the brackets that are first
 abbrev pub groups_in : Topology → List ℕ → Token → Forest → Reading (List Group)
 groups_in T bytes head nothing = faulty head BadValue
 groups_in T bytes head (grown t below rest) = groups_after T bytes [] below

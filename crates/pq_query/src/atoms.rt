@@ -27,7 +27,7 @@ fn later<'a>(terms: &'a [Term<'a>]) -> &'a [Term<'a>]
     }
 }
 
-/// The predicate that stands first.
+/// The predicate that is first.
 fn pred_in(
     alloc: Global,
     bytes: &[u8],
@@ -43,7 +43,7 @@ fn pred_in(
     }
 }
 
-/// The groups of the brackets that stand first.
+/// The groups of the brackets that are first.
 fn groups_in(
     alloc: Global,
     bytes: &[u8],
@@ -59,7 +59,7 @@ fn groups_in(
     }
 }
 
-/// The predicate that stands first, without groups.
+/// The predicate that is first, without groups.
 fn bare_in(
     alloc: Global,
     bytes: &[u8],
@@ -73,7 +73,7 @@ fn bare_in(
     Ok((pred, Vec::new(alloc)))
 }
 
-/// The predicate that stands first, and the groups of the brackets after it.
+/// The predicate that is first, and the groups of the brackets after it.
 fn grouped_in(
     alloc: Global,
     bytes: &[u8],

@@ -31,14 +31,14 @@ pub(crate) fn count_all(queries: &[(Name, Query)], sizes: Sizes) -> u32
     count
 }
 
-/// The number of labels of the query, where `switch` and `port` have so many values.
+/// The number of labels of the query, where `switch` and `port` have this many values.
 pub(crate) fn count_labels(query: &Query, sizes: Sizes) -> u32
     ensures { result ≡ counted sizes (query_tree query.now) }
 {
     times_query(query, sizes, 1)
 }
 
-/// So many labels, each with each value of the groups of the query.
+/// This many labels, each with each value of the groups of the query.
 /// It recurs as deep as the query nests, in a document at most 100.
 #[cycle(counted)]
 fn times_query(query: &Query, sizes: Sizes, count: u32) -> u32
@@ -57,7 +57,7 @@ fn times_query(query: &Query, sizes: Sizes, count: u32) -> u32
     }
 }
 
-/// So many labels, each with each value of the groups of the queries.
+/// This many labels, each with each value of the groups of the queries.
 #[cycle(counted)]
 fn times_queries(operands: &[Query], sizes: Sizes, count: u32) -> u32
     ensures { result ≡ on_queries (times sizes) (queries (map query_tree operands.now)) count }
@@ -69,7 +69,7 @@ fn times_queries(operands: &[Query], sizes: Sizes, count: u32) -> u32
     product
 }
 
-/// So many labels, each with each value of the groups and then of the others.
+/// This many labels, each with each value of the groups and then of the others.
 fn times_both(groups: &[Group], others: &[Group], sizes: Sizes, count: u32) -> u32
     ensures { result ≡ on_groups (times sizes) (groups.now ++ others.now) count }
 {
@@ -77,7 +77,7 @@ fn times_both(groups: &[Group], others: &[Group], sizes: Sizes, count: u32) -> u
     times_groups(others, sizes, product)
 }
 
-/// So many labels, each with each value of the groups.
+/// This many labels, each with each value of the groups.
 fn times_groups(groups: &[Group], sizes: Sizes, count: u32) -> u32
     ensures { result ≡ on_groups (times sizes) groups.now count }
 {

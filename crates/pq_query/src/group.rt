@@ -4,7 +4,7 @@ use std::marker::Model;
 /// A grouped field of an atom, with the values that it takes; without values it takes all datapath numbers or all port
 /// numbers of the topology.
 ///
-/// A lawful group has values that fit the width of its field, each once, and a field that is no IPv6 address; one without
+/// A lawful group has values that fit the width of its field, each once, and a field that is not an IPv6 address; one without
 /// values has `Switch` or `Port`.
 #[derive(Debug, Drop)]
 pub struct Group {

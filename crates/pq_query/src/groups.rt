@@ -159,7 +159,7 @@ fn has_values(terms: &[Term<'_>]) -> bool
     }
 }
 
-/// The group of a field, with the values that stand below it.
+/// The group of a field, with the values that are below it.
 fn with_values(
     alloc: Global,
     bytes: &[u8],

@@ -22,7 +22,7 @@ const MOST_INSTANCES: u32 = 1024;
 /// Why the instances of queries are refused.
 #[derive(Clone, Copy, Debug, PartialEq, Eq, Error)]
 pub enum InstancesFault {
-    /// There are more than 1,024 instances: so many, or 4,294,967,295 where there are more.
+    /// There are more than 1,024 instances: this many, or 4,294,967,295 where there are more.
     #[error("{count} instances")]
     InstancesFull { count: u32 },
     /// There is not enough memory.
@@ -78,7 +78,7 @@ fn few_instances(
     Ok(all)
 }
 
-/// Appends the query at this place with each label, of which there are so many: all lists with one value from each.
+/// Appends the query at this place with each label, of which there are this many: all lists with one value from each.
 fn push_instances(
     alloc: Global,
     place: u16,
@@ -99,7 +99,7 @@ fn push_instances(
     Ok(())
 }
 
-/// The label of this number among so many, which are all lists with one value from each.
+/// The label of this number among this many, which are all lists with one value from each.
 fn label_at(
     alloc: Global,
     lists: &[Values],

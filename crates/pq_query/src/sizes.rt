@@ -40,7 +40,7 @@ fn count_ports(switches: &[Switch]) -> u32
     count
 }
 
-/// So many port numbers and those of the switch that no later one has.
+/// This many port numbers and those of the switch that no later one has.
 fn count_new(switch: &Switch, later: &[Switch], count: u32) -> u32
     requires { All IsLawfulSwitch later.now }
     ensures { result ≡ count_others switch.now.ports (flat_map (λ s. s.ports) later.now) count }
@@ -48,7 +48,7 @@ fn count_new(switch: &Switch, later: &[Switch], count: u32) -> u32
     count_others(&switch.ports, later, count)
 }
 
-/// So many port numbers and those of the list that none of the switches has.
+/// This many port numbers and those of the list that none of the switches has.
 fn count_others(ports: &[u32], switches: &[Switch], count: u32) -> u32
     requires { All IsLawfulSwitch switches.now }
     ensures { result ≡ count_others ports.now (flat_map (λ s. s.ports) switches.now) count }
@@ -60,7 +60,7 @@ fn count_others(ports: &[u32], switches: &[Switch], count: u32) -> u32
     total
 }
 
-/// So many port numbers and this one, where none of the switches has it.
+/// This many port numbers and this one, where none of the switches has it.
 fn count_other(port: u32, switches: &[Switch], count: u32) -> u32
     requires { All IsLawfulSwitch switches.now }
     ensures { result ≡ count_other port (flat_map (λ s. s.ports) switches.now) count }

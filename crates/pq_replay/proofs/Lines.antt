@@ -4,7 +4,7 @@ use Rattle.std.proofs.lemmas.List.{take_more}
 use Rattle.std.proofs.lemmas.Grind.{flat_map-append}
 use Rattle.std.specs.List.{flat_map}
 
--- the line of one more value, behind those of the values before it
+-- the line of one more value, after those of the values before it
 pub one_more_line : {X : Type 0} (line : X → List ℕ) (xs : List X) (i : ℕ) (x : X) (start before now : List ℕ) → i < length xs → x ≡ get_or xs i x
     → before ≡ start ++ flat_map line (take i xs) → now ≡ before ++ line x → now ≡ start ++ flat_map line (take (i + 1) xs)
 one_more_line {X} line xs i x start before now within is so_far written =

@@ -30,7 +30,7 @@ pub record IsReplay (bytes written : List ℕ) : Type 0 where
   pub scheduled : IsScheduleText text events
   pub state : written ≡ output install.queries (replayed install events)
 
--- behind an install the first line that is no event begins at the place, behind at most 100,000 events
+-- after an install the first line that is not an event begins at the place, after at most 100,000 events
 pub record HasSyntaxFault (bytes : List ℕ) (at : ℕ) : Type 0 where
   pub install : Install
   pub size : ℕ
@@ -40,7 +40,7 @@ pub record HasSyntaxFault (bytes : List ℕ) (at : ℕ) : Type 0 where
   pub fault : FirstFault text place
   pub counted : at ≡ size + place
 
--- behind an install the first lines are more events than a schedule has
+-- after an install the first lines are more events than a schedule has
 pub record HasTooManyEvents (bytes : List ℕ) : Type 0 where
   pub install : Install
   pub size : ℕ
@@ -48,14 +48,14 @@ pub record HasTooManyEvents (bytes : List ℕ) : Type 0 where
   pub begins : BeginsWith bytes install size text
   pub many : IsTooLong text
 
--- what a fault tells is true of the bytes; want of memory has no cause
+-- what a fault tells is true of the bytes; running out of memory has no cause
 abbrev pub IsReplayFault : List ℕ → ReplayFault → Type 0
 IsReplayFault bytes (Damaged at) = IsDamagedAt bytes at
 IsReplayFault bytes (Syntax at) = HasSyntaxFault bytes at
 IsReplayFault bytes Full = HasTooManyEvents bytes
 IsReplayFault bytes Memory = Unit {0}
 
--- the bytes are an install's spelling, or its old one, and at once behind it a schedule
+-- the bytes are an install's spelling, or its old one, and at once after it a schedule
 pub record IsReplayable (bytes : List ℕ) : Type 0 where
   pub install : Install
   pub size : ℕ

@@ -3,7 +3,7 @@
 pub enum ReplayFault {
     /// The input begins with no install; the first unit that is missing, cut or unlawful begins here.
     Damaged { at: usize },
-    /// The first line that is no event begins here.
+    /// The first line that is not an event begins here.
     Syntax { at: usize },
     /// The schedule has more than 100,000 events.
     Full,

@@ -7,7 +7,7 @@ use pq_install::{InstallFault, read_install};
 use pq_schedule::{ScheduleFault, read_schedule};
 use std::alloc::Global;
 
-/// The state of a network after a schedule, as text: the bytes are an install and, at once behind it, the schedule.
+/// The state of a network after a schedule, as text: the bytes are an install and, at once after it, the schedule.
 /// The install is judged first, and then the schedule line by line.
 pub fn replay_text(alloc: Global, bytes: &[u8]) -> Result<Vec<u8>, ReplayFault>
     ensures ok { IfOk result (λ written. IsReplay bytes.now written.items) }

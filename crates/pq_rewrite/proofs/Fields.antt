@@ -90,7 +90,7 @@ at_field f UdpDst n w writable = refl
 at_field f Ipv6Src n w writable = absurd (true≢false (sym writable))
 at_field f Ipv6Dst n w writable = absurd (true≢false (sym writable))
 
--- a number for one field stands there, and elsewhere what was to be written
+-- a number for one field is there, and elsewhere what was to be written
 pub written_with : (f g : Field) (n : ℕ) (w : Written) → is_writable g ≡ true
     → written_in g (with_write f n w) ≡ (if rank f == rank g then Some n else written_in g w)
 written_with f g n w writable = ap (written_in g) (with_write_is f n w) ∙ at_field f g n w writable

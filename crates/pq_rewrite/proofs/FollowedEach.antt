@@ -83,7 +83,7 @@ module _ (front back : List Written) where
 
   module _ (old mid : List (Tree (List Written))) (k i j : ℕ) (inside : k < length old) (left : FollowsEachAt front old k mid i)
       (right : FollowsEachAt back old k mid j) where
-    -- the trees of both halves stand within
+    -- the trees of both halves are within
     pub halves_within : (i < length mid) × (j < length mid)
     halves_within =
         let u = at_place old k inside in

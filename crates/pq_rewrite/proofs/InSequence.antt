@@ -117,7 +117,7 @@ module _ (ts : List (Tree (List Written))) (i j : ℕ) (diagrams : AreDiagrams t
         covers_leaves u (diagrams j u u_is) (second u u_is) ns within.1,
       )) (fits t u t_is u_is)
 
-  -- and what stands at a place in a store that has grown is their sequence
+  -- and what is at a place in a store that has grown is their sequence
   pub sequences : (new : List (Tree (List Written))) (id : ℕ) → Keeps ts new → IsSequencedAt new i j id → SequencesAt ts i j new id
   sequences new id keeps made t u t_is u_is = (
     made.sequenced,

@@ -25,7 +25,7 @@ use Rattle.pq_rewrite.proofs.Numbers.{passes_unwritten, passes_written}
 abbrev pub test_tree : Test → Tree Bool
 test_tree t = Fork t (Tip true) (Tip false)
 
--- a lawful test may stand before two leaves
+-- a lawful test may be before two leaves
 pub leaves_join : (t : Test) → IsLawful t → IsJoinable t (Tip true) (Tip false)
 leaves_join t lawful = record {
   lawful = lawful;
@@ -91,7 +91,7 @@ module _ {L : Type 0} (w : Written) (t : Test) where
       chooses_same (passes t) (test_needs w t) (passes_after w t) old new i j id (λ x. sym (passes_unwritten t w x none)) chooses
 
 module _ {L : Type 0} (w : Written) (t : Test) (n : ℕ) (written : written_in (field_of t) w ≡ Some n) where
-  -- the one side and the choice by the test stand within the store
+  -- the one side and the choice by the test are within the store
   pub passed_within : (old mid : List (Tree L)) (i j side unwritten : ℕ) → side ≡ (if decides t n then i else j) → Keeps old mid
       → i < length old → j < length old
       → ChoosesByAt (passes t) (test_needs w t) old i j mid unwritten → (side < length mid) × (unwritten < length mid)

@@ -41,7 +41,7 @@ both_sequenced s y n u a b r left right choice = record {
       (right.tests ns (covers_no ns s y n first) second);
 }
 
--- a tree may come behind both sides of a fork where it may come behind the fork
+-- a tree may come after both sides of a fork where it may come after the fork
 yes_fits : (s : Test) (y n u : Tree (List Written)) → FitAsSequence (Fork s y n) u → FitAsSequence y u
 yes_fits s y n u = room_for (λ ns within. (covers_yes ns s y n within.0, within.1))
 

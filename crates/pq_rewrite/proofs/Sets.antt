@@ -32,20 +32,20 @@ module _ {X : Type 0} where
   pub any_none : (P : X → Type 0) → Any P [] → ⊥
   any_none P (k, y, within, at, p) = omega arith
 
-  -- it stands in the list
+  -- it is in the list
   abbrev pub IsIn : X → List X → Type 0
   IsIn x xs = Any (λ y. x ≡ y) xs
 
   module _ (R : X → X → Type 0) (never : (x : X) → R x x → ⊥) (trans : (x y z : X) → R x y → R y z → R x z) where
-    -- the first stands before all behind it
+    -- the first is before all after it
     first_before : (x : X) (xs : List X) (z : X) → AllPairs R (x ∷ xs) → IsIn z xs → R x z
     first_before x xs z pairs (k, y, within, at, is) = subst (R x) (at ∙ sym is) (pairs zero (suc k) y (omega arith) (omega arith))
 
-    -- and those behind it ascend
+    -- and those after it ascend
     rest_ascends : (x : X) (xs : List X) → AllPairs R (x ∷ xs) → AllPairs R xs
     rest_ascends x xs pairs i j d below within = pairs (suc i) (suc j) d (omega arith) (omega arith)
 
-    -- what stands behind the first of one list, and in another with the same first, stands behind it there
+    -- what is after the first of one list, and in another with the same first, is after it there
     behind : (x : X) (xs : List X) (y : X) (ys : List X) → AllPairs R (x ∷ xs) → x ≡ y → ((z : X) → IsIn z (x ∷ xs) → IsIn z (y ∷ ys))
         → (z : X) → IsIn z xs → IsIn z ys
     behind x xs y ys pairs same into z there = elim (any_cases (λ w. z ≡ w) y ys (into z (any_later (λ w. z ≡ w) x xs there))) [
@@ -81,7 +81,7 @@ reversed Greater same less = absurd cc
 laws : IsTotalOrder writes_cmp
 laws = order.Laws.total-law
 
--- no writes stand before themselves
+-- no writes are before themselves
 pub never_before : (w : Written) → writes_cmp w w ≡ Less → ⊥
 never_before w less = reversed (writes_cmp w w) (laws.antisymm w w) less
 

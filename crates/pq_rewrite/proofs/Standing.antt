@@ -6,7 +6,7 @@ use Rattle.pq_store.specs.Store.{HasAt, Keeps}
 use Rattle.pq_store.specs.Tree.{Tree}
 
 module _ {L : Type 0} (P : Tree L → Type 0) where
-  -- a tree at a place stands within
+  -- a tree at a place is within
   pub has_within : (ts : List (Tree L)) (k : ℕ) → HasAt P ts k → k < length ts
   has_within ts k has = slice_get_within ts k has.0 has.1
 

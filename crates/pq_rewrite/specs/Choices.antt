@@ -62,7 +62,7 @@ abbrev pub test_needs : Written → Test → (Field → List ℕ) → Type 0
 test_needs w t ns = IsTestWithin ns t × ((n : ℕ) → written_in (field_of t) w ≡ Some n → NeedsAmong ns (field_of t))
 
 module _ {L : Type 0} where
-  -- what stands at a place, or the one side that packets reach once they are written
+  -- what is at a place, or the one side that packets reach once they are written
   abbrev pub IsStepAt : Written → List (Tree L) → ℕ → Step L → Type 0
   IsStepAt w ts k (Leaf l) = slice_get ts k ≡ Some (Tip l.now)
   IsStepAt w ts k (Side next) =

@@ -10,7 +10,7 @@ use Rattle.pq_store.specs.Tree.{Tree, value}
 use Rattle.pq_store.specs.Room.{IsCounted, Within}
 use Rattle.pq_apply.specs.Predicates.{NeedsAmong}
 
--- each stands before all behind it, so each stands once
+-- each is before all after it, so each is once
 abbrev pub Ascend : List Written → Type 0
 Ascend ws = AllPairs (λ v w. writes_cmp v w ≡ Less) ws
 

@@ -1,4 +1,4 @@
--- The actions of arrivals and of copies are lawful, and stand in the order of a bucket.
+-- The actions of arrivals and of copies are lawful, and are in the order of a bucket.
 use Rattle.std.proofs.Common.{◌≡◌, ◌⊎◌, inl, inr, ℕ, ◌+◌, ◌<◌, ◌≤◌, Bool, true, false, List, [], ◌∷◌, ◌++◌, Some, None, length, map, refl, arith}
 use Rattle.std.specs.Prelude.{IfSome}
 use Rattle.std.specs.Option.{unwrap_or}
@@ -23,7 +23,7 @@ use Rattle.pq_rewrite.specs.declared.trees.Arrive.{Arrive}
 use Rattle.pq_layout.specs.Actions.{arrival_actions, buckets_of, copy_actions, header_actions, output_port, set_field, tag_actions, tag_word}
 use Rattle.pq_layout.specs.Sound.{IsSoundCopy, IsTagNumber}
 
--- lawful actions in ascending places from one on and below another, at most so many
+-- lawful actions in ascending places from one on and below another, at most this many
 pub record AreOrdered (low high most : ℕ) (as_ : List Action) : Type 0 where
   pub lawful : AllByRecursion IsLawfulAction as_
   pub ascends : Ascends (map bucket_place as_)
@@ -44,7 +44,7 @@ ascends_both k (a ∷ []) [] first second below above = tt
 ascends_both k (a ∷ []) (b ∷ bs) first second below above = (omega (arith, below.0, above.0), second)
 ascends_both k (a ∷ b ∷ as_) bs first second below above = (first.0, ascends_both k (b ∷ as_) bs first.1 second below.1 above)
 
--- one list behind another
+-- one list after another
 both_ordered : (low middle high m n : ℕ) (as_ bs : List Action) → low ≤ middle → middle ≤ high → AreOrdered low middle m as_
     → AreOrdered middle high n bs → AreOrdered low high (m + n) (as_ ++ bs)
 both_ordered low middle high m n as_ bs l h first second = record {

@@ -29,7 +29,7 @@ module _ {L : Type 0} (ts : List (Tree L)) where
   leaf_found k l m old at t is = subst (λ u. Finds ts (matches_below m u) old (old ++ (m, k) ∷ [])) (same_Some (Tip l) t (sym at ∙ is))
       ((m, k) ∷ [], refl, ((refl, at), tt))
 
-  -- one list is found behind another
+  -- one list is found after another
   pub found_both : (ms ns : List (MatchFields × L)) (old mid new : List (MatchFields × ℕ)) → Finds ts ms old mid → Finds ts ns mid new
       → Finds ts (ms ++ ns) old new
   found_both ms ns old mid new first second = (
@@ -58,7 +58,7 @@ module _ {L : Type 0} (ts : List (Tree L)) where
       subst (λ u. StaysLawful m (Fork s y u)) right
       (subst (λ u. StaysLawful m (Fork s u shows.no_tree)) left (stays (Fork s shows.yes_tree shows.no_tree) shows.is))
 
-  -- what is found behind nothing is all
+  -- what is found after nothing is all
   pub found_alone : (ms : List (MatchFields × L)) (old new : List (MatchFields × ℕ)) → old ≡ [] → Finds ts ms old new → AreFound ts ms new
   found_alone ms old new none found = subst (AreFound ts ms) (sym (found.1 ∙ ap (λ l. l ++ found.0) none)) found.2
 

@@ -34,7 +34,7 @@ pub group_grows : (gs : List (List Outgoing)) (o : Option (List Outgoing)) → G
 group_grows gs None = grows_self gs
 group_grows gs (Some g) = insert_grows gs g
 
--- a group that stands at a place is there
+-- a group that is at a place is there
 at_any : (gs : List (List Outgoing)) (i : ℕ) (g : List Outgoing) → slice_get gs i ≡ Some g → list_any (copies_eq g) gs ≡ true
 at_any [] i g is = absurd cc
 at_any (h ∷ gs) zero g is = let one : h ≡ g = cc in subst (λ k. list_any (copies_eq g) (k ∷ gs) ≡ true) (sym one) (rw (copies_equiv.refl g) refl)

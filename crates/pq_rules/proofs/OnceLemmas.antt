@@ -1,4 +1,4 @@
--- Lists with each value once, where it stands first.
+-- Lists with each value once, where it is first.
 use Rattle.std.proofs.Common.{◌≡◌, Bool, true, false, cond, not, if◌then◌else◌, List, [], ◌∷◌, ◌++◌, map, refl, sym, ap, subst, ◌∙◌, true≢false}
 use Rattle.std.specs.Prelude.{◌||◌, ◌&&◌}
 use Rattle.std.specs.List.{AllByRecursion, IsDistinct, filter, list_any}
@@ -35,7 +35,7 @@ filter_made P f p q same (x ∷ xs) all = by (q x) (same x all.0) (filter_made P
     by false is rest = ap (λ b. cond b (f x ∷ filter p (map f xs)) (filter p (map f xs))) is ∙ rest
 
 module _ {A : Type 0} (E : A → A → Bool) where
-  -- each once, where it stands first
+  -- each once, where it is first
   unfoldable pub once : List A → List A
   once [] = []
   once (x ∷ xs) = x ∷ filter (λ y. not (E x y)) (once xs)

@@ -50,7 +50,7 @@ module _ {L : Type 0} (ts : List (Tree L)) where
   pub roots_within : (roots : List (ℕ × ℕ)) → All (IsRoot ts) roots → AreWithin ts roots
   roots_within roots all k d below = let root = all k d below in slice_get_within ts _ root.1.0 root.1.1
 
-  -- what is found is what stands at the ids
+  -- what is found is what is at the ids
   pub found_resolved : (default : L) (ms : List (MatchFields × L)) (es : List (MatchFields × ℕ)) → AreFound ts ms es → resolved default ts es ≡ ms
   found_resolved default [] [] found = refl
   found_resolved default [] (e ∷ es) found = absurd found

@@ -13,7 +13,7 @@ path_count (Fork s y n) = path_count y + path_count n
 abbrev pub capped : ℕ → ℕ
 capped n = min n (2 ^ 64 - 1)
 
--- the tree at a place has so many paths
+-- the tree at a place has this many paths
 abbrev pub CountsAt : {L : Type 0} → List (Tree L) → ℕ → ℕ → Type 0
 CountsAt ts k n = HasAt (λ t. n ≡ capped (path_count t)) ts k
 

@@ -41,7 +41,7 @@ IsFound ts m e = (e.0 ≡ m.0) × (slice_get ts e.1 ≡ Some (Tip m.1))
 abbrev pub AreFound : {L : Type 0} → List (Tree L) → List (MatchFields × L) → List (MatchFields × ℕ) → Type 0
 AreFound ts ms es = AllZip (IsFound ts) ms es
 
--- they are found behind what was found before
+-- they are found after what was found before
 abbrev pub Finds : {L : Type 0} → List (Tree L) → List (MatchFields × L) → List (MatchFields × ℕ) → List (MatchFields × ℕ) → Type 0
 Finds ts ms old new = (more : List (MatchFields × ℕ)) × (new ≡ old ++ more) × AreFound ts ms more
 

@@ -26,7 +26,7 @@ leaf_or default (Some (Fork s y n)) = default
 abbrev pub leaf_at : {L : Type 0} → L → List (Tree L) → ℕ → L
 leaf_at default ts k = leaf_or default (slice_get ts k)
 
--- a leaf stands at the place
+-- a leaf is at the place
 abbrev pub IsLeafAt : {L : Type 0} → List (Tree L) → ℕ → Type 0
 IsLeafAt {L} ts k = (l : L) × (slice_get ts k ≡ Some (Tip l))
 

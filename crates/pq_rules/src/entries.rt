@@ -13,7 +13,7 @@ use std::alloc::AllocError;
 
 /// The matches and the ids of the leaves of a tree for packets with this VLAN_VID word, yes side first.
 ///
-/// The word is 0 or that of a tag. The tree has no test of the switch, its tests stand below their prerequisites, and the port
+/// The word is 0 or that of a tag. The tree has no test of the switch, its tests are below their prerequisites, and the port
 /// numbers that it tests are 1 to 4,294,967,040. The first match that covers a packet with the word gives the leaf that the
 /// packet reaches.
 pub fn entry_matches<L: Leaf>(

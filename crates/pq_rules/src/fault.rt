@@ -5,14 +5,14 @@ use thiserror::Error;
 /// Why the trees of a switch give no tables.
 #[derive(Debug, Drop, Error)]
 pub enum RulesFault {
-    /// A table of the switch has more entries than its limit: so many, or 18,446,744,073,709,551,615 where there are more.
+    /// A table of the switch has more entries than its limit: this many, or 18,446,744,073,709,551,615 where there are more.
     #[error("table {table} of switch {switch} has {entries} entries")]
     TableFull {
         switch: u64,
         table: u8,
         entries: u64,
     },
-    /// An entry of the switch has more than 256 copies: so many.
+    /// An entry of the switch has more than 256 copies: this many.
     #[error("an entry of switch {switch} has {copies} copies")]
     GroupFull {
         switch: u64,

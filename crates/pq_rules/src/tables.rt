@@ -29,7 +29,7 @@ const MOST_COPIES: usize = 256;
 /// with transaction ids from 1 on.
 ///
 /// The limit is at most 16,384. The ids are those of the stores, and their trees are such as entries can stand for: the
-/// VLAN_VID words of a table's trees differ, no test is of the switch, tests stand below their prerequisites, tags are 1 to
+/// VLAN_VID words of a table's trees differ, no test is of the switch, tests are below their prerequisites, tags are 1 to
 /// 4094, ports are 1 to 4,294,967,040, and no write is idle. A table with more entries than the limit is refused, the first one
 /// first; then the first entry with more than 256 copies.
 pub fn rules(

@@ -42,7 +42,7 @@ read_pushes text events rest e left before more shorter begins happens = record 
 pub read_ends : (text : List ℕ) (events : List Event) (rest : List ℕ) → IsReadBefore text events rest → rest ≡ [] → IsScheduleText text events
 read_ends text events rest before empty = (subst (AreEvents text events) empty (ends_here text events rest before), before.few)
 
--- the next line is no event
+-- the next line is not an event
 pub read_stops : (text : List ℕ) (events : List Event) (rest : List ℕ) (place : ℕ) → IsReadBefore text events rest → rest ≢ []
     → IsStuck rest → place ≡ length text - length rest → FirstFault text place
 read_stops text events rest place before more stuck is = record {
@@ -65,7 +65,7 @@ read_overflows text events rest e left before full begins = record {
   many = omega (arith, full, length-append events (e ∷ []));
 }
 
--- a line is one event, and one text stands behind it
+-- a line is one event, and one text is after it
 same_event : (x y : Event) → Some x ≡ Some y → x ≡ y
 same_event x y same = ap (λ o. unwrap_or o x) same
 
@@ -99,7 +99,7 @@ longest text (x ∷ xs) (y ∷ ys) r s stuck first second =
 pub one_schedule : (text : List ℕ) (xs ys : List Event) → IsScheduleText text xs → IsScheduleText text ys → xs ≡ ys
 one_schedule text xs ys first second = (one_reading text xs ys [] [] nothing_begins nothing_begins first.0 second.0).0
 
--- its first line that is no event is at one place
+-- its first line that is not an event is at one place
 pub one_fault : (text : List ℕ) (p q : ℕ) → FirstFault text p → FirstFault text q → p ≡ q
 one_fault text p q first second =
     let same = one_reading text first.events second.events first.rest second.rest first.fault second.fault first.before second.before in

@@ -9,7 +9,7 @@ use Rattle.pq_schedule.specs.Lines.{Statement, statement_with, statement_of, sta
 use Rattle.pq_schedule.specs.Lines.{with_statement, with_statements}
 use Rattle.pq_schedule.specs.Stated.{stated_under, stated_by, stated_all}
 
--- the keys ascend, and the first does not stand before this place
+-- the keys ascend, and the first isn't before this place
 abbrev ascend_from : ℕ → List Statement → Bool
 ascend_from next [] = true
 ascend_from next (s ∷ ss) = leb next (place_of s.key) && ascend_from (place_of s.key + 1) ss
@@ -18,7 +18,7 @@ ascend_from next (s ∷ ss) = leb next (place_of s.key) && ascend_from (place_of
 abbrev packet_from : Partial → List Statement → Option TaggedPacket
 packet_from x ss = if ascend_from x.next ss then Some (fold with_statement x.packet ss) else None
 
--- the packet with one more statement, whose key may not stand before the least place
+-- the packet with one more statement, whose key may not be before the least place
 abbrev stated_next : Partial → Statement → Option Partial
 stated_next x s = if leb x.next (place_of s.key) then Some (record { packet = with_statement x.packet s; next = place_of s.key + 1 }) else None
 
@@ -51,7 +51,7 @@ packet_step x s ss = by (leb x.next (place_of s.key)) where
   by true = refl
   by false = refl
 
--- with any first word, where the words behind it are done
+-- with any first word, where the words after it are done
 words_step : (x : Partial) (first : Option Statement) (rest : Option (List Statement)) →
     option_and_then (λ y. option_and_then (packet_from y) rest) (option_and_then (stated_next x) first)
     ≡ option_and_then (packet_from x) (option_and_then (λ s. option_map (λ ss. s ∷ ss) rest) first)

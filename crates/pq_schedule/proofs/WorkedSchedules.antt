@@ -12,7 +12,7 @@ empty = (refl, omega arith)
 two-lines : IsScheduleText (codes "hop 0\nlose 1\n") (Hop 0 ∷ Lose 1 ∷ [])
 two-lines = ((codes "lose 1\n", (refl, refl), ([], (refl, refl), refl)), omega arith)
 
--- the second line is no event
+-- the second line is not an event
 second-line : FirstFault (codes "hop 0\nhop x\n") 6
 second-line = record {
   events = Hop 0 ∷ [];

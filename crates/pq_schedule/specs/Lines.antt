@@ -15,7 +15,7 @@ use Rattle.pq_schedule.specs.declared.key.Key.TheVariants.{Vlan, Header}
 use Rattle.pq_fields.specs.Names.{field_name}
 use Rattle.pq_schedule.specs.Values.{field_number}
 
--- the words of a line: what stands between spaces
+-- the words of a line: what is between spaces
 abbrev pub words_of : List ℕ → List (List ℕ)
 words_of line = parts (byte " ") line
 
@@ -62,7 +62,7 @@ abbrev pub statements_of : List (List ℕ) → Option (List Statement)
 statements_of [] = Some []
 statements_of (word ∷ words) = option_and_then (λ s. option_map (λ ss. s ∷ ss) (statements_of words)) (statement_of word)
 
--- the keys stand in their order, each at most once
+-- the keys are in their order, each at most once
 abbrev pub ascend : List Statement → Bool
 ascend [] = true
 ascend (s ∷ []) = true
@@ -107,7 +107,7 @@ place_in [] = None
 place_in (word ∷ []) = decimal_of (2 ^ 64 - 1) word
 place_in (word ∷ next ∷ words) = None
 
--- the event that a verb and the words behind it are
+-- the event that a verb and the words after it are
 abbrev pub event_in : List (List ℕ) → Option Event
 event_in [] = None
 event_in (verb ∷ words) =

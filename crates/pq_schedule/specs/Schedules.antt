@@ -11,7 +11,7 @@ use Rattle.pq_schedule.specs.Lines.{event_of}
 abbrev pub event_limit : ℕ
 event_limit = 100000
 
--- the event is the line that the text begins with, and the rest stands behind its line feed
+-- the event is the line that the text begins with, and the rest is after its line feed
 abbrev pub BeginsWith : List ℕ → Event → List ℕ → Type 0
 BeginsWith text event rest = (event_of (before_separator (byte "\n") text) ≡ Some event) × (behind_separator (byte "\n") text ≡ Some rest)
 
@@ -24,7 +24,7 @@ AreEvents text (e ∷ es) rest = (left : List ℕ) × BeginsWith text e left × 
 abbrev pub IsScheduleText : List ℕ → List Event → Type 0
 IsScheduleText text events = AreEvents text events [] × (length events ≤ event_limit)
 
--- at the place begins the first line that is no event, behind at most as many events as a schedule has
+-- at the place begins the first line that is not an event, after at most as many events as a schedule has
 pub record FirstFault (text : List ℕ) (place : ℕ) : Type 0 where
   pub events : List Event
   pub rest : List ℕ

@@ -7,7 +7,7 @@ use Rattle.pq_term.specs.Groups.{before_separator, behind_separator}
 use Rattle.pq_schedule.specs.declared.key.Key.{Key}
 use Rattle.pq_schedule.specs.Lines.{key_named, key_number, place_of, with_key}
 
--- the packet with the number under one more key, which may not stand before the least place
+-- the packet with the number under one more key, which may not be before the least place
 abbrev pub stated_under : Partial → Option Key → Option (List ℕ) → Option Partial
 stated_under x None value = None
 stated_under x (Some key) None = None

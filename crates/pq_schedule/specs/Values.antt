@@ -48,7 +48,7 @@ is_shortest (b ∷ bs) = not (list_any is_ascii_uppercase (b ∷ bs)) && (not (b
 abbrev pub short_ipv6_of : List ℕ → Option ℕ
 short_ipv6_of text = if list_all is_shortest (parts (byte ":") text) then ipv6_of text else None
 
--- the number that a text states in a form; a decimal number has at most so many bits
+-- the number that a text states in a form; a decimal number has at most this many bits
 abbrev pub number_from : Form → ℕ → List ℕ → Option ℕ
 number_from Decimal bits text = decimal_of (2 ^ bits - 1) text
 number_from Mac bits text = mac_of text
@@ -65,7 +65,7 @@ field_number f text = number_from (form_of f) (width_of f) text
 abbrev pub two_digits : ℕ → List ℕ
 two_digits n = digit_glyph false (n / 16) ∷ digit_glyph false (n % 16) ∷ []
 
--- so many bits of a number at each of these places, counted from the lowest bit
+-- this many bits of a number at each of these places, counted from the lowest bit
 abbrev pub bits_at : ℕ → List ℕ → ℕ → List ℕ
 bits_at bits places n = map (λ place. n / 2 ^ place % 2 ^ bits) places
 

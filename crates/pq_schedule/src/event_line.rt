@@ -18,7 +18,7 @@ const HOP: &[u8] = b"hop";
 
 const LOSE: &[u8] = b"lose";
 
-/// The place that the words behind `hop` or `lose` name: one number.
+/// The place that the words after `hop` or `lose` name: one number.
 #[tactic(auto, using(crate::proofs::Places::more_words))]
 fn place_value(words: Option<&[u8]>) -> Option<u64>
     ensures { result ≡ place_in (parts_in (byte " ") (option_copied words.entry)) }
@@ -29,7 +29,7 @@ fn place_value(words: Option<&[u8]>) -> Option<u64>
     }
 }
 
-/// The event that a verb and the words behind it are.
+/// The event that a verb and the words after it are.
 fn event_in(verb: &[u8], words: Option<&[u8]>) -> Option<Event>
     ensures value { result ≡ event_in (verb.now ∷ parts_in (byte " ") (option_copied words.entry)) }
     ensures may_happen { IfSome result IsEvent }
@@ -49,7 +49,7 @@ fn event_in(verb: &[u8], words: Option<&[u8]>) -> Option<Event>
 ///
 /// The line is `inject D P`, `hop K` or `lose K`, its words parted by one space, and has at most 1,024 bytes with
 /// its line feed. D and K are decimal numbers of 64 bits without leading zeros, and P one from 1 to 4294967040.
-/// Behind `inject D P` stand statements: `vlan=V` with V up to 4095, and `f=v` for the fields from `eth_type` to
+/// After `inject D P` are statements: `vlan=V` with V up to 4095, and `f=v` for the fields from `eth_type` to
 /// `ipv6_dst`, each at most once and in this order. v is a decimal number that fits the field, a MAC address in
 /// either case, an IPv4 address, or an IPv6 address of eight groups of lower-case digits without leading zeros.
 /// Fields that are not stated are 0.

@@ -34,8 +34,8 @@ struct Stated {
 }
 
 impl Stated {
-    /// The packet with what one more word states of it; `None` where the word is no statement, or its key does not
-    /// stand behind those before it.
+    /// The packet with what one more word states of it; `None` where the word is not a statement, or its key does not
+    /// are after those before it.
     fn with_word(self, word: &[u8]) -> Option<Stated>
         ensures { result ≡ stated_by self word.now }
     {
@@ -76,7 +76,7 @@ fn with_number(packet: Tagged, key: Key, text: &[u8]) -> Option<Tagged>
     }
 }
 
-/// The packet with what the words state of it; `None` where a word is no statement, or the keys do not ascend.
+/// The packet with what the words state of it; `None` where a word is not a statement, or the keys do not ascend.
 #[tactic(auto, using(crate::proofs::Statements::stated_is))]
 fn with_words(packet: Tagged, words: Option<&[u8]>) -> Option<Tagged>
     ensures { result
@@ -120,7 +120,7 @@ fn packet_at(switch: u64, port: u64) -> Tagged
     }
 }
 
-/// The packet that the words behind `inject` state, if they state one: a switch, a port, and then what is stated
+/// The packet that the words after `inject` state, if they state one: a switch, a port, and then what is stated
 /// of the packet.
 pub(crate) fn injected(words: Option<&[u8]>) -> Option<Tagged>
     ensures { result ≡ injected (parts_in (byte " ") (option_copied words.entry)) }

@@ -9,7 +9,7 @@ use crate::numbers::{write_decimal, write_ipv4, write_ipv6, write_mac};
 use pq_fields::{Field, Packet, field_name, has};
 use std::alloc::AllocError;
 
-/// The fields behind the first, in field order.
+/// The fields after the first, in field order.
 const FURTHER_FIELDS: [Field; 13] = [
     Field::Port,
     Field::EthType,

@@ -10,10 +10,10 @@ use std::alloc::Global;
 /// The most events of a schedule.
 const EVENT_LIMIT: usize = 100_000;
 
-/// Why a text is no schedule.
+/// Why a text is not a schedule.
 #[derive(Clone, Copy, Debug, PartialEq, Eq)]
 pub enum ScheduleFault {
-    /// A line is no event; its first byte is at this place, counted from 0.
+    /// A line is not an event; its first byte is at this place, counted from 0.
     Syntax { at: usize },
     /// There are more than 100,000 events.
     Full,
@@ -23,8 +23,8 @@ pub enum ScheduleFault {
 
 /// The events of a schedule: lines that are events, each ended by a line feed, at most 100,000 of them.
 ///
-/// `Syntax` is answered exactly where the first line that is no event, which an empty line and an unended last one
-/// are too, stands behind at most 100,000 events; `Full` exactly where the first 100,001 lines are all events.
+/// `Syntax` is answered exactly where the first line that is not an event, which an empty line and an unended last one
+/// are too, is after at most 100,000 events; `Full` exactly where the first 100,001 lines are all events.
 pub fn read_schedule(alloc: Global, text: &[u8]) -> Result<Vec<Event>, ScheduleFault>
     ensures ok { IfOk result (λ events. IsScheduleText text.now events.items) }
     ensures may_happen { IfOk result (λ events. IsSchedule events.items) }
@@ -57,7 +57,7 @@ pub fn read_schedule(alloc: Global, text: &[u8]) -> Result<Vec<Event>, ScheduleF
 }
 
 /// What a text is answered is settled by the text, but for memory: it has at most one list of events, or a first
-/// line that is no event at one place, or too many events, and never two of the three. It does nothing when it runs.
+/// line that is not an event at one place, or too many events, and never two of the three. It does nothing when it runs.
 pub fn a_text_is_read_one_way()
     ensures schedule { (text : List ℕ) (xs ys : List Event)
         → IsScheduleText text xs → IsScheduleText text ys → xs ≡ ys }

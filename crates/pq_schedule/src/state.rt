@@ -79,7 +79,7 @@ pub fn write_flight(alloc: Global, x: &Tagged, into: &mut Vec<u8>) -> Result<(),
     into.extend_from_slice(&line)
 }
 
-/// Appends the line of a delivered packet: `delivered PACKET`, and behind it ` vlan=V` where it still has a VLAN
+/// Appends the line of a delivered packet: `delivered PACKET`, and after it ` vlan=V` where it still has a VLAN
 /// header. Where memory runs out `into` is as before.
 pub fn write_delivered(alloc: Global, x: &Tagged, into: &mut Vec<u8>) -> Result<(), AllocError>
     ensures ok { OnOk result (into.new.items ≡ into.old.items ++ delivered_line x.now) }

@@ -43,7 +43,7 @@ fn short_ipv6_value(text: &[u8]) -> Option<u128>
     }
 }
 
-/// The greatest number of a field that is no IPv6 address.
+/// The greatest number of a field that is not an IPv6 address.
 fn greatest(field: Field) -> u64
     requires { is_wide field ≡ false }
     ensures { result ≡ 2 ^ width_of field - 1 }

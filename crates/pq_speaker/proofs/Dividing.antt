@@ -7,7 +7,7 @@ use Rattle.std.proofs.lemmas.Bool.{lt-leb, ne_eqb, eqb-true, leb-true, and_parts
 use Rattle.pq_speaker.specs.declared.header.Header.{Header}
 use Rattle.pq_speaker.specs.Division.{Division, divided, header_of, is_whole, uncut, with_first}
 
--- the header is the same with more bytes behind it
+-- the header is the same with more bytes after it
 pub header-more : (xs ys : List ℕ) → 8 ≤ length xs → header_of (xs ++ ys) ≡ header_of xs
 header-more xs ys long = λ i. record {
   version = get_or_append_left xs ys 0 0 (omega (arith, long)) i;
@@ -23,7 +23,7 @@ header-more xs ys long = λ i. record {
 abbrev pub joined : Division → Division → Division
 joined d e = record { messages = d.messages ++ e.messages; rest = e.rest }
 
--- a piece is divided, and then the next one behind what is left of it
+-- a piece is divided, and then the next one after what is left of it
 pub divided-append : (before xs ys : List ℕ) → divided before (xs ++ ys) ≡ joined (divided before xs) (divided (divided before xs).rest ys)
 divided-append before [] ys = refl
 divided-append before (x ∷ xs) ys = by (is_whole (before ++ x ∷ [])) refl (λ next. divided-append next xs ys)
@@ -38,7 +38,7 @@ divided-append before (x ∷ xs) ys = by (is_whole (before ++ x ∷ [])) refl (�
 pub divided-waiting : (before bytes : List ℕ) → divided [] before ≡ uncut before → divided [] (before ++ bytes) ≡ divided before bytes
 divided-waiting before bytes e = divided-append [] before bytes ∙ (λ i. joined (e i) (divided (e i).rest bytes))
 
--- the first bytes are no whole message yet: the header isn't there, or it states another size
+-- the first bytes are not whole message yet: the header isn't there, or it states another size
 abbrev pub IsShort : List ℕ → Type 0
 IsShort bytes = 8 ≤ length bytes → ((header_of bytes).length < 8) ⊎ (length bytes < (header_of bytes).length)
 
@@ -49,7 +49,7 @@ has_header bytes = leb 8 (length bytes)
 abbrev has_size : List ℕ → Bool
 has_size bytes = eqb (length bytes) (header_of bytes).length
 
--- bytes that aren't as many as the header says are no message
+-- bytes that aren't as many as the header says are not message
 other-size : (xs ys : List ℕ) → (8 ≤ length xs → length xs ≢ (header_of (xs ++ ys)).length) → is_whole xs ≡ false
 other-size xs ys differs = by (cases_lt (length xs) 8)
   where

@@ -14,7 +14,7 @@ pub taken-none : (place : ℕ) → taken_at place [] ≡ None
 taken-none zero = refl
 taken-none (suc n) = refl
 
--- a message taken: it stood behind others that are no barriers, and itself is one only if there were none
+-- a message taken: it was after others that are not barriers, and itself is one only if there were none
 pub record IsCut (ms : List Message) (t : Taken) : Type 0 where
   pub front : List Message
   pub back : List Message

@@ -16,7 +16,7 @@ header_of bytes = record {
 abbrev pub is_whole : List ℕ → Bool
 is_whole bytes = nat_le 8 (length bytes) && (length bytes == (header_of bytes).length)
 
--- whole messages, and what is no whole message after them
+-- whole messages, and what is not a whole message after them
 pub record Division : Type 0 where
   pub messages : List (List ℕ)
   pub rest : List ℕ

@@ -5,7 +5,7 @@ use Rattle.pq_speaker.specs.Division.{divided}
 use Rattle.pq_speaker.specs.Rules.{Session, Effect, replies_bytes}
 use Rattle.pq_speaker.specs.Speaking.{effects}
 
--- how far the session is, the bytes that are no whole message, and all that is sent
+-- how far the session is, the bytes that are not whole message, and all that is sent
 pub record Passed : Type 0 where
   pub talk : Talk
   pub rest : List ℕ

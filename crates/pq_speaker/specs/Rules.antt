@@ -150,7 +150,7 @@ is_some_barrier_of xid (Some m) = is_barrier_of xid m
 abbrev pub ends_with_barrier : ℕ → List Message → Bool
 ends_with_barrier xid messages = is_some_barrier_of xid (slice_get messages (length messages - 1))
 
--- what a message of the spoken version does that is no HELLO
+-- what a message of the spoken version does that is not a HELLO
 abbrev pub spoken : Session → Talk → Header → List ℕ → Effect
 spoken s talk h m =
     if h.kind == echo_request then record { talk = talk; replies = EchoReply h.xid (drop 8 m) ∷ [] }

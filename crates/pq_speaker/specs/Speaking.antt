@@ -10,7 +10,7 @@ use Rattle.pq_speaker.specs.declared.talk.Reason.TheVariants.{BadLength}
 use Rattle.pq_speaker.specs.Division.{Division, divided, header_of, uncut}
 use Rattle.pq_speaker.specs.Rules.{Session, Effect, Reply, effect, has_bad_length, has_failed, hello}
 
--- a session, how far it is, and the bytes that wait since they are no whole message
+-- a session, how far it is, and the bytes that wait since they are not whole message
 pub record State : Type 0 where
   pub session : Session
   pub talk : Talk

@@ -22,7 +22,7 @@ pub record World : Type 0 where
   pub coming : List Message
   pub unheard : List ℕ
 
--- the switch processes the message at a place, or sends a message of its own; the speaker hears so many bytes
+-- the switch processes the message at a place, or sends a message of its own; the speaker hears this many bytes
 pub data Event : Type 0 where
   Take : (place : ℕ) → Event
   Send : (message : List ℕ) → Event
@@ -69,7 +69,7 @@ processes w (Some t) = record {
 
 -- Send and Hear.
 
--- a whole message that is no BARRIER_REPLY
+-- a whole message that is not a BARRIER_REPLY
 abbrev pub is_own : List ℕ → Bool
 is_own m = is_whole m && not ((header_of m).kind == barrier_reply)
 

@@ -21,7 +21,7 @@ pub struct Progress {
     pub sent: Vec<u8>,
 }
 
-/// How far the session is where these bytes are no whole message yet: a bad length counts as soon as
+/// How far the session is where these bytes are not whole message yet: a bad length counts as soon as
 /// the header is there.
 fn foreseen(talk: Talk, rest: &[u8]) -> Talk
     ensures { result ≡ foreseen talk rest.now }

@@ -86,7 +86,7 @@ impl Session {
         Ok(Talk::Asking)
     }
 
-    // A message of this version that is no HELLO.
+    // A message of this version that is not a HELLO.
     fn speak(
         &self,
         alloc: Global,

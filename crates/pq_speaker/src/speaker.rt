@@ -16,7 +16,7 @@ use std::marker::Model;
 pub struct Speaker {
     session: Session,
     talk: Talk,
-    // The bytes that were heard and are no whole message.
+    // The bytes that were heard and are not whole message.
     waiting: Vec<u8>,
 }
 
@@ -55,7 +55,7 @@ impl Speaker {
         Ok((speaker, hello))
     }
 
-    /// Hears more bytes of the switch, and gives what is sent for them. A refusal, for want of memory,
+    /// Hears more bytes of the switch, and gives what is sent for them. A refusal, because memory runs out,
     /// leaves the speaker as it was. The time is linear in the bytes heard and sent.
     pub fn feed(&mut self, alloc: Global, piece: &[u8]) -> Result<Vec<u8>, AllocError>
         ensures state { OnOk result (self.new ≡ (heard self.old piece.now).state) }

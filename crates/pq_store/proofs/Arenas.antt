@@ -96,19 +96,19 @@ module _ {L : Type 0} where
   length_trees ts [] = omega arith
   length_trees ts (c ∷ cs) = omega (arith, length_trees (put_cell ts c) cs, length_put ts c)
 
-  -- the sides of a cell stand below a place
+  -- the sides of a cell are below a place
   abbrev pub SidesBelow : ℕ → Cell L → Type 0
   SidesBelow k (cell.Leaf l) = Unit {0}
   SidesBelow k (cell.Branch b) = (b.yes < k) × (b.no < k)
 
-  -- a cell stands for the tree at its place, and its sides stand below
+  -- a cell stands for the tree at its place, and its sides are below
   pub record StandsAt (ts : List (Tree L)) (k : ℕ) (c : Cell L) : Type 0 where
     pub tree : Tree L
     pub at : slice_get ts k ≡ Some tree
     pub is : tree_of ts c ≡ Some tree
     pub below : SidesBelow k c
 
-  -- the sides of a cell that stands for a tree stand below all that is added
+  -- the sides of a cell that stands for a tree are below all that is added
   sides_below : (ts : List (Tree L)) (c : Cell L) (t : Tree L) → tree_of ts c ≡ Some t → SidesBelow (length ts) c
   sides_below ts (cell.Leaf l) t h = tt
   sides_below ts (cell.Branch b) t h =
@@ -192,12 +192,12 @@ module _ {L : Type 0} where
       (subst (λ t. slice_get ts e.past ≡ Some (past t n)) e_test (knows_too n e_no)) in
       λ i. cell.Branch (record { test = tests i; yes = yes_same i; no = no_same i; past = past_same i })
 
-  -- what a tree says past a test has one place, where the tree and what stands behind its numbers do
+  -- what a tree says past a test has one place, where the tree and what is after its numbers do
   past_place : (ts : List (Tree L)) (s : Test) (t : Tree L) → HasOnePlace ts t → ((f : Field) → HasOnePlace ts (rest f t)) → HasOnePlace ts (past s t)
   past_place ts (Equal f v) t one behind = behind f
   past_place ts (Bit f i) t one behind = one
 
-  -- what stands behind a field's numbers in a fork has one place, where the fork and what stands behind them in its no side do
+  -- what is after a field's numbers in a fork has one place, where the fork and what is after them in its no side do
   rest_place : (ts : List (Tree L)) (f : Field) (s : Test) (y n : Tree L) → HasOnePlace ts (Fork s y n) → HasOnePlace ts (rest f n)
       → HasOnePlace ts (rest f (Fork s y n))
   rest_place ts f (Equal g v) y n one behind = by (rank f == rank g)
@@ -207,7 +207,7 @@ module _ {L : Type 0} where
       by false = one
   rest_place ts f (Bit g i) y n one behind = one
 
-  -- each tree of a store has one place, and so has what stands behind its numbers
+  -- each tree of a store has one place, and so has what is after its numbers
   places : (cs : List (Cell L)) → IsArena cs → (t : Tree L) → HasOnePlace (trees cs) t × ((f : Field) → HasOnePlace (trees cs) (rest f t))
   places cs arena (Tip l) = (one, λ f. one)
     where
@@ -262,7 +262,7 @@ module _ {L : Type 0} where
       let same : s.no_tree ≡ n = cc in
       subst (λ m. slice_get us b.past ≡ Some (past b.test m)) same (keeps b.past (past b.test s.no_tree) (knows s.no_tree s.no_is))
 
-  -- a store stays one with a new cell that may stand
+  -- a store stays one with a new cell that may be
   pub one_more : (cs : List (Cell L)) (c : Cell L) → IsArena cs → CanStand (trees cs) c → ((k : ℕ) → slice_get cs k ≡ Some c → ⊥) → IsArena (cs ++ c ∷ [])
   one_more cs c arena stand fresh = record {
     grown = ap length longer ∙ length-append (trees cs) (stand.tree ∷ []) ∙ ap (λ n. n + 1) arena.grown ∙ sym (length-append cs (c ∷ []));
@@ -302,7 +302,7 @@ module _ {L : Type 0} where
         ]
       ]
 
-  -- a cell that compares as equal to itself is found where it stands
+  -- a cell that compares as equal to itself is found where it is
   found : (eq : Cell L → Cell L → Bool) (cs : List (Cell L)) (c : Cell L) (k : ℕ) → eq c c ≡ true → slice_get cs k ≡ Some c → list_any (eq c) cs ≡ true
   found eq cs c k itself h =
       list_any_at (eq c) cs k c (slice_get_within cs k c h) (ap (eq c) (get_or_from_slice_get cs k c c h) ∙ itself)

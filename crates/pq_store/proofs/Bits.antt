@@ -21,12 +21,12 @@ unfolding digit
 digit_is true = refl
 digit_is false = refl
 
--- the number with these bits, so many
+-- the number with these bits, this many
 pub joined : (ℕ → Bool) → ℕ → ℕ
 joined bits zero = 0
 joined bits (suc k) = joined bits k * 2 + digit (bits k)
 
--- a number of so many bits is below the power of two
+-- a number of this many bits is below the power of two
 pub joined_below : (bits : ℕ → Bool) (k : ℕ) → joined bits k < 2 ^ k
 unfolding joined
 joined_below bits zero = omega arith

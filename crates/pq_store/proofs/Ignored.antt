@@ -190,7 +190,7 @@ made_present f passed z z_in z_pass none x fit pass = by (has_field f x) refl
     by false is = absurd (none (with_prerequisites x z) (prerequisites_in_range x z fit z_in) (pass_prerequisites passed x z pass z_pass)
         (prerequisites_lack f x z is))
 
--- so each test of the field stands below its prerequisites
+-- so each test of the field is below its prerequisites
 stands_below : {L : Type 0} (f : Field) (passed : List Test) (t : Tree L) (z : Point) → IsDiagram t → AreAhead passed t → InRange z → AllPass passed z
     → Guarded f (Lacking f) (lacking_stays f) passed t → StandsBelow f (prerequisites passed) t
 stands_below f passed (Tip l) z d ahead z_in z_pass guards = tt

@@ -15,7 +15,7 @@ module _ {L : Type 0} where
   join_tests s y n r (inl same) q tested = inr (inr (subst (IsTested q) same.1 tested))
   join_tests s y n r (inr fork) q tested = subst (IsTested q) fork.1 tested
 
-  -- it ascends where the test stands before sides that do
+  -- it ascends where the test is before sides that do
   pub join_ascends : (s : Test) (y n r : Tree L) → IsJoin s y n r → Ascends (Fork s y n) → Ascends r
   join_ascends s y n r (inl same) up = subst Ascends (sym same.1) up.3
   join_ascends s y n r (inr fork) up = subst Ascends (sym fork.1) up
@@ -25,7 +25,7 @@ module _ {L : Type 0} where
   join_lawful s y n r (inl same) lawful = subst AllLawful (sym same.1) lawful.2
   join_lawful s y n r (inr fork) lawful = subst AllLawful (sym fork.1) lawful
 
-  -- a test stands before it that stands before its test and its no side
+  -- a test is before it that is before its test and its no side
   pub join_first : (q s : Test) (y n r : Tree L) → IsJoin s y n r → IsBefore q (Fork s y n) → IsBefore q n → IsBefore q r
   join_first q s y n r (inl same) root side = subst (IsBefore q) (sym same.1) side
   join_first q s y n r (inr fork) root side = subst (IsBefore q) (sym fork.1) root

@@ -35,7 +35,7 @@ differs f g v w x same first pass = elim (eqb_tells (number_in f x) v) [
     later (inr less) e = omega arith
 
 module _ {L : Type 0} where
-  -- a packet with a number reaches behind the later tests of the field what it reaches through them
+  -- a packet with a number reaches after the later tests of the field what it reaches through them
   rest_value : (f : Field) (v : ℕ) (t : Tree L) (x : Numbers) → IsBefore (Equal f v) t → Ascends t → passes (Equal f v) x ≡ true
       → value (rest f t) x ≡ value t x
   rest_value f v (Tip l) x first ascends pass = refl
@@ -55,7 +55,7 @@ module _ {L : Type 0} where
   leaf_past ts (Equal f v) k l h t t_is = let e : Tip l ≡ t = cc in h ∙ ap (λ u. Some (rest f u)) e
   leaf_past ts (Bit f i) k l h t t_is = t_is
 
-  -- what stands behind a field's numbers in a fork stands at the place that the fork keeps, or is the fork
+  -- what is after a field's numbers in a fork is at the place that the fork keeps, or is the fork
   rest_behind : (ts : List (Tree L)) (f : Field) (s : Test) (y n : Tree L) (r k : ℕ) → slice_get ts r ≡ Some (past s n) → slice_get ts k ≡ Some (Fork s y n)
       → slice_get ts (behind_test f s r k) ≡ Some (rest f (Fork s y n))
   rest_behind ts f (Equal g w) y n r k r_is k_is = elim (eqb_tells (rank f) (rank g)) [
@@ -64,7 +64,7 @@ module _ {L : Type 0} where
   ]
   rest_behind ts f (Bit g i) y n r k r_is k_is = k_is
 
-  -- what a branch keeps stands behind the numbers of the field with which it begins
+  -- what a branch keeps is after the numbers of the field with which it begins
   pub branch_past : (cs : List (Cell L)) → IsArena cs → (f : Field) (v k : ℕ) (b : Branch) → slice_get cs k ≡ Some (cell.Branch b)
       → IsPastAt (trees cs) (Equal f v) k (behind f b k)
   branch_past cs arena f v k b h t t_is =
@@ -74,7 +74,7 @@ module _ {L : Type 0} where
       let same : Fork b.test p.yes_tree p.no_tree ≡ t = cc in
       rest_behind (trees cs) f b.test p.yes_tree p.no_tree b.past k (arena.pasts k (cell.Branch b) h p.no_tree p.no_is) fork ∙ ap (λ u. Some (rest f u)) same
 
-  -- what stands past a test stands within the store
+  -- what is past a test is within the store
   pub past_within : (ts : List (Tree L)) (s : Test) (k r : ℕ) → k < length ts → IsPastAt ts s k r → r < length ts
   past_within ts s k r within is =
       let t = at_place ts k within in slice_get_within ts r (past s t.0) (is t.0 t.1)
@@ -157,7 +157,7 @@ module _ {L : Type 0} where
       → (y n : Tree L) → slice_get (trees cs) i ≡ Some y → slice_get (trees cs) j ≡ Some n → HasEqualSides s y n → ⊥
   sides_differ cs arena s i j r is other y n y_is n_is equal = other (one_place cs arena y i r y_is (is n n_is ∙ ap Some (sym equal)))
 
-  -- a branch with such sides may stand
+  -- a branch with such sides may be
   pub branch_stands : (cs : List (Cell L)) → IsArena cs → (b : Branch) → AreJoinable (trees cs) b.test b.yes b.no
       → b.yes < length (trees cs) → b.no < length (trees cs)
       → IsPastAt (trees cs) b.test b.no b.past → (b.yes ≡ b.past → ⊥) → CanStand (trees cs) (cell.Branch b)

@@ -1,4 +1,4 @@
--- The calls of a search: what each is handed, and what it gives where the tree stands at a place.
+-- The calls of a search: what each is handed, and what it gives where the tree is at a place.
 use Rattle.std.proofs.Common.{◌≡◌, ℕ, suc, ◌+◌, ◌-◌, ◌*◌, ◌/◌, ◌^◌, ◌<◌, ◌≤◌, inl, inr, Bool, true, false, ◌==◌, if◌then◌else◌, List, []}
 use Rattle.std.proofs.Common.{◌∷◌, ◌++◌, Option, Some, None, length, get_or, set, refl, sym, ap, subst, ◌∙◌, lt_of_lt_of_le, pow_mono}
 use Rattle.std.proofs.Common.{arith}
@@ -54,7 +54,7 @@ module _ {L : Type 0} where
   only : (ts : List (Tree L)) (k : ℕ) (t u : Tree L) → slice_get ts k ≡ Some t → slice_get ts k ≡ Some u → t ≡ u
   only ts k t u is at = one_some (sym is ∙ at)
 
-  -- a tree stands at each place
+  -- a tree is at each place
   pub tree_there : (ts : List (Tree L)) (k : ℕ) → k < length ts → (t : Tree L) × (slice_get ts k ≡ Some t)
   tree_there ts k within = elim (slice_get_cases ts k).1 [ inl h ↦ (h.0, h.2) | inr h ↦ absurd (omega arith) ]
 
@@ -177,7 +177,7 @@ module _ {L : Type 0} where
         (first (Fork (Equal f v) shows.yes_tree shows.no_tree) shows.is)
         (visit (Fork (Equal f v) shows.yes_tree shows.no_tree) shows.is) sound ready leads)
 
-    -- a packet with a whole number is the first behind it
+    -- a packet with a whole number is the first after it
     whole_begins : (p : Numbers) → IsClear f p → (m : ℕ) → Begins f 1 (with_number f m p)
     whole_begins p clear m = (clear_with f m p clear, mod-one (number_in f (with_number f m p)))
 
@@ -188,7 +188,7 @@ module _ {L : Type 0} where
         (yes_of_number f v shows.yes_tree number_diagram.lawful.0 number_diagram.lawful.1 number_diagram.ascends.0
         number_diagram.asks_once.0) (whole_begins p clear v)))
 
-    -- and at what stands behind the numbers
+    -- and at what is after the numbers
     pub rest_first : (p : Numbers) → IsClear f p → (free r : ℕ) → IsPastAt ts (Equal f v) k r → (q : Numbers) → q ≡ with_number f free p → IsFirstAt ts r q
     rest_first p clear free r past q is t at =
         subst (λ x. IsFirst t x) (sym is)
@@ -199,7 +199,7 @@ module _ {L : Type 0} where
         (rest_inside f v (Fork (Equal f v) shows.yes_tree shows.no_tree)
         (inr (refl, omega arith)) number_diagram.lawful number_diagram.ascends) (whole_begins p clear free)))
 
-    -- the field's numbers go on behind this one
+    -- the field's numbers go on after this one
     pub none_goes_on : (t : Tree L) → slice_get ts j ≡ Some t → GoesOn f None t
     none_goes_on t at = subst (λ u. GoesOn f None u) (only ts j shows.no_tree t shows.no_is at) (record {
       asks = asks_less f 0 (suc v) shows.no_tree (omega arith)
@@ -243,7 +243,7 @@ module _ {L : Type 0} where
     pub yes_falls : visit_weight (slice_get ts i) < visit_from_weight f (slice_get ts k)
     yes_falls = rw (weight_here, shows.yes_is) (omega arith)
 
-    -- so does what stands behind the numbers
+    -- so does what is after the numbers
     pub rest_falls : (r : ℕ) → IsPastAt ts (Equal f v) k r → visit_weight (slice_get ts r) < visit_from_weight f (slice_get ts k)
     rest_falls r past =
         let at : slice_get ts r ≡ Some (rest f shows.no_tree) = past (Fork (Equal f v) shows.yes_tree shows.no_tree) shows.is
@@ -254,7 +254,7 @@ module _ {L : Type 0} where
     pub no_falls : visit_from_weight f (slice_get ts j) < visit_from_weight f (slice_get ts k)
     no_falls = rw (weight_here, shows.no_is) (omega (arith, from_most f shows.no_tree, size_some shows.yes_tree))
 
-    -- the sides are visited, with what stands behind the numbers before them
+    -- the sides are visited, with what is after the numbers before them
     pub gap_visited : (p : Numbers) → IsClear f p → (l : ℕ) → l ≡ k → (gap : Option ℕ) (free : ℕ) → (gap ≡ Some free) × (free < v) → (r : ℕ)
         → IsPastAt ts (Equal f v) k r → (q : Numbers) → q ≡ with_number f free p → (o : Numbers) → o ≡ with_number f v p
         → (old first mid new : List Least) (before begun middle after : List Bool) → length after ≡ length ts
@@ -300,7 +300,7 @@ module _ {L : Type 0} where
         let own : GoesOn f (Some free) h.0 = subst (λ g. GoesOn f g h.0) is (goes_on h.0 h.1) in
         half_below f free (omega (arith, own.room))
 
-    -- with it the packet is the first behind the field's numbers
+    -- with it the packet is the first after the field's numbers
     pub last_first : (free : ℕ) (q : Numbers) → q ≡ with_number f free p → IsFirstAt ts k q
     last_first free q is t at = subst (λ x. IsFirst t x) (sym is)
         (first_inside f 1 t (with_number f free p)
@@ -320,7 +320,7 @@ module _ {L : Type 0} where
         (λ root from. last_searched ts root f t p free old new before after (none t at) (diagrams k t at)
         (subst (λ x. Visits ts t x old before new after) is (visit t at)) from)
 
-    -- nothing is left where what stands behind them is found
+    -- nothing is left where what is after them is found
     pub none_visited : gap ≡ None → (old : List Least) (before : List Bool) → (t : Tree L) → slice_get ts k ≡ Some t
         → VisitsFrom ts t f gap p old before old before
     none_visited own old before t at =

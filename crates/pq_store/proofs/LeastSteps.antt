@@ -40,7 +40,7 @@ module _ {L : Type 0} (ts : List (Tree L)) (root : Tree L) where
   }
 
   module _ (t : Tree L) (kind : Numbers → Type 0) (old mid : List Least) (seen : List Bool) (a : IsSearched ts root t kind old mid seen) where
-    -- what was found before a visit is found behind it
+    -- what was found before a visit is found after it
     found_later : (u : Tree L) (x : Numbers) → IsFound ts old u x → IsFound ts mid u x
     found_later u x h = subst (λ found. IsFound ts found u x) (sym a.grown) (found_more ts old a.more u x h)
 
@@ -59,7 +59,7 @@ module _ {L : Type 0} (ts : List (Tree L)) (root : Tree L) where
       sound = sound;
     }
 
-    -- behind a visit all may be ready for a later packet
+    -- after a visit all may be ready for a later packet
     ready_later : (p q : Numbers) → IsReady ts root old p → ((x : Numbers) → Fit x → precedes x q ≡ true → IsFound ts mid root x)
         → ((x : Numbers) → precedes x p ≡ true → precedes x q ≡ true) → ((x : Numbers) → kind x → precedes x q ≡ true)
         → IsReady ts root mid q
@@ -115,7 +115,7 @@ module _ {L : Type 0} (ts : List (Tree L)) (root : Tree L) where
     has_other : (x : Numbers) → (number_in f x ≡ v → ⊥) → value (Fork (Equal f v) y n) x ≡ value n x
     has_other x other = elim (eqb_tells (number_in f x) v) [ inl h ↦ absurd (other h.1) | inr h ↦ ap (λ b. if b then value y x else value n x) h.0 ]
 
-    -- where what stands behind the numbers is found, all is found before the packet with the number
+    -- where what is after the numbers is found, all is found before the packet with the number
     value_covered : (from : ℕ) (found : List Least) → AreFound ts found (rest f (Fork (Equal f v) y n))
         → ((x : Numbers) → Fit x → precedes x (with_number f from p) ≡ true → IsFound ts found root x)
         → LeadsFrom root (Fork (Equal f v) y n) f from p → (x : Numbers) → Fit x → precedes x (with_number f v p) ≡ true
@@ -127,7 +127,7 @@ module _ {L : Type 0} (ts : List (Tree L)) (root : Tree L) where
           (behind x fit)
     ]
 
-    -- what stands behind the numbers asks of later fields
+    -- what is after the numbers asks of later fields
     rest_within : Inside f 1 (rest f (Fork (Equal f v) y n))
     rest_within = rest_inside f v (Fork (Equal f v) y n) (inr (refl, omega arith)) diagram.lawful diagram.ascends
 
@@ -164,17 +164,17 @@ module _ {L : Type 0} (ts : List (Tree L)) (root : Tree L) where
         all
         (sound_marked ts root new after k (Fork (Equal f v) y n) marks is all c.sound)
 
-    -- behind the test's own number stands what stands behind those of its no side
+    -- after the test's own number is what is after those of its no side
     rest_of_own : rest f (Fork (Equal f v) y n) ≡ rest f n
     rest_of_own = elim (eqb_tells (rank f) (rank f)) [ inl h ↦ ap (λ b. if b then rest f n else Fork (Equal f v) y n) h.0 | inr h ↦ absurd (h.1 refl) ]
 
-    -- what stands behind the numbers stays found while the yes side is visited
+    -- what is after the numbers stays found while the yes side is visited
     rest_later : (old mid : List Least) (seen : List Bool) → IsSearched ts root y (λ x. Reaching y x (with_number f v p)) old mid seen
         → AreFound ts old (rest f (Fork (Equal f v) y n)) → AreFound ts mid (rest f n)
     rest_later old mid seen b behind x fit = found_later y (λ x. Reaching y x (with_number f v p)) old mid seen b (rest f n) x
         (subst (λ t. IsFound ts old t x) rest_of_own (behind x fit))
 
-    -- a number before the test's own is untested: what stands behind the numbers is visited with it first
+    -- a number before the test's own is untested: what is after the numbers is visited with it first
     pub gap_searched : (free : ℕ) (k : ℕ) (old first mid new : List Least) (before begun middle after : List Bool) → free < v
         → slice_get ts k ≡ Some (Fork (Equal f v) y n) → k < length after
         → Visits ts (rest f (Fork (Equal f v) y n)) (with_number f free p) old before first begun
@@ -208,7 +208,7 @@ module _ {L : Type 0} (ts : List (Tree L)) (root : Tree L) where
         more.all
         more.sound
 
-    -- no number before the test's own is untested, or what stands behind the numbers is found
+    -- no number before the test's own is untested, or what is after the numbers is found
     pub next_searched : (gap : Option ℕ) (k : ℕ) (old mid new : List Least) (before middle after : List Bool)
         → IfSome gap (λ free. v ≤ free) → slice_get ts k ≡ Some (Fork (Equal f v) y n) → k < length after
         → Visits ts y (with_number f v p) old before mid middle → VisitsFrom ts n f (raised gap) p mid middle new after → (from : ℕ)
@@ -232,7 +232,7 @@ module _ {L : Type 0} (ts : List (Tree L)) (root : Tree L) where
         (λ x fit same more. leads x fit same (omega (arith, less)))
         visit_yes visit_no
 
-  -- behind the field's numbers what stands there is visited with the number that is untested
+  -- after the field's numbers what is there is visited with the number that is untested
   pub last_searched : (f : Field) (t : Tree L) (p : Numbers) (free : ℕ) (old new : List Least) (before after : List Bool)
       → begins f t ≡ false → IsDiagram t → Visits ts t (with_number f free p) old before new after → (from : ℕ) → AsksFrom f from t
       → IsGap ts (rest f t) old (Some free) from → IsSound ts root old before → IsReady ts root old (with_number f from p)

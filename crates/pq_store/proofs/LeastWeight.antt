@@ -37,7 +37,7 @@ module _ {L : Type 0} where
   pub from_most : (f : Field) (t : Tree L) → from_weight f t ≤ 2 * size t + 2
   from_most f t = elim (cases_Bool (begins f t)) [ inl h ↦ rw h (omega arith) | inr h ↦ rw h (omega arith) ]
 
-  -- what stands behind a field's numbers is no greater
+  -- what is after a field's numbers is no greater
   pub size_rest : (f : Field) (t : Tree L) → size (rest f t) ≤ size t
   size_rest f (Tip l) = omega arith
   size_rest f (Fork (Equal g v) y n) = elim (eqb_tells (rank f) (rank g)) [

@@ -1,4 +1,4 @@
--- Which places are kept: those of the roots and of what stands under them.
+-- Which places are kept: those of the roots and of what is under them.
 use Rattle.std.proofs.Common.{ℕ, ◌⊎◌, inl, inr, ◌+◌, ◌≤◌, ◌<◌, ◌≡◌, ◌∙◌, Bool, true, false, List, [], ◌++◌, length, get_or, take, drop, set}
 use Rattle.std.proofs.Common.{Some, sym, ap, arith, subst, length-set, get_or-set_same, get_or-set_other}
 use Rattle.std.specs.Prelude.{slice_get, All}
@@ -34,7 +34,7 @@ mark_only : (kept : List Bool) (i k : ℕ) → IsMarked (set kept i true) k → 
 mark_only kept i k marked =
     elim (eqb_tells k i) [ inl e ↦ inl e.1 | inr e ↦ inr (sym (get_or-set_other kept i k true false e.1) ∙ marked) ]
 
--- the first of the roots are marked, and nothing that is no root
+-- the first of the roots are marked, and nothing that is not a root
 pub record MarksRoots (roots : List ℕ) (i : ℕ) (kept : List Bool) : Type 0 where
   pub ends : All (IsMarked kept) (take i roots)
   pub only : (k : ℕ) → IsMarked kept k → Contains roots k

@@ -63,7 +63,7 @@ mixed_late s (Bit g j) x p (inr same) =
     rw (not_less (rank g) (rank (field_of s)) (omega arith), eq-eqb (rank g) (rank (field_of s)) (sym same.0), not_less j (place_of s) (omega arith)) refl
 
 module _ {L : Type 0} where
-  -- a tree behind the test says what it says at the second point
+  -- a tree after the test says what it says at the second point
   pub mixed_same : (s : Test) (x p : Point) (t : Tree L) → IsBefore s t → Ascends t → leaf_at t (mixed s x p) ≡ leaf_at t p
   mixed_same s x p (Tip l) first ascends = refl
   mixed_same s x p (Fork t y n) first ascends =

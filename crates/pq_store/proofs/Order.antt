@@ -13,7 +13,7 @@ use Rattle.pq_store.specs.Tree.{Tree, IsTested}
 use Rattle.pq_store.specs.Tree.Tree.{Tip, Fork}
 use Rattle.pq_store.specs.Diagram.{IsBefore, Ascends}
 
--- a field stands at its rank among all fields
+-- a field is at its rank among all fields
 ranked : (f : Field) → get_or all_fields (rank f) Switch ≡ f
 ranked Switch = refl
 ranked Port = refl

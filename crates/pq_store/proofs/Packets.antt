@@ -64,7 +64,7 @@ number_of_packet UdpDst p = refl
 number_of_packet Ipv6Src p = refl
 number_of_packet Ipv6Dst p = refl
 
--- the number itself, of a field that is no address
+-- the number itself, of a field that is not an address
 pub whole_number_of_packet : (f : Field) (p : Point) → is_address f ≡ false → number_in f (packet_of p) ≡ p.number f
 unfolding number_at
 whole_number_of_packet f p whole = number_of_packet f p ∙ ap (λ b. if b then joined (p.bit f) (width_of f) else p.number f) whole

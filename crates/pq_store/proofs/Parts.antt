@@ -1,4 +1,4 @@
--- Trees that stand in trees, and under the roots of a store.
+-- Trees that are in trees, and under the roots of a store.
 use Rattle.std.proofs.Common.{ℕ, inl, inr, ◌≡◌, ◌∙◌, List, Some, refl, sym, ap, subst}
 use Rattle.std.specs.Prelude.{slice_get}
 use Rattle.std.specs.Option.{option_map}
@@ -11,12 +11,12 @@ use Rattle.pq_store.specs.Store.{IsCanonical, IsJoinable}
 use Rattle.pq_store.specs.Compaction.{StandsUnder}
 
 module _ {L : Type 0} where
-  -- each tree stands in itself
+  -- each tree is in itself
   pub part_of_itself : (t : Tree L) → IsPartOf t t
   part_of_itself (Tip l) = refl
   part_of_itself (Fork s y n) = inl refl
 
-  -- with a fork its yes side stands in a tree
+  -- with a fork its yes side is in a tree
   part_yes : (s : Test) (y n u : Tree L) → IsPartOf (Fork s y n) u → IsPartOf y u
   part_yes s y n (Tip l) part = cc
   part_yes s y n (Fork r a b) (inl e) = inr (inl (let same : a ≡ y = cc in subst (λ (t : Tree L). IsPartOf t a) same (part_of_itself a)))
@@ -30,13 +30,13 @@ module _ {L : Type 0} where
   part_no s y n (Fork r a b) (inr (inl part)) = inr (inl (part_no s y n a part))
   part_no s y n (Fork r a b) (inr (inr part)) = inr (inr (part_no s y n b part))
 
-  -- what stands under a root still does with a tree that stands wherever it stands
+  -- what is under a root still does with a tree that is wherever it is
   under_part : (ts : List (Tree L)) (roots : List ℕ) (t u : Tree L) → ((whole : Tree L) → IsPartOf u whole → IsPartOf t whole)
       → StandsUnder ts roots u → StandsUnder ts roots t
   under_part ts roots t u wherever under =
       (under.0, under.1, under.2, under.3, (under.4.0, under.4.1, wherever under.4.0 under.4.2))
 
-  -- with a fork its yes side stands under a root
+  -- with a fork its yes side is under a root
   pub under_yes : (ts : List (Tree L)) (roots : List ℕ) (s : Test) (y n : Tree L) → StandsUnder ts roots (Fork s y n) → StandsUnder ts roots y
   under_yes ts roots s y n = under_part ts roots y (Fork s y n) (part_yes s y n)
 

@@ -45,7 +45,7 @@ module _ {L : Type 0} where
   asked f (Fork (Equal g w) y n) = if rank f == rank g then w ∷ asked f n else []
   asked f (Fork (Bit g i) y n) = []
 
-  -- a point with none of them reaches the tree behind
+  -- a point with none of them reaches the tree after
   asked_none : (f : Field) (t : Tree L) (p : Point) → IsNone (p.number f) (asked f t) → leaf_at t p ≡ leaf_at (rest f t) p
   asked_none f (Tip l) p none = refl
   asked_none f (Fork (Equal g w) y n) p none = elim (eqb_tells (rank f) (rank g)) [
@@ -79,12 +79,12 @@ module _ {L : Type 0} where
   ]
   asked_few f (Fork (Bit g i) y n) = omega arith
 
-  -- where the answer is yes, a tree behind the test says what it says past it
+  -- where the answer is yes, a tree after the test says what it says past it
   pub hit : (s : Test) (t : Tree L) (p : Point) → answer s p ≡ true → IsBefore s t → Ascends t → leaf_at t p ≡ leaf_at (past s t) p
   hit (Equal f v) t p yes_is first ascends = asked_none f t p (rw (eqb-true (p.number f) v yes_is) (asked_others f v t first ascends))
   hit (Bit f i) t p yes_is first ascends = refl
 
-  -- a tree behind a test of a later field skips the field
+  -- a tree after a test of a later field skips the field
   later_skips : (f : Field) (s : Test) (t : Tree L) → rank f < rank (field_of s) → IsBefore s t → Ascends t → Skips f t
   later_skips f s (Tip l) later first ascends = tt
   later_skips f s (Fork (Equal g w) y n) later first ascends =
@@ -94,7 +94,7 @@ module _ {L : Type 0} where
       let below : rank f < rank g = still_later f s (Bit g i) later first in
       (later_skips f (Bit g i) y below ascends.0 ascends.2, later_skips f (Bit g i) n below ascends.1 ascends.3)
 
-  -- behind the numbers of a field at its front a diagram skips the field
+  -- after the numbers of a field at its front a diagram skips the field
   rest_skips : (f : Field) (v : ℕ) (t : Tree L) → is_address f ≡ false → IsBefore (Equal f v) t → IsDiagram t → Skips f (rest f t)
   rest_skips f v (Tip l) number first d = tt
   rest_skips f v (Fork (Equal g w) y n) number first d = elim (eqb_tells (rank f) (rank g)) [

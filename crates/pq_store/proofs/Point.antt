@@ -23,6 +23,6 @@ abbrev pub leaf_at : {L : Type 0} → Tree L → Point → L
 leaf_at (Tip l) p = l
 leaf_at (Fork t y n) p = if answer t p then leaf_at y p else leaf_at n p
 
--- the numbers of the fields that are no addresses fit their widths
+-- the numbers of the fields that are not addresses fit their widths
 abbrev pub InRange : Point → Type 0
 InRange p = (f : Field) → is_address f ≡ false → p.number f < 2 ^ width_of f

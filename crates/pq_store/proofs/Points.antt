@@ -94,7 +94,7 @@ yes_turns (Equal f v) p lawful range = number_turns f v v true p lawful.1 (eq-eq
 yes_turns (Bit f i) p lawful range = bit_turns f i true p range
 
 module _ {L : Type 0} where
-  -- a test is apart from those behind it that ask for another field's number, or for another bit
+  -- a test is apart from those after it that ask for another field's number, or for another bit
   pub apart : (s t : Test) (y n : Tree L) → Precedes s t → SkipsBelow s (Fork t y n) → IsApart s t
   apart (Equal f v) (Equal g w) y n first skips = skips.0
   apart (Equal f v) (Bit g j) y n first skips = tt
@@ -114,7 +114,7 @@ module _ {L : Type 0} where
   skips_no (Equal f v) (Bit g j) y n skips = skips.1
   skips_no (Bit f i) t y n skips = tt
 
-  -- a tree behind the test that skips its field says the same at points that are alike but for it
+  -- a tree after the test that skips its field says the same at points that are alike but for it
   pub says_same : (s : Test) (t : Tree L) (p q : Point) → AreAlike s p q → IsBefore s t → Ascends t → SkipsBelow s t → leaf_at t p ≡ leaf_at t q
   says_same s (Tip l) p q alike first ascends skips = refl
   says_same s (Fork t y n) p q alike first ascends skips =

@@ -14,7 +14,7 @@ module _ (n half : ℕ) (some : 0 < half) (whole : n % (half * 2) ≡ 0) where
   halves : n ≡ half * (2 * (n / (half * 2)))
   halves = omega (arith, mod-add-div n (half * 2))
 
-  -- so many halves
+  -- this many halves
   in_halves : n / half ≡ 2 * (n / (half * 2))
   in_halves = ap (λ m. m / half) halves ∙ mul-div_cancel_left (2 * (n / (half * 2))) some
 
@@ -144,7 +144,7 @@ module _ (f : Field) (i : ℕ) (p : Numbers) (within : i < width_of f) (first : 
         ap (λ m. m == 1) odd,
       )
 
-  -- what stands before the packet with the bit set stands before the one with the bit clear, or shares the half with it
+  -- what is before the packet with the bit set is before the one with the bit clear, or shares the half with it
   pub before_set : (x : Numbers) → precedes x bit_set ≡ true → (precedes x p ≡ true) ⊎ Shares f (2 ^ (width_of f - 1 - i)) x p
   unfolding half
   before_set x before = elim (precedes_between f (number_in f p) (number_in f p + half) x p first.0 before) [
@@ -152,7 +152,7 @@ module _ (f : Field) (i : ℕ) (p : Numbers) (within : i < width_of f) (first : 
     | inr same ↦ inr (same.0, between_halves (number_in f p) half some whole (number_in f x) same.1 same.2)
   ]
 
-  -- what stands before the packet stands before it with the bit set
+  -- what is before the packet is before it with the bit set
   pub earlier_set : (x : Numbers) → precedes x p ≡ true → precedes x bit_set ≡ true
   earlier_set x before = precedes_more f (number_in f p) (number_in f p + 2 ^ (width_of f - 1 - i)) x p (omega arith)
       (subst (λ q. precedes x q ≡ true) (sym (with_own f p)) before)

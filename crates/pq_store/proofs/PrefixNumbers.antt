@@ -12,7 +12,7 @@ use Rattle.pq_store.specs.Least.{precedes}
 use Rattle.pq_store.specs.Search.{Agrees, IsClear}
 use Rattle.pq_store.proofs.Order.{rank_injective}
 
--- a field's number stands at its rank
+-- a field's number is at its rank
 number_at : (f : Field) (x : Numbers) → get_or (numbers x) (rank f) 0 ≡ number_in f x
 number_at Switch x = refl
 number_at Port x = refl
@@ -129,7 +129,7 @@ zero_number Ipv6Dst = refl
 below_zero : {n : ℕ} → n < 0 → ⊥
 below_zero h = omega arith
 
--- one list stands before another where it is below it at a place and equal before
+-- one list is before another where it is below it at a place and equal before
 before_at : (xs ys : List ℕ) (k : ℕ) → k < length xs → k < length ys → ((j : ℕ) → j < k → get_or xs j 0 ≡ get_or ys j 0)
     → get_or xs k 0 < get_or ys k 0 → is_before xs ys ≡ true
 before_at [] ys k in_xs in_ys same less = absurd (omega arith)
@@ -141,7 +141,7 @@ before_at (x ∷ xs) (y ∷ ys) (suc k) in_xs in_ys same less =
     let later = before_at xs ys k (omega arith) (omega arith) (λ j h. same (suc j) (omega arith)) less in
     grind (arith, nat_tests)
 
--- a list that stands before another as long is below it at a place and equal before
+-- a list that is before another as long is below it at a place and equal before
 differs_at : (xs ys : List ℕ) → length xs ≡ length ys → is_before xs ys ≡ true
     → (k : ℕ) × (k < length xs) × ((j : ℕ) → j < k → get_or xs j 0 ≡ get_or ys j 0) × (get_or xs k 0 < get_or ys k 0)
 differs_at [] [] long before = absurd (true≢false (sym before))
@@ -165,7 +165,7 @@ differs_at (x ∷ xs) (y ∷ ys) long before = elim (leb_tells (suc x) y) [
   ]
 ]
 
--- a packet stands before another where it is below it in a field and agrees before
+-- a packet is before another where it is below it in a field and agrees before
 pub precedes_at : (f : Field) (x p : Numbers) → Agrees f x p → number_in f x < number_in f p → precedes x p ≡ true
 precedes_at f x p same less =
     before_at (numbers x) (numbers p) (rank f) (rank_below f) (rank_below f)
@@ -174,7 +174,7 @@ precedes_at f x p same less =
     ∙ sym (number_at g.0 p)))
     (subst (λ a. a < get_or (numbers p) (rank f) 0) (sym (number_at f x)) (subst (λ b. number_in f x < b) (sym (number_at f p)) less))
 
--- a packet that stands before another is below it in a field and agrees before
+-- a packet that is before another is below it in a field and agrees before
 pub differs_in : (x p : Numbers) → precedes x p ≡ true → (f : Field) × Agrees f x p × (number_in f x < number_in f p)
 differs_in x p before =
     let d = differs_at (numbers x) (numbers p) refl before in
@@ -199,11 +199,11 @@ agrees_back f n x p same g h = same g h ∙ number_with_other f g n p (λ e. ome
 pub clear_with : (f : Field) (n : ℕ) (p : Numbers) → IsClear f p → IsClear f (with_number f n p)
 clear_with f n p clear g h = number_with_other f g n p (λ e. omega arith) ∙ clear g h
 
--- a packet with less in the field stands before the packet with this number there
+-- a packet with less in the field is before the packet with this number there
 pub precedes_with : (f : Field) (n : ℕ) (x p : Numbers) → Agrees f x p → number_in f x < n → precedes x (with_number f n p) ≡ true
 precedes_with f n x p same less = precedes_at f x (with_number f n p) (agrees_with f n x p same) (subst (λ m. number_in f x < m) (sym (number_with f n p)) less)
 
--- what stands before a clear packet with this number either stands before it with a lower one, or agrees and has a number between
+-- what is before a clear packet with this number either is before it with a lower one, or agrees and has a number between
 pub precedes_between : (f : Field) (a b : ℕ) (x p : Numbers) → IsClear f p → precedes x (with_number f b p) ≡ true
     → (precedes x (with_number f a p) ≡ true) ⊎ (Agrees f x p × (a ≤ number_in f x) × (number_in f x < b))
 precedes_between f a b x p clear before = elim (cases_order (rank d.0) (rank f)) [
@@ -228,7 +228,7 @@ precedes_between f a b x p clear before = elim (cases_order (rank d.0) (rank f))
       | inr more ↦ inr (agrees_back f b x p h.0, more, subst (λ n. number_in f x < n) (number_with f b p) h.1)
     ]
 
--- a packet stands no later behind a greater number
+-- a packet is no later after a greater number
 pub precedes_more : (f : Field) (a b : ℕ) (x p : Numbers) → a ≤ b → precedes x (with_number f a p) ≡ true → precedes x (with_number f b p) ≡ true
 precedes_more f a b x p more before = elim (cases_order (rank d.0) (rank f)) [
   | inl same ↦ at_field (subst (λ g. Agrees g x (with_number f a p) × (number_in g x < number_in g (with_number f a p))) (rank_injective d.0 f same) (d.1, d.2))
@@ -252,14 +252,14 @@ precedes_more f a b x p more before = elim (cases_order (rank d.0) (rank f)) [
     at_field : Agrees f x (with_number f a p) × (number_in f x < number_in f (with_number f a p)) → precedes x (with_number f b p) ≡ true
     at_field h = precedes_with f b x p (agrees_back f a x p h.0) (lt_of_lt_of_le (subst (λ n. number_in f x < n) (number_with f a p) h.1) more)
 
--- no packet stands before the one whose numbers are 0
+-- no packet is before the one whose numbers are 0
 pub none_before_zero : (x : Numbers) → precedes x zero_packet ≡ true → ⊥
 none_before_zero x before = let d = differs_in x zero_packet before in no_less d.0 (number_in d.0 x) d.2
   where
     no_less : (f : Field) (n : ℕ) → n < number_in f zero_packet → ⊥
     no_less f n h = below_zero (subst (λ m. n < m) (zero_number f) h)
 
--- the numbers of fields that are no IPv6 addresses have at most 64 bits
+-- the numbers of fields that are not IPv6 addresses have at most 64 bits
 pub narrow_width : (f : Field) → is_wide f ≡ false → width_of f ≤ 64
 narrow_width Switch narrow = omega arith
 narrow_width Port narrow = omega arith

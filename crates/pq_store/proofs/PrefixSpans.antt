@@ -81,7 +81,7 @@ module _ {L : Type 0} where
   asks_less f a b (Fork (Equal g v) y n) less (inr (same, more)) = inr (same, omega arith)
   asks_less f a b (Fork (Bit g j) y n) less asks = asks
 
-  -- behind the field's numbers a tree asks of later fields
+  -- after the field's numbers a tree asks of later fields
   pub rest_inside : (f : Field) (from : ℕ) (t : Tree L) → AsksFrom f from t → AllLawful t → Ascends t → Inside f 1 (rest f t)
   rest_inside f from (Tip l) asks lawful ascends = tt
   rest_inside f from (Fork (Equal g v) y n) asks lawful ascends = elim (eqb_tells (rank f) (rank g)) [
@@ -92,7 +92,7 @@ module _ {L : Type 0} where
   ]
   rest_inside f from (Fork (Bit g j) y n) asks lawful ascends = inl asks
 
-  -- a packet with a lower number reaches what stands behind the field's numbers
+  -- a packet with a lower number reaches what is after the field's numbers
   pub value_rest : (f : Field) (from : ℕ) (t : Tree L) (x : Numbers) → AsksFrom f from t → AllLawful t → Ascends t → number_in f x < from
       → value t x ≡ value (rest f t) x
   value_rest f from (Tip l) x asks lawful ascends less = refl
@@ -110,7 +110,7 @@ module _ {L : Type 0} where
   ]
   value_rest f from (Fork (Bit g j) y n) x asks lawful ascends less = refl
 
-  -- nothing stands behind numbers that a tree doesn't begin with
+  -- nothing is after numbers that a tree doesn't begin with
   pub rest_same : (f : Field) (t : Tree L) → begins f t ≡ false → rest f t ≡ t
   rest_same f (Tip l) other = refl
   rest_same f (Fork (Equal g v) y n) other = rw other refl

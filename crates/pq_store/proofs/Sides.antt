@@ -37,7 +37,7 @@ module _ {L : Type 0} where
     fits = λ f. omega (arith, d.fits f, le-max_right (most f y) (most f n));
   }
 
-  -- the tree behind the numbers of a field at the front of a diagram is one
+  -- the tree after the numbers of a field at the front of a diagram is one
   rest_diagram : (f : Field) (t : Tree L) → IsDiagram t → IsDiagram (rest f t)
   rest_diagram f (Tip l) d = d
   rest_diagram f (Fork (Equal g w) y n) d = elim (eqb_tells (rank f) (rank g)) [
@@ -51,7 +51,7 @@ module _ {L : Type 0} where
   past_diagram (Equal f v) t d = rest_diagram f t d
   past_diagram (Bit f i) t d = d
 
-  -- what precedes a diagram precedes the tree behind the numbers of a field at its front
+  -- what precedes a diagram precedes the tree after the numbers of a field at its front
   rest_before : (s : Test) (f : Field) (t : Tree L) → IsBefore s t → IsDiagram t → IsBefore s (rest f t)
   rest_before s f (Tip l) first d = tt
   rest_before s f (Fork (Equal g w) y n) first d = elim (eqb_tells (rank f) (rank g)) [
@@ -65,7 +65,7 @@ module _ {L : Type 0} where
   past_before s (Equal f v) t first d = rest_before s f t first d
   past_before s (Bit f i) t first d = first
 
-  -- behind the numbers of a field at its front a tree is no larger
+  -- after the numbers of a field at its front a tree is no larger
   rest_size : (f : Field) (t : Tree L) → size (rest f t) ≤ size t
   rest_size f (Tip l) = omega arith
   rest_size f (Fork (Equal g w) y n) = elim (eqb_tells (rank f) (rank g)) [

@@ -43,7 +43,7 @@ module _ {L : Type 0} where
   pub yes_same : (s : Test) (y n : Tree L) (p q : Point) → IsDiagram (Fork s y n) → IsTurned s true p q → leaf_at y p ≡ leaf_at (Fork s y n) q
   yes_same s y n p q d turned = says_same s y p q turned.alike d.ascends.0 d.ascends.2 d.asks_once.0 ∙ sym (side s y n q true turned.answers)
 
-  -- the sides of a fork that agrees with a diagram behind its test agree past it
+  -- the sides of a fork that agrees with a diagram after its test agree past it
   alone_sides : (s : Test) (y n u : Tree L) → IsDiagram (Fork s y n) → IsDiagram u → IsBefore s u → Agree (Fork s y n) u → Agree y (past s n)
   alone_sides s y n u d e first agree p range =
       let lawful = d.lawful.0 in
@@ -95,7 +95,7 @@ module _ {L : Type 0} where
           ∙ sym (past_same s m p r missed.turned.alike lawful e.ascends.1 other)
           ∙ sym (hit s m p is e.ascends.1 other.ascends)
 
-  -- no fork agrees with a diagram behind its test
+  -- no fork agrees with a diagram after its test
   none_alone : (k : ℕ) → AreOneBelow L k → (s : Test) (y n u : Tree L) → size (Fork s y n) + size u < suc k → IsDiagram (Fork s y n)
       → IsDiagram u → IsBefore s u → Agree (Fork s y n) u → ⊥
   none_alone k one s y n u small d e first agree =

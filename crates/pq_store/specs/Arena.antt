@@ -11,7 +11,7 @@ use Rattle.pq_store.specs.Tree.{Tree, past}
 use Rattle.pq_store.specs.Tree.Tree.{Tip, Fork}
 use Rattle.pq_store.specs.Diagram.{IsDiagram}
 
--- the place of what stands behind the numbers of the field with which the branch at a place begins
+-- the place of what is after the numbers of the field with which the branch at a place begins
 abbrev pub behind_test : Field → Test → ℕ → ℕ → ℕ
 behind_test f (Equal g v) past at = if rank f == rank g then past else at
 behind_test f (Bit g i) past at = at
@@ -39,7 +39,7 @@ module _ {L : Type 0} where
   KnowsPast ts (cell.Leaf l) = Unit {0}
   KnowsPast ts (cell.Branch b) = (n : Tree L) → slice_get ts b.no ≡ Some n → slice_get ts b.past ≡ Some (past b.test n)
 
-  -- sides stand below their nodes, each tree is a diagram, and equal cells have one place
+  -- sides are below their nodes, each tree is a diagram, and equal cells have one place
   pub record IsArena (cs : List (Cell L)) : Type 0 where
     pub grown : length (trees cs) ≡ length cs
     pub diagrams : (k : ℕ) (t : Tree L) → slice_get (trees cs) k ≡ Some t → IsDiagram t

@@ -57,7 +57,7 @@ abbrev pub most : {L : Type 0} → Field → Tree L → ℕ
 most f (Tip l) = 0
 most f (Fork t y n) = counts f t + max (most f y) (most f n)
 
--- no path tests more than half of a field's numbers less one
+-- no path tests more than half of a field's numbers minus one
 abbrev pub Fits : {L : Type 0} → Tree L → Type 0
 Fits t = (f : Field) → most f t ≤ 2 ^ width_of f / 2 - 1
 

@@ -14,7 +14,7 @@ use Rattle.pq_store.specs.Diagram.{IsDiagram}
 abbrev pub HasOneDiagram : Type 0 → Type 0
 HasOneDiagram L = (t u : Tree L) → IsDiagram t → IsDiagram u → ((x : Numbers) → Fit x → value t x ≡ value u x) → t ≡ u
 
--- no test of the field stands in the tree
+-- no test of the field is in the tree
 abbrev pub IsUntested : {L : Type 0} → Field → Tree L → Type 0
 IsUntested f t = (s : Test) → IsTested s t → field_of s ≡ f → ⊥
 
@@ -44,12 +44,12 @@ is_prerequisite (Bit f i) = false
 abbrev pub and_prerequisite : Test → List Test → List Test
 and_prerequisite s passed = if is_prerequisite s then s ∷ passed else passed
 
--- each test of the field stands below its prerequisites: the tests of these fields on the path to it that are answered yes, after
+-- each test of the field is below its prerequisites: the tests of these fields on the path to it that are answered yes, after
 -- some above the tree, make each packet have the field
 abbrev pub StandsBelow : {L : Type 0} → Field → List Test → Tree L → Type 0
 StandsBelow f passed (Tip l) = Unit {0}
 StandsBelow f passed (Fork s y n) = (field_of s ≡ f → MakePresent passed f) × StandsBelow f (and_prerequisite s passed) y × StandsBelow f passed n
 
--- where the value is the same whatever the number of a field that the packet lacks, each test of the field stands below its prerequisites
+-- where the value is the same whatever the number of a field that the packet lacks, each test of the field is below its prerequisites
 abbrev pub PrerequisitesStandFirst : Type 0 → Type 0
 PrerequisitesStandFirst L = (f : Field) (t : Tree L) → IsDiagram t → Ignores f (λ x. has_field f x ≡ false) t → StandsBelow f [] t

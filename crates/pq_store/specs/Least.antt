@@ -7,7 +7,7 @@ use Rattle.pq_store.specs.Tree.{Tree}
 use Rattle.pq_store.specs.Tree.Tree.{Tip}
 use Rattle.pq_store.specs.Store.{value_at}
 
--- the first packet stands before the second, in packet order
+-- the first packet is before the second, in packet order
 abbrev pub precedes : Numbers → Numbers → Bool
 precedes x y = is_before (numbers x) (numbers y)
 

@@ -18,7 +18,7 @@ module _ {L : Type 0} where
   abbrev pub MarksSides : List (Tree L) → ℕ → List Bool → Type 0
   MarksSides ts from kept = (k : ℕ) → from ≤ k → IsMarked kept k → (test : Test) (i j : ℕ) → ShowsBranch ts k test i j → IsMarked kept i × IsMarked kept j
 
-  -- roots are marked, and what stands under them at places from one on, and nothing else
+  -- roots are marked, and what is under them at places from one on, and nothing else
   pub record Marks (ts : List (Tree L)) (roots : List ℕ) (from : ℕ) (kept : List Bool) : Type 0 where
     pub each : length kept ≡ length ts
     pub ends : All (IsMarked kept) roots

@@ -25,7 +25,7 @@ IsTestWithin ns (Bit f i) = Unit {0}
 abbrev pub Within : {L : Type 0} → (Field → List ℕ) → Tree L → Type 0
 Within ns t = (f : Field) (v : ℕ) → IsTested (Equal f v) t → IsAmong v (ns f)
 
--- of each field that is tested by whole numbers there are at most half of its numbers less one
+-- of each field that is tested by whole numbers there are at most half of its numbers minus one
 abbrev pub AreFew : (Field → List ℕ) → Type 0
 AreFew ns = (f : Field) → is_address f ≡ false → length (ns f) ≤ 2 ^ width_of f / 2 - 1
 

@@ -19,11 +19,11 @@ use Rattle.pq_store.specs.Least.{precedes}
 abbrev pub Agrees : Field → Numbers → Numbers → Type 0
 Agrees f x p = (g : Field) → rank g < rank f → number_in g x ≡ number_in g p
 
--- the numbers of the fields behind this one are 0
+-- the numbers of the fields after this one are 0
 abbrev pub IsClear : Field → Numbers → Type 0
 IsClear f p = (g : Field) → rank f < rank g → number_in g p ≡ 0
 
--- the packets agree before this field, and in it their numbers stand in one span of such a length
+-- the packets agree before this field, and in it their numbers are in one span of such a length
 abbrev pub Shares : Field → ℕ → Numbers → Numbers → Type 0
 Shares f span x p = Agrees f x p × (number_in f x / span ≡ number_in f p / span)
 
@@ -51,7 +51,7 @@ abbrev pub raised : Option ℕ → Option ℕ
 raised (Some free) = Some (free + 1)
 raised None = None
 
--- the gap's number, where it stands below the value
+-- the gap's number, where it is below the value
 abbrev pub IsUntestedBelow : Option ℕ → ℕ → Option ℕ → Type 0
 IsUntestedBelow gap value (Some free) = (gap ≡ Some free) × (free < value)
 IsUntestedBelow gap value None = IfSome gap (λ free. value ≤ free)
@@ -122,7 +122,7 @@ module _ {L : Type 0} where
   Visits ts t p old before new after = (root : Tree L) → IsSound ts root old before → IsReady ts root old p → Leads root t p
       → IsSearched ts root t (λ x. Reaching t x p) old new after
 
-  -- the number that what stands behind the field's numbers may be reached by, or that it was visited
+  -- the number that what is after the field's numbers may be reached by, or that it was visited
   abbrev pub IsGap : List (Tree L) → Tree L → List Least → Option ℕ → ℕ → Type 0
   IsGap ts end found (Some free) from = free ≡ from
   IsGap ts end found None from = AreFound ts found end
@@ -133,7 +133,7 @@ module _ {L : Type 0} where
       → IsSound ts root old before → IsReady ts root old (with_number f from p) → LeadsFrom root t f from p
       → IsSearched ts root t (λ x. Agrees f x p) old new after
 
-  -- so many numbers were tested before, and there is room for those below
+  -- this many numbers were tested before, and there is room for those below
   abbrev pub HasGapRoom : Field → Option ℕ → Tree L → Type 0
   HasGapRoom f None t = Unit {0}
   HasGapRoom f (Some free) t = free + most f t ≤ 2 ^ width_of f / 2 - 1

@@ -16,7 +16,7 @@ abbrev pub value : {L : Type 0} → Tree L → Numbers → L
 value (Tip l) x = l
 value (Fork t y n) x = if passes t x then value y x else value n x
 
--- the tree behind the tests of the field's numbers at its front: each of them answers no
+-- the tree after the tests of the field's numbers at its front: each of them answers no
 abbrev pub rest : {L : Type 0} → Field → Tree L → Tree L
 rest f (Tip l) = Tip l
 rest f (Fork (Equal g v) y n) = if rank f == rank g then rest f n else Fork (Equal g v) y n
@@ -27,12 +27,12 @@ abbrev pub past : {L : Type 0} → Test → Tree L → Tree L
 past (Equal f v) t = rest f t
 past (Bit f i) t = t
 
--- the first tree stands in the second
+-- the first tree is in the second
 abbrev pub IsPartOf : {L : Type 0} → Tree L → Tree L → Type 0
 IsPartOf t (Tip l) = t ≡ Tip l
 IsPartOf t (Fork s y n) = (t ≡ Fork s y n) ⊎ (IsPartOf t y ⊎ IsPartOf t n)
 
--- the test stands in the tree
+-- the test is in the tree
 abbrev pub IsTested : {L : Type 0} → Test → Tree L → Type 0
 IsTested s (Tip l) = ⊥
 IsTested s (Fork t y n) = (s ≡ t) ⊎ (IsTested s y ⊎ IsTested s n)

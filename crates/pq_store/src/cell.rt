@@ -16,7 +16,7 @@ pub(crate) struct Branch {
 }
 
 impl Branch {
-    /// What stands behind the numbers of the field with which the branch at this place begins.
+    /// What is after the numbers of the field with which the branch at this place begins.
     pub fn behind(&self, field: Field, at: NodeId) -> NodeId
         ensures { result ≡ behind field self.now at }
     {

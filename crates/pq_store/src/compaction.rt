@@ -10,7 +10,7 @@ use crate::view::View;
 use std::alloc::{AllocError, Global};
 
 impl<L: Leaf + Clone> Store<L> {
-    /// A store of what stands under these ids, and position by position their ids in it.
+    /// A store of what is under these ids, and position by position their ids in it.
     pub fn compacted(&self, roots: &[NodeId]) -> Result<(Store<L>, Vec<NodeId>), AllocError>
         requires roots { All (λ root. root < length self.now) roots.now }
         requires clones { (x y : L) → L.is_clone x y → y ≡ x }
@@ -24,7 +24,7 @@ impl<L: Leaf + Clone> Store<L> {
         Ok((compact, ids))
     }
 
-    /// Which places are those of what stands under these ids.
+    /// Which places are those of what is under these ids.
     fn kept(&self, roots: &[NodeId]) -> Result<Vec<bool>, AllocError>
         requires { All (λ root. root < length self.now) roots.now }
         ensures { IfOk result (λ kept. Marks self.now roots.now 0 kept.items) }
@@ -50,7 +50,7 @@ impl<L: Leaf + Clone> Store<L> {
         Ok(kept)
     }
 
-    /// Marks the sides of what stands at a marked place.
+    /// Marks the sides of what is at a marked place.
     fn mark_sides(&self, place: NodeId, kept: &mut [bool])
         requires place { place < length self.now }
         requires kept { length kept.old ≡ length self.now }

@@ -11,7 +11,7 @@ pub fn ignored_fields_are_untested<L>()
     ensures { IgnoredFieldsAreUntested L }
 {}
 
-/// Law: where the value is the same whatever the number of a field that the packet lacks, each test of the field stands below
+/// Law: where the value is the same whatever the number of a field that the packet lacks, each test of the field is below
 /// tests, answered yes, that make sure that the packet has it.
 pub fn prerequisites_stand_first<L>()
     ensures { PrerequisitesStandFirst L }

@@ -98,7 +98,7 @@ impl<L: Leaf> Store<L> {
 
     /// Finds the leaves under a node whose tests of the field's numbers go on from others.
     ///
-    /// The gap is the next number that may be untested, as long as what stands behind the tests isn't visited.
+    /// The gap is the next number that may be untested, as long as what is after the tests isn't visited.
     #[cycle(search)]
     fn visit_from(
         &self,
@@ -177,7 +177,7 @@ fn with_bit(x: Packet, field: Field, index: u8) -> Packet
     }
 }
 
-/// The number of the gap, where it stands below the value.
+/// The number of the gap, where it is below the value.
 fn untested_below(gap: Option<u64>, value: u64) -> Option<u64>
     ensures { IsUntestedBelow gap value result }
 {
@@ -187,7 +187,7 @@ fn untested_below(gap: Option<u64>, value: u64) -> Option<u64>
     }
 }
 
-/// The number behind that of the gap.
+/// The number after that of the gap.
 fn raised(gap: Option<u64>) -> Option<u64>
     requires { IfSome gap (λ free. free + 1 < 2 ^ 64) }
     ensures { result ≡ raised gap }

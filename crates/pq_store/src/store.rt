@@ -19,8 +19,8 @@ use std::marker::Model;
 
 /// Diagrams that share their nodes: one id for each function from packets to leaves.
 ///
-/// Sides stand below their nodes, tests ascend on every path, below the yes side of a number no other number of its field is
-/// tested, no node has equal sides, no two nodes are equal, and no path tests more than half of a field's numbers less one
+/// Sides are below their nodes, tests ascend on every path, below the yes side of a number no other number of its field is
+/// tested, no node has equal sides, no two nodes are equal, and no path tests more than half of a field's numbers minus one
 /// (after Bryant, Graph-based algorithms for Boolean function manipulation, 1986).
 #[derive(Drop)]
 pub struct Store<L: Leaf> {
@@ -89,7 +89,7 @@ impl<L: Leaf> Store<L> {
 
     /// The id of a test with these sides; equal sides give the no side.
     ///
-    /// The test is lawful and stands before all tests of both sides, a number's yes side tests no other number of its field,
+    /// The test is lawful and is before all tests of both sides, a number's yes side tests no other number of its field,
     /// and no path tests too many of a field's numbers.
     pub fn node(&mut self, test: Test, yes: NodeId, no: NodeId) -> Result<NodeId, AllocError>
         requires yes { yes < length self.old }
@@ -129,7 +129,7 @@ impl<L: Leaf> Store<L> {
         }
     }
 
-    /// What stands at an id.
+    /// What is at an id.
     pub fn view(&self, node: NodeId) -> View<'_, L>
         requires { node < length self.now }
         ensures shows { Shows self.now node result }

@@ -6,7 +6,7 @@ use pq_fields::{Field, Packet};
 /// A test of a packet: it looks at a field's number, whether or not the packet has the field.
 #[derive(Clone, Copy, Debug, PartialEq, Eq, Hash)]
 pub enum Test {
-    /// The field's number is this one; of a field that is no address.
+    /// The field's number is this one; of a field that is not an address.
     Equal(Field, u64),
     /// The bit at this place is set, 0 being the highest; of an address.
     Bit(Field, u8),
@@ -32,7 +32,7 @@ impl Test {
         }
     }
 
-    /// Whether this test stands before the other: by field, then by number or place.
+    /// Whether this test is before the other: by field, then by number or place.
     pub fn precedes(self, other: Test) -> bool
         ensures { IsTrue result ↔ Precedes self other }
     {

@@ -76,7 +76,7 @@ module _ (last slot : ℕ) where
   differ_renamed [] none differ = tt
   differ_renamed (s ∷ ss) none differ = (none_renamed s ss (apart slot s none.0) none.1 differ.0, differ_renamed ss none.1 differ.1)
 
--- a slot behind all others differs from them
+-- a slot after all others differs from them
 pub differ_more : (ss : List ℕ) (n : ℕ) → ((i s : ℕ) → slice_get ss i ≡ Some s → s < n) → IsDistinct nat_eq ss → IsDistinct nat_eq (ss ++ n ∷ [])
 unfolding IsDistinct
 differ_more [] n below differ = (tt, tt)

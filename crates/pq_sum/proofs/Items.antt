@@ -41,7 +41,7 @@ module _ {X : Type 0} where
   last_item (x ∷ y ∷ xs) zero all = absurd (omega (arith, all))
   last_item (x ∷ xs) (suc last) all = last_item xs last (omega (arith, all))
 
-  -- how many there are with an item in place of another, or behind the last
+  -- how many there are with an item in place of another, or after the last
   pub put_length : (xs : List X) (i : ℕ) (x : X) → i < length xs → length (replaced i (x ∷ []) xs) ≡ length xs
   put_length [] i x within = absurd (omega arith)
   put_length (y ∷ xs) zero x within = refl

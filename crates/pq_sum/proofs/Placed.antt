@@ -92,7 +92,7 @@ module _ {X : Type 0} (slotted placed : List X) (slots : List ℕ) (are : ArePla
   slots_below : (i s : ℕ) → slice_get slots i ≡ Some s → s < length slotted
   slots_below i s at = let item = zip_item Stands placed slots i s are.each at in slice_get_within slotted s item.0 item.2
 
-  -- each item stands in a slot, and each slot has the item of a place
+  -- each item is in a slot, and each slot has the item of a place
   item_slotted : (k : ℕ) (x : X) → slice_get placed k ≡ Some x → (s : ℕ) × (slice_get slotted s ≡ Some x)
   item_slotted k x at = let slot = zip_slot Stands placed slots k x are.each at in (slot.0, slot.2)
 
@@ -128,7 +128,7 @@ module _ {X : Type 0} (slotted placed : List X) (slots : List ℕ) (are : ArePla
     place_within : place < length placed
     place_within = let item = zip_item Stands placed slots place slot are.each at in slice_get_within placed place item.0 item.1
 
-    -- the item of a place stands in its slot
+    -- the item of a place is in its slot
     pub same_item : at_place slot slotted ≡ at_place place placed
     same_item =
         let item = zip_item Stands placed slots place slot are.each at in
@@ -175,7 +175,7 @@ module _ {X : Type 0} (slotted placed : List X) (slots : List ℕ) (are : ArePla
               (removed_elsewhere slotted slot last all within s y other (let unequal = differs.1 in omega (arith, less, all, unequal)) is)
         ]
 
-  -- an item behind the last
+  -- an item after the last
   pub placed_more : (n : ℕ) → n ≡ length placed → (x : X) → ArePlaced (replaced n (x ∷ []) slotted) (replaced n (x ∷ []) placed) (slots ++ n ∷ [])
   placed_more n is x =
       let same = are.all in

@@ -25,7 +25,7 @@ module _ {X : Type 0} where
   take_before (suc w) (suc i) new (x ∷ xs) before few within last =
       ap (λ l. x ∷ l) (take_before w i new xs (omega arith) few (omega arith) (λ none. let is = last none in omega (arith, is)))
 
-  -- and the half behind it stays
+  -- and the half after it stays
   pub drop_before : (w i : ℕ) (new xs : List X) → i < w → length new ≤ 1 → i ≤ length xs → (new ≡ [] → length xs ≡ suc i)
       → drop w (replaced i new xs) ≡ drop w xs
   drop_before zero i new xs before few within last = absurd (omega arith)

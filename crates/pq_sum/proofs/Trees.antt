@@ -74,7 +74,7 @@ tree_still T old new keeps (suc h) cells ps tree = record {
 }
 
 module _ (T : Topology) (ts : List (Tree (List Written))) (h : ℕ) (cells : List ℕ) (ps : List PolicyTree) (tree : IsSumTree T ts (suc h) cells ps) where
-  -- half of the cells behind the root
+  -- half of the cells after the root
   half_cells : length (drop 1 cells) / 2 ≡ length tree.front
   half_cells =
       let front = cells_of T ts h tree.front (take (2 ^ h) ps) tree.first in

@@ -32,7 +32,7 @@ halves_fit T w ps fits =
 pub none_unites : (T : Topology) (ts : List (Tree (List Written))) (none : ℕ) → GivesNone ts none → UnitesParts T ts [] none
 none_unites T ts none is = (Tip [], is, none_united T)
 
--- where no packets are given, the leaf stands there
+-- where no packets are given, the leaf is there
 pub none_is : (T : Topology) (ts : List (Tree (List Written))) (none id : ℕ)
     → IsCanonicalRewriting ts → GivesNone ts none → UnitesParts T ts [] id → id ≡ none
 none_is T ts none id canonical is (t, there, united) =

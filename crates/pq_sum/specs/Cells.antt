@@ -11,7 +11,7 @@ use Rattle.pq_sum.specs.Sum.{AreParts, IsSumOf, UnitesParts, replaced}
 abbrev pub at_place : {A : Type 0} → ℕ → List A → List A
 at_place i xs = take 1 (drop i xs)
 
--- a list without the item at a place, in place of which its last item stands
+-- a list without the item at a place, in place of which its last item is
 abbrev pub removed : {A : Type 0} → ℕ → List A → List A
 removed i xs = take (length xs - 1) (replaced i (drop (length xs - 1) xs) xs)
 

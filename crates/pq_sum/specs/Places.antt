@@ -1,4 +1,4 @@
--- A sum: parts in an order of their own, and the slots in which they stand.
+-- A sum: parts in an order of their own, and the slots in which they are.
 use Rattle.std.specs.Prelude.{ℕ, ◌≡◌, ◌<◌, ◌==◌, List, [], ◌∷◌, ◌++◌, length, Some, nat_eq, slice_get, if◌then◌else◌}
 use Rattle.std.specs.List.{AllZip, IsDistinct}
 use Rattle.pq_fields.specs.Writes.{Written}
@@ -12,7 +12,7 @@ pub record Sum : Type 0 where
   pub cells : List ℕ
   pub slots : List ℕ
 
--- two orders of the same items: the item of each place stands in the slot of the place, and the slots differ
+-- two orders of the same items: the item of each place is in the slot of the place, and the slots differ
 pub record ArePlaced {A : Type 0} (slotted placed : List A) (slots : List ℕ) : Type 0 where
   pub all : length slotted ≡ length placed
   pub each : AllZip (λ x slot. slice_get slotted slot ≡ Some x) placed slots
@@ -24,7 +24,7 @@ pub record IsSummed (T : Topology) (ts : List (Tree (List Written))) (ps : List 
   pub sum : IsSumOf T ts slotted s.cells
   pub placed : ArePlaced slotted ps s.slots
 
--- the slot in which an item of this place is to stand: that of the place, or the next one where there is no such place yet
+-- the slot in which an item of this place is to be: that of the place, or the next one where there is no such place yet
 pub record IsSlotFor (old : List ℕ) (place : ℕ) (new : List ℕ) (slot : ℕ) : Type 0 where
   pub held : place < length old → (new ≡ old) × (slice_get old place ≡ Some slot)
   pub next : place ≡ length old → (new ≡ old ++ place ∷ []) × (slot ≡ place)

@@ -9,7 +9,7 @@ use Rattle.pq_store.specs.Tree.{Tree}
 use Rattle.pq_store.specs.Tree.Tree.{Tip}
 use Rattle.pq_meaning.specs.Parts.{FitAsParts, IsUnionOfParts}
 
--- a list with these in place of the item at a place; where it has none there, with these behind its last
+-- a list with these in place of the item at a place; where it has none there, with these after its last
 abbrev pub replaced : {A : Type 0} → ℕ → List A → List A → List A
 replaced i new xs = take i xs ++ (new ++ drop (suc i) xs)
 
@@ -34,7 +34,7 @@ pub record MayJoin (ts : List (Tree (List Written))) (i j : ℕ) : Type 0 where
   pub back : UnitesParts topology ts behind j
   pub fits : FitAsParts topology (first ++ behind)
 
--- a tree of one slot, in which one part stands, or none
+-- a tree of one slot, in which one part is, or none
 pub record IsSlot (T : Topology) (ts : List (Tree (List Written))) (cells : List ℕ) (ps : List PolicyTree) : Type 0 where
   pub root : ℕ
   pub is : cells ≡ root ∷ []
@@ -52,7 +52,7 @@ pub record IsFork (T : Topology) (ts : List (Tree (List Written))) (IsHalf : Lis
   pub first : IsHalf front (take slots ps)
   pub behind : IsHalf back (drop slots ps)
 
--- a tree of this height: its root is the union of the parts, and stands before the cells of both halves
+-- a tree of this height: its root is the union of the parts, and is before the cells of both halves
 abbrev pub IsSumTree : Topology → List (Tree (List Written)) → ℕ → List ℕ → List PolicyTree → Type 0
 IsSumTree T ts zero cells ps = IsSlot T ts cells ps
 IsSumTree T ts (suc h) cells ps = IsFork T ts (IsSumTree T ts h) (2 ^ h) cells ps
@@ -61,7 +61,7 @@ IsSumTree T ts (suc h) cells ps = IsFork T ts (IsSumTree T ts h) (2 ^ h) cells p
 abbrev pub IsSumOf : Topology → List (Tree (List Written)) → List PolicyTree → List ℕ → Type 0
 IsSumOf T ts ps cells = IsSumTree T ts 10 cells ps
 
--- in a list of at most so many slots the item at a slot may be replaced, or the slot behind the last be filled, or the last one be emptied
+-- in a list of at most this many slots the item at a slot may be replaced, or the slot after the last be filled, or the last one be emptied
 pub record IsReplacement (slots : ℕ) (ps : List PolicyTree) (slot : ℕ) (new : List PolicyTree) : Type 0 where
   pub few : length new ≤ 1
   pub within : slot ≤ length ps
@@ -137,7 +137,7 @@ IsFilled old cells nodes now new_cells =
     (T : Topology) (h : ℕ) (ps : List PolicyTree) → IsSumTree T old h cells [] → AreParts T old ps nodes → length ps ≤ 2 ^ h → FitAsParts T ps
     → IsSumTree T now h new_cells ps
 
--- a part stands in the slot of a tree
+-- a part is in the slot of a tree
 pub record HasLeaf (cells : List ℕ) (slot : ℕ) : Type 0 where
   pub topology : Topology
   pub trees : List (Tree (List Written))

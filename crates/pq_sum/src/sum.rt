@@ -17,7 +17,7 @@ use std::sync::ledger::Ledger;
 
 /// The unions of the diagrams of at most 1,024 parts, each of which has a place.
 ///
-/// The places keep the order that the caller gives; the slots in which the parts stand in the tree of unions are an order of the
+/// The places keep the order that the caller gives; the slots in which the parts are in the tree of unions are an order of the
 /// sum's own.
 #[derive(Drop)]
 pub struct Sum {

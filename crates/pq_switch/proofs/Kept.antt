@@ -103,7 +103,7 @@ module _ (f : FlowValue) (next : ℕ) (small : f.priority < 0x10000) where
         (all_filter (λ t. is_before (turn t) (turn s) ≡ true) stays (values_of es) before))
         ∙ ap (λ l. in_turn l ++ s ∷ []) (sym p.rest) ∙ ap (λ l. l ++ s ∷ []) (sort-filter turn stays (values_of es))
 
-    -- the entry stands last, and the one of its place is gone
+    -- the entry is last, and the one of its place is gone
     pub added : entries_of (in_turn (values_of new)) ≡ filter (λ e. not (is_placed f e)) (entries_of (in_turn (values_of es))) ++ entry_of f ∷ []
     added = ap entries_of in_turn-added ∙ map-append (λ t. t.entry) (filter stays (in_turn (values_of es))) (s ∷ [])
         ∙ (λ i. entries-filter (λ e. not (is_placed f e)) (in_turn (values_of es)) i ++ is i ∷ [])

@@ -1,4 +1,4 @@
--- The entries of a table whose matches state one pattern stand in one range of places.
+-- The entries of a table whose matches state one pattern are in one range of places.
 use Rattle.std.proofs.Common.{◌≡◌, ℕ, ◌-◌, ◌<◌, Bool, true, false, not, cond, ◌&&◌, List, [], ◌∷◌, sym, ap, subst, ◌∙◌, arith, inl, inr}
 use Rattle.std.proofs.lemmas.Bool.Decides.{nat_tests}
 use Rattle.std.specs.declared.cmp.Ordering.{Ordering}
@@ -39,7 +39,7 @@ module _ (n : ℕ) (p : Pattern) where
   greater : (a b : ℕ) → b < a → nat_cmp a b ≡ Greater
   greater a b h = grind (arith, nat_tests)
 
-  -- the bounds stand in order
+  -- the bounds are in order
   pub rises : is_gt (place_cmp (place_at n p 0) (place_at n p 0x10001)) ≡ false
   rises = ap is_gt (by_down 0 0x10001)
 

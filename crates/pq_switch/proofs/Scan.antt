@@ -89,7 +89,7 @@ between b c h k = by (block_cmp b c) refl h
     by Equal e h = sym (block-exact b c e)
     by Greater e h = absurd (true≢false (sym h))
 
--- nothing behind a shape reaches back to it
+-- nothing after a shape reaches back to it
 past-later : (q : Place) → q.behind ≡ false → is_le (place_cmp (past q) q) ≡ false
 past-later q real =
     (λ i. is_le (ordering_then (tied_itself block_total q.block i)

@@ -10,7 +10,7 @@ module _ {A : Type 0} (key : A → List ℕ) where
   abbrev below : A → A → Bool
   below a b = is_before (key a) (key b)
 
-  -- what is below none of a list stands first
+  -- what is below none of a list is first
   put-first : (x : A) (ys : List A) → AllByRecursion (λ y. below y x ≡ false) ys → put_by key x ys ≡ x ∷ ys
   put-first x [] all = refl
   put-first x (y ∷ ys) (here, all) = ap (λ b. if b then y ∷ put_by key x ys else x ∷ y ∷ ys) here
@@ -59,7 +59,7 @@ module _ {A : Type 0} (key : A → List ℕ) where
   sort-all P [] all = tt
   sort-all P (x ∷ xs) (here, all) = put-all key P x (sort_by key xs) here (sort-all P xs all)
 
-  -- the greatest of a list stands last, wherever it stood
+  -- the greatest of a list is last, wherever it was
   pub sort-greatest : (front : List A) (x : A) (back : List A) → AllByRecursion (λ y. below y x ≡ true) (front ++ back)
       → sort_by key (front ++ x ∷ back) ≡ sort_by key (front ++ back) ++ x ∷ []
   sort-greatest [] x back all = put-last x (sort_by key back) (sort-all (λ y. below y x ≡ true) back all)

@@ -11,7 +11,7 @@ use Rattle.pq_switch.specs.Places.{block_cmp}
 use Rattle.pq_switch.specs.declared.place.Block.{Block}
 use Rattle.pq_switch.specs.declared.place.Place.{Place}
 
--- whether the entry stands in the table and covers the packet
+-- whether the entry is in the table and covers the packet
 abbrev pub counts : ℕ → TaggedPacket → Slot → Bool
 counts n x s = (s.entry.table == n) && covers s.entry.matching x
 
@@ -34,7 +34,7 @@ abbrev pub best_of : ℕ → TaggedPacket → List Slot → Option Slot → Opti
 best_of n x [] best = best
 best_of n x (s ∷ slots) best = best_of n x slots (preferred n x s best)
 
--- the best of so many entries of the block and the best so far; and the place of the next entry of the block, if there is one
+-- the best of this many entries of the block and the best so far; and the place of the next entry of the block, if there is one
 abbrev pub best_of_few : ℕ → Block → ℕ → TaggedPacket → List (Place × Slot) → Option Slot → Option Slot × Option Place
 best_of_few k b n x [] best = (best, None)
 best_of_few k b n x (e ∷ es) best =

@@ -45,6 +45,6 @@ place_cmp = (order.ghosts).cmp
 abbrev pub first_of : Block → Place
 first_of block = record { block = block; shape = no_pattern; behind = false; pattern = no_pattern; down = 0 }
 
--- behind all entries of the same block and shape, and before those of the next shape
+-- after all entries of the same block and shape, and before those of the next shape
 abbrev pub past : Place → Place
 past q = record q { behind = true }

@@ -12,7 +12,7 @@ abbrev pub stated_number : Option ℕ → ℕ
 stated_number None = 0
 stated_number (Some n) = n + 1
 
--- the shelf, of so many, of a table, an arriving port and a VLAN word
+-- the shelf, of this many, of a table, an arriving port and a VLAN word
 unfoldable pub shelf_of : ℕ → ℕ → Option ℕ → Option ℕ → ℕ
 shelf_of count table port word = (table + 31 * stated_number port + 1009 * stated_number word) % count
 

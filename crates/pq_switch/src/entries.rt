@@ -66,7 +66,7 @@ impl Entries {
         ensures ok { OnOk result (self.new ≡ filter (λ e. not (is_placed flow.now e)) self.old ++ entry_of flow.now ∷ []) }
         ensures err { OnErr result (self.new ≡ self.old) }
     {
-        // The last number is never given: want of memory is the answer that needs no cause.
+        // The last number is never given: running out of memory is the answer that needs no cause.
         if self.next == u64::MAX {
             return Err(AllocError);
         }
@@ -121,7 +121,7 @@ impl Entries {
     }
 }
 
-// Whether more than 256 entries that stand together are of one block and one shape.
+// Whether more than 256 entries that are together are of one block and one shape.
 fn has_large_shape(slots: &BTreeMap<Place, Slot>) -> bool {
     let mut count = 0u32;
     let mut last = None;
@@ -135,7 +135,7 @@ fn has_large_shape(slots: &BTreeMap<Place, Slot>) -> bool {
     false
 }
 
-// How many of a shape stand together up to a place, where so many do up to the one before.
+// How many of a shape are together up to a place, where this many do up to the one before.
 fn count_with(last: Option<&Place>, place: &Place, count: u32) -> u32 {
     match last {
         Some(other) if other.block == place.block && other.shape == place.shape => {

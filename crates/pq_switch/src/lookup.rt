@@ -49,8 +49,8 @@ fn block(table: u8, in_port: Option<u64>, vlan: Option<u64>) -> Block
 
 // The best of the covering entries of a block, and the best so far.
 //
-// The entries stand by shape. After a few entries it looks among those of the next shape for the one match that covers
-// the packet, and goes on behind them (tuple space search; Srinivasan, Suri and Varghese, SIGCOMM 1999).
+// The entries are by shape. After a few entries it looks among those of the next shape for the one match that covers
+// the packet, and goes on after them (tuple space search; Srinivasan, Suri and Varghese, SIGCOMM 1999).
 fn best_in_block<'a>(
     slots: &'a BTreeMap<Place, Slot>,
     block: Block,
@@ -163,7 +163,7 @@ pub(crate) fn preferred<'a>(
     }
 }
 
-// Whether the entry stands in the table and covers the packet.
+// Whether the entry is in the table and covers the packet.
 fn counts(table: u8, x: &Tagged, slot: &Slot) -> bool
     ensures { result ≡ counts table x.now slot.now }
 {

@@ -16,13 +16,13 @@ pub(crate) struct Block {
 
 /// The place of an entry: no two entries have the same.
 ///
-/// Places are ordered so that the entries of a block whose matches have the same shape stand together, and of these the
+/// Places are ordered so that the entries of a block whose matches have the same shape are together, and of these the
 /// entries of one match by falling priority.
 #[derive(Clone, Copy, PartialEq, Eq, PartialOrd, Ord)]
 pub(crate) struct Place {
     pub(crate) block: Block,
     pub(crate) shape: Pattern,
-    /// Not so for an entry: a place behind all entries of its shape.
+    /// Not so for an entry: a place after all entries of its shape.
     pub(crate) behind: bool,
     pub(crate) pattern: Pattern,
     /// 0x10000 less the priority.

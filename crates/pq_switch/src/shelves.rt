@@ -117,7 +117,7 @@ fn put_on(
     Ok(())
 }
 
-// The shelf, of so many, of a table, an arriving port and a VLAN word.
+// The shelf, of this many, of a table, an arriving port and a VLAN word.
 #[tactic(auto, unfolding(crate::specs::Shelves::shelf_of))]
 fn shelf_of(count: usize, table: u8, port: Option<u32>, word: Option<u32>) -> usize
     requires { 0 < count }

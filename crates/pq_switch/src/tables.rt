@@ -44,7 +44,7 @@ impl Tables {
         }
     }
 
-    /// Applies a message (OpenFlow 1.3.5, section 7.3.4). A refusal, for want of memory, leaves the tables as they were.
+    /// Applies a message (OpenFlow 1.3.5, section 7.3.4). A refusal, because memory runs out, leaves the tables as they were.
     pub fn apply(&mut self, alloc: Global, message: &Message) -> Result<(), AllocError>
         requires lawful { IsLawfulMessage message.now }
         ensures ok { OnOk result (self.new ≡ applies self.old message.now) }

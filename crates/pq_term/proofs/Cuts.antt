@@ -8,7 +8,7 @@ use Rattle.std.proofs.lemmas.List.Sums.{fails_before_first}
 use Rattle.std.proofs.lemmas.List.Splits.{slice_split_first, slice_split_none}
 use Rattle.pq_term.specs.Groups.{parts}
 
--- the first part, and the parts behind its separator
+-- the first part, and the parts after its separator
 abbrev FirstPart : ℕ → List ℕ → Option ℕ → Type 0
 FirstPart separator bs place = MatchOption place (parts separator bs ≡ bs ∷ []) (λ n. parts separator bs ≡ take n bs ∷ parts separator (drop (n + 1) bs))
 

@@ -25,7 +25,7 @@ form_of_run run =
     cond_both (is_ipv4_prefix run) _ _ P (λ prefix. prefix) (λ e.
     cond_both (is_ipv6 run) _ _ P (λ address. address) (λ f. tt))))))
 
--- a token of the rest stands at the place, and the rest begins with its text
+-- a token of the rest is at the place, and the rest begins with its text
 abbrev Begins : List ℕ → ℕ → Next → Type 0
 Begins rest place (Found t) = (t.at ≡ place) × HasForm t.kind (take t.len rest)
 Begins rest place End = Unit {0}

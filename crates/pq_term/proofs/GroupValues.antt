@@ -57,7 +57,7 @@ pub value_steps : (weight base : ℕ) (all now : List (List ℕ)) (group : List 
 value_steps weight base all now group left value few is before =
     value_goes_on weight base all group left value few (subst (λ groups. IsValueBefore weight base all groups value) is before)
 
--- so many hexadecimal digits spell a number with fewer bits
+-- this many hexadecimal digits spell a number with fewer bits
 hex_below : (least most weight : ℕ) → 16 ^ most ≤ weight → (group : List ℕ) → is_hex least most group ≡ true → value_of 16 group < weight
 hex_below least most weight wide group hex =
     let parts = and_parts (leb least (length group) && leb (length group) most) (list_all (is_digit 16) group) hex in

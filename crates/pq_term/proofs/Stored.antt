@@ -7,7 +7,7 @@ use Rattle.pq_term.specs.declared.name.Name.TheInside.{Inside}
 use Rattle.pq_term.specs.Names.{is_name}
 use Rattle.pq_term.specs.Stored.{stored_bytes, stored, IsStoredName}
 
--- bytes and what stands behind them
+-- bytes and what is after them
 abbrev over : List ℕ → List ℕ → Inside
 over bytes rest = record { padded = bytes ++ rest; len = length bytes }
 

@@ -7,7 +7,7 @@ use Rattle.pq_term.specs.declared.division.TermFault.{TermFault}
 use Rattle.pq_term.specs.declared.division.TermFault.TheVariants.{Lex, Syntax, Memory}
 use Rattle.pq_term.specs.Tokens.{next_of}
 
--- from the place on, these tokens stand one after another, and this comes next
+-- from the place on, these tokens are one after another, and this comes next
 abbrev pub IsDividedUpTo : List ℕ → ℕ → List Token → Next → Type 0
 IsDividedUpTo bytes at [] next = next_of bytes at ≡ next
 IsDividedUpTo bytes at (t ∷ ts) next = (next_of bytes at ≡ Found t) × IsDividedUpTo bytes (t.at + t.len) ts next
@@ -16,7 +16,7 @@ IsDividedUpTo bytes at (t ∷ ts) next = (next_of bytes at ≡ Found t) × IsDiv
 abbrev pub IsDivision : List ℕ → List Token → Type 0
 IsDivision bytes tokens = IsDividedUpTo bytes 0 tokens End
 
--- the division into tokens meets something that is no token, whose first byte is at the place
+-- the division into tokens meets something that is not a token, whose first byte is at the place
 abbrev pub MeetsNoToken : List ℕ → ℕ → Type 0
 MeetsNoToken bytes place = (tokens : List Token) × IsDividedUpTo bytes 0 tokens (NoToken place)
 
@@ -30,7 +30,7 @@ IsLast (Found t) = ⊥
 IsLast End = Unit {0}
 IsLast (NoToken place) = Unit {0}
 
--- a text is refused for what is no token, or for want of memory
+-- a text is refused for what is not a token, or because memory runs out
 abbrev pub IsTokenFault : List ℕ → TermFault → Type 0
 IsTokenFault bytes (Lex at) = MeetsNoToken bytes at
 IsTokenFault bytes (Syntax at) = ⊥

@@ -10,25 +10,25 @@ abbrev pub is_group : Group → List ℕ → Bool
 is_group (Hex least most) bs = is_hex least most bs
 is_group (Decimal most) bs = is_decimal most bs
 
--- what stands between the separators
+-- what is between the separators
 abbrev pub parts : ℕ → List ℕ → List (List ℕ)
 parts separator bs = slice_split (λ b. b == separator) bs
 
--- so many groups of this shape, joined by the separator
+-- this many groups of this shape, joined by the separator
 abbrev pub are_groups : ℕ → ℕ → Group → List ℕ → Bool
 are_groups separator count group bs = length (parts separator bs) == count && list_all (is_group group) (parts separator bs)
 
--- what stands before the first separator, or all where there is none
+-- what is before the first separator, or all where there is none
 abbrev pub before_separator : ℕ → List ℕ → List ℕ
 before_separator separator bs = before_first (λ b. b == separator) bs
 
--- what stands behind the first separator, where there is one
+-- what is after the first separator, where there is one
 abbrev pub behind_separator : ℕ → List ℕ → Option (List ℕ)
 behind_separator separator bs =
     if nat_lt (position_or_len (λ b. b == separator) bs) (length bs) then Some (after_first (λ b. b == separator) bs)
     else None
 
--- what stands between the separators of a text, where there is a text
+-- what is between the separators of a text, where there is a text
 abbrev pub parts_in : ℕ → Option (List ℕ) → List (List ℕ)
 parts_in separator None = []
 parts_in separator (Some bs) = parts separator bs

@@ -33,7 +33,7 @@ is_plain (b ∷ bs) = list_all (is_digit 10) (b ∷ bs) && (not (b == byte "0") 
 abbrev pub is_decimal : ℕ → List ℕ → Bool
 is_decimal most bs = is_plain bs && nat_le (value_of 10 bs) most
 
--- so many hexadecimal digits, at least and at most
+-- this many hexadecimal digits, at least and at most
 abbrev pub is_hex : ℕ → ℕ → List ℕ → Bool
 is_hex least most bs = nat_le least (length bs) && nat_le (length bs) most && list_all (is_digit 16) bs
 

@@ -28,7 +28,7 @@ token_or_none place len (Some kind) = Found (record { kind = kind; at = place; l
 abbrev pub run_token : ℕ → List ℕ → Next
 run_token place run = token_or_none place (length run) (form_of run)
 
--- the token that a text begins with, which stands at the place: a run as long as can be, a symbol of one byte, or `>>`
+-- the token that a text begins with, which is at the place: a run as long as can be, a symbol of one byte, or `>>`
 abbrev pub first_token : ℕ → List ℕ → Next
 first_token place [] = End
 first_token place (b ∷ bs) =
@@ -41,7 +41,7 @@ first_token place (b ∷ bs) =
 abbrev pub next_of : List ℕ → ℕ → Next
 next_of bytes at = let rest = after_blanks false (drop at bytes) in first_token (length bytes - length rest) rest
 
--- a token begins at or after the first place, has a byte, and ends by the second; what is no token has its first byte between them
+-- a token begins at or after the first place, has a byte, and ends by the second; what is not a token has its first byte between them
 abbrev pub IsWithin : ℕ → ℕ → Next → Type 0
 IsWithin at end (Found t) = (at ≤ t.at) × (1 ≤ t.len) × (t.at + t.len ≤ end)
 IsWithin at end End = Unit {0}

@@ -9,8 +9,8 @@ fn separator_place(separator: u8, text: &[u8]) -> Option<usize>
     text.iter().position(|byte| *byte == separator)
 }
 
-/// What stands before the first separator, or all where there is none; and what stands behind it, where there is
-/// one. So the parts that all separators cut the text into are the first part and the parts of what stands behind.
+/// What is before the first separator, or all where there is none; and what is after it, where there is
+/// one. So the parts that all separators cut the text into are the first part and the parts of what is after.
 #[tactic(auto, using(crate::proofs::Cuts::part_ended, crate::proofs::Cuts::part_alone))]
 pub fn cut_at(separator: u8, text: &[u8]) -> (&[u8], Option<&[u8]>)
     ensures before { result.0.now ≡ before_separator separator text.now }

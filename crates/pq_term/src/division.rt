@@ -11,10 +11,10 @@ use thiserror::Error;
 /// Why a text is refused.
 #[derive(Debug, Drop, Error)]
 pub enum TermFault {
-    /// At this byte something begins that is no token.
+    /// At this byte something begins that is not a token.
     #[error("no token begins at byte {at}")]
     Lex { at: usize },
-    /// The tokens are no sentence.
+    /// The tokens are not sentence.
     #[error("the tokens are no sentence at byte {at}")]
     Syntax { at: usize },
     /// There is not enough memory.
@@ -23,7 +23,7 @@ pub enum TermFault {
 }
 
 /// The tokens of the whole text, in order. Each has at least one byte, lies within the text, and has the form of its
-/// kind. `Lex` comes exactly where the division into tokens meets something that is no token, with its first byte;
+/// kind. `Lex` comes exactly where the division into tokens meets something that is not a token, with its first byte;
 /// `Syntax` never.
 pub fn token_list(alloc: Global, bytes: &[u8]) -> Result<Vec<Token>, TermFault>
     ensures ok { IfOk result (λ tokens. IsDivision bytes.now tokens.items) }
@@ -45,7 +45,7 @@ pub fn token_list(alloc: Global, bytes: &[u8]) -> Result<Vec<Token>, TermFault>
     }
 }
 
-/// A text has one division: from any place on, two lists of tokens that each stand one after another up to where
+/// A text has one division: from any place on, two lists of tokens that each are one after another up to where
 /// nothing more can be divided off are the same list, with the same end.
 pub fn has_one_division()
     ensures { (bytes : List ℕ) (at : ℕ) (xs ys : List Token) (x y : Next) → IsLast x → IsLast y

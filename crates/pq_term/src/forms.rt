@@ -56,7 +56,7 @@ fn slash_place(text: &[u8]) -> Option<usize>
     text.iter().position(|byte| *byte == b'/')
 }
 
-/// What stands before and after the first slash.
+/// What is before and after the first slash.
 fn split_at_slash(text: &[u8]) -> Option<(&[u8], &[u8])>
     ensures slash { IsSome result ↔ (has_slash text.now ≡ true) }
     ensures address { IfSome result (λ p. p.0.now ≡ before_first is_slash text.now) }

@@ -8,7 +8,7 @@ use crate::numbers::{is_decimal, is_hex};
 /// The shape of each group.
 #[derive(Clone, Copy)]
 pub(crate) enum Group {
-    /// So many hexadecimal digits, at least and at most.
+    /// This many hexadecimal digits, at least and at most.
     Hex(usize, usize),
     /// A decimal number without leading zeros, at most this one.
     Decimal(u64),
@@ -39,7 +39,7 @@ fn all_are_groups(separator: u8, group: Group, text: &[u8]) -> bool
         .all(|part| is_group(group, part))
 }
 
-/// Whether the text is so many groups of this shape, joined by the separator.
+/// Whether the text is this many groups of this shape, joined by the separator.
 pub(crate) fn are_groups(separator: u8, count: usize, group: Group, text: &[u8]) -> bool
     ensures { result ≡ are_groups separator count group text.now }
 {

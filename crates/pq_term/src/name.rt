@@ -33,7 +33,7 @@ impl Model for Name {
 }
 
 impl Name {
-    /// The name with these bytes; `None` exactly where they are no name.
+    /// The name with these bytes; `None` exactly where they are not name.
     pub fn of(bytes: &[u8]) -> Option<Name>
         ensures { result ≡ (if is_name bytes.now then Some bytes.now else None) }
     {

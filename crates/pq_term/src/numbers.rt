@@ -95,7 +95,7 @@ pub(crate) fn is_decimal(most: u64, text: &[u8]) -> bool
     }
 }
 
-/// Whether the text is so many hexadecimal digits, at least and at most.
+/// Whether the text is this many hexadecimal digits, at least and at most.
 pub(crate) fn is_hex(least: usize, most: usize, text: &[u8]) -> bool
     ensures { result ≡ is_hex least most text.now }
 {

@@ -56,7 +56,7 @@ fn token_or_none(place: usize, len: usize, kind: Option<Kind>) -> Next
     }
 }
 
-/// The token that the rest of a text begins with, which stands at the place.
+/// The token that the rest of a text begins with, which is at the place.
 fn first_token(place: usize, rest: &[u8]) -> Next
     ensures { result ≡ first_token place rest.now }
 {
@@ -76,7 +76,7 @@ fn run_token(place: usize, run: &[u8]) -> Next
     token_or_none(place, run.len(), form_of(run))
 }
 
-/// What comes next in the text from byte `at` on, beyond white space and comments: the token that stands first,
+/// What comes next in the text from byte `at` on, beyond white space and comments: the token that is first,
 /// `End` where there is nothing more, or `NoToken` with the place of the next byte, where no token begins. The
 /// bytes before `at` are not looked at, and places are counted from the first byte of `bytes`.
 ///

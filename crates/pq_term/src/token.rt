@@ -47,6 +47,6 @@ pub enum Next {
     Token(Token),
     /// Nothing but white space and comments.
     End,
-    /// Something that is no token, with the place of its first byte.
+    /// Something that is not a token, with the place of its first byte.
     NoToken(usize),
 }

@@ -3,7 +3,7 @@ use Rattle.std.specs.Prelude.{ℕ, ◌<◌, ◌≤◌, List, [], ◌∷◌, leng
 use Rattle.std.proofs.Common.{arith}
 use Rattle.pq_model.specs.Lawful.{Ascends}
 
--- what stands behind the first ascends
+-- what is after the first ascends
 pub rest_ascends : (x : ℕ) (ys : List ℕ) → Ascends (x ∷ ys) → Ascends ys
 rest_ascends x [] up = tt
 rest_ascends x (y ∷ ys) up = up.1

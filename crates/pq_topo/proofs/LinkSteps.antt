@@ -17,7 +17,7 @@ use Rattle.pq_topo.specs.Statements.{begins_with, link_from, link_of, links_afte
 use Rattle.pq_topo.proofs.Passed.{passed, handed}
 use Rattle.pq_topo.proofs.Terms.{trees_first, trees_left}
 
--- two ends, one behind the other
+-- two ends, one after the other
 pub two_more : (ends one two : List (ℕ × ℕ)) (d e : ℕ × ℕ) → one ≡ ends ++ d ∷ [] → two ≡ one ++ e ∷ [] → two ≡ ends ++ d ∷ e ∷ []
 two_more ends one two d e first second = second ∙ ap (λ es. es ++ e ∷ []) first ∙ append_assoc ends (d ∷ []) (e ∷ [])
 

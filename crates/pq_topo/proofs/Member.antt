@@ -13,7 +13,7 @@ use Rattle.pq_model.specs.Lawful.{Ascends}
 use Rattle.pq_model.specs.MatchFields.{IsPortNumber}
 use Rattle.pq_topo.proofs.Ascending.{rises}
 
--- at a number, or in the gap where it would stand
+-- at a number, or in the gap where it would be
 abbrev IsPlace : List ℕ → ℕ → Result ℕ ℕ → Type 0
 IsPlace xs x r = MatchResult r (λ i. (i < length xs) × (get_or xs i 0 ≡ x)) (λ i. (i ≤ length xs) × ((k : ℕ) → k < i → get_or xs k 0 < x)
     × ((k : ℕ) → i ≤ k → k < length xs → x < get_or xs k 0))

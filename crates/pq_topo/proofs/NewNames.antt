@@ -29,7 +29,7 @@ a_name bs name r made some = by (is_name bs) (sym made ∙ some)
 
 module _ (bytes : List ℕ) (names : List (List ℕ)) (t : Token) (text : List ℕ) (r : Option (List ℕ)) (is : text ≡ text_in bytes t)
     (made : r ≡ (if is_name text then Some text else None)) where
-  -- what is no name is refused
+  -- what is not a name is refused
   pub name_is_refused : (fault : NameFault) → r ≡ None → fault ≡ Name t.at BadValue → IsAnswer (λ (name : List ℕ). name) (Err fault) (name_of bytes names t)
   name_is_refused fault none e =
       let no : is_name (text_in bytes t) ≡ false = subst (λ bs. is_name bs ≡ false) is (no_name text r made none) in

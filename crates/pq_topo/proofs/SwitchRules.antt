@@ -47,7 +47,7 @@ small bs = by (is_decimal (2 ^ 64 - 1) bs) refl (is_hexadecimal bs) refl
 
 -- Ports.
 
--- ports of a list, of which there may be so many
+-- ports of a list, of which there may be this many
 pub record AreReadPorts (room : ℕ) (ports : List ℕ) : Type 0 where
   pub few : length ports ≤ room
   pub numbers : AllByRecursion IsPortNumber ports

@@ -35,7 +35,7 @@ one_more ss s =
     }) (sym (map_push (λ t. t.datapath) ss s))
     ∙ ap (λ (room : ℕ). record { names = map (λ t. t.name) (ss ++ s ∷ []); datapaths = map (λ t. t.datapath) (ss ++ s ∷ []); room = room }) (less_room ss s)
 
--- what is seen behind one more switch
+-- what is seen after one more switch
 pub switch_seen : (ss new : List Switch) (s : Switch) (before after : Seen) → before ≡ seen ss → after ≡ seen_more before s
     → new ≡ ss ++ s ∷ [] → after ≡ seen new
 switch_seen ss new s before after is adds is_new = adds ∙ ap (λ b. seen_more b s) is ∙ one_more ss s ∙ sym (ap seen is_new)

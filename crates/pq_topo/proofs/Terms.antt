@@ -10,7 +10,7 @@ use Rattle.pq_tree.proofs.Folds.{tree_out}
 pub trees_first : (t : Term) (ts : List Term) → trees (t ∷ ts) ≡ grown (out-Term t).head (trees (out-Term t).children.now) (trees ts)
 trees_first t ts = ap (λ (tree : Tree). grown tree.head tree.below (trees ts)) (tree_out t)
 
--- the first term that is left, and the terms behind it
+-- the first term that is left, and the terms after it
 pub trees_left : (ts : List Term) (i : ℕ) (d : Term) → i < length ts
     → trees (drop i ts) ≡ grown (out-Term (get_or ts i d)).head (trees (out-Term (get_or ts i d)).children.now) (trees (drop (i + 1) ts))
 trees_left ts i d below =

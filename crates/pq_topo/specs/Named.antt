@@ -10,7 +10,7 @@ pub record IsNamedTopology (t : Topology) : Type 0 where
   pub names_differ : IsDistinct bytes_eq (map (λ s. s.name) t.switches)
   pub limits : All (λ s. s.limit ≤ 16384) t.switches
 
--- the switch with this datapath number stands at this place
+-- the switch with this datapath number is at this place
 abbrev pub IsSwitchAt : List Switch → ℕ → ℕ → Type 0
 IsSwitchAt ss d i = (i < length ss) × HoldsAt (λ s. s.datapath ≡ d) ss i
 

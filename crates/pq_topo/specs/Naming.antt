@@ -38,7 +38,7 @@ abbrev pub gathered : {A : Type 0} → List (Reading A) → Reading (List A)
 gathered [] = Ok []
 gathered (r ∷ rs) = next r (λ value. next (gathered rs) (λ values. Ok (value ∷ values)))
 
--- the answer of a call is what is read: the value, or the first fault; want of memory is free
+-- the answer of a call is what is read: the value, or the first fault; running out of memory is free
 abbrev pub IsAnswer : {A B : Type 0} → (A → B) → Result A NameFault → Reading B → Type 0
 IsAnswer view (Ok value) reading = Ok (view value) ≡ reading
 IsAnswer view (Err (Name at kind)) reading = Err (record { at = at; kind = kind }) ≡ reading

@@ -27,7 +27,7 @@ may_be_port n = nat_le 1 n && nat_le n 4294967040
 
 -- Switches.
 
--- a port of a switch, after earlier ones of its own, where the switch may have so many
+-- a port of a switch, after earlier ones of its own, where the switch may have this many
 abbrev pub port_of : List ℕ → ℕ → List ℕ → Token → Reading ℕ
 port_of bytes room ports t =
     let n = number_in bytes t in
@@ -48,11 +48,11 @@ pub record Seen : Type 0 where
   pub datapaths : List ℕ
   pub room : ℕ
 
--- what the switch behind these is held against
+-- what the switch after these is held against
 abbrev pub seen : List Switch → Seen
 seen earlier = record { names = map (λ s. s.name) earlier; datapaths = map (λ s. s.datapath) earlier; room = room_after earlier }
 
--- the same behind one more switch
+-- the same after one more switch
 abbrev pub seen_more : Seen → Switch → Seen
 seen_more before s = record { names = before.names ++ s.name ∷ []; datapaths = before.datapaths ++ s.datapath ∷ []; room = before.room - length s.ports }
 
@@ -72,7 +72,7 @@ limit_in bytes nothing = Ok 2000
 limit_in bytes (grown head nothing rest) = Ok 2000
 limit_in bytes (grown head (grown t below more) rest) = stated_limit bytes t
 
--- the name of a switch, which no earlier one has; what is no name is none of a sentence
+-- the name of a switch, which no earlier one has; what is not a name is none of a sentence
 abbrev pub name_of : List ℕ → List (List ℕ) → Token → Reading (List ℕ)
 name_of bytes names t =
     let name = text_in bytes t in
@@ -101,7 +101,7 @@ switch_from bytes before keyword name datapath ports rest =
     next (ports_after bytes before.room [] ports) (λ ports.
     next (limit_in bytes rest) (λ limit. Ok (switch_with name datapath ports limit))))))
 
--- the switch of a statement, after earlier ones: its name, its datapath number, its ports and its limit; what has other parts is no statement of a sentence
+-- the switch of a statement, after earlier ones: its name, its datapath number, its ports and its limit; what has other parts is not a statement of a sentence
 abbrev pub switch_of : List ℕ → Seen → Token → Forest → Reading Switch
 switch_of bytes before keyword (grown name x (grown datapath y (grown list (grown port z ports) rest))) =
     switch_from bytes before keyword name datapath (grown port z ports) rest
@@ -149,7 +149,7 @@ link_from bytes switches ends name port other peer =
     next (end_of bytes switches ends name port) (λ d.
     next (end_of bytes switches (ends ++ d ∷ []) other peer) (λ e. Ok (record { first = d; second = e })))
 
--- the link of a statement, with its ends as they stand there, after earlier links with these ends; what has fewer parts is no statement of a sentence
+-- the link of a statement, with its ends as they are there, after earlier links with these ends; what has fewer parts is not a statement of a sentence
 abbrev pub link_of : List ℕ → List Switch → List (ℕ × ℕ) → Token → Forest → Reading Link
 link_of bytes switches ends keyword (grown name x (grown port y (grown other z (grown peer w rest)))) = link_from bytes switches ends name port other peer
 link_of bytes switches ends keyword _ = faulty keyword BadValue

@@ -6,7 +6,7 @@ use thiserror::Error;
 pub enum NameKind {
     /// One more statement, or port, than there may be.
     Many,
-    /// What may stand once stands again.
+    /// What may be once is again.
     Doubled,
     /// A number out of range, or a value of the wrong form for its field.
     BadValue,

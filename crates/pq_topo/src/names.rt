@@ -14,7 +14,7 @@ pub fn has_name(names: &IndexSet<Name>, name: &Name) -> bool
     names.contains(name)
 }
 
-/// Adds a new name behind the others; it fails only where there is no memory for it.
+/// Adds a new name after the others; it fails only where there is no memory for it.
 #[tactic(auto, using(crate::proofs::SameNames::new_name_last))]
 pub fn add_name(names: &mut IndexSet<Name>, name: Name) -> Result<(), NameFault>
     requires { list_any (λ n. bytes_eq name n) names.now.keys ≡ false }

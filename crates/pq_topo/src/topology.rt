@@ -161,7 +161,7 @@ impl Topology {
         Ok(Topology { switches, links })
     }
 
-    // Where the switch with this datapath number stands in the list of switches.
+    // Where the switch with this datapath number is in the list of switches.
     fn position(&self, datapath: u64) -> Option<usize>
         ensures { MatchOption result (IsNoSwitch self.now.switches datapath)
             (IsSwitchAt self.now.switches datapath) }

@@ -17,7 +17,7 @@ rooted head below = record { head = head; below = below }
 abbrev kept : List Tree → List Opened → Growth
 kept finished opened = record { finished = finished; opened = opened }
 
--- the terms from so many on became the children of one
+-- the terms from this many on became the children of one
 terms_gathered : (o : Opened) (old new : List Term) (children : Bor (List Term)) → children.now ≡ drop o.before old
     → new ≡ take o.before old ++ roll-Term (record { head = o.head; children = children }) ∷ [] → map tree new ≡ gathered o (map tree old)
 terms_gathered o old new children are is =
@@ -28,7 +28,7 @@ terms_gathered o old new children are is =
     ap (map tree) is ∙ map-append tree (take o.before old) (last ∷ []) ∙ ap (λ ts. ts ++ tree last ∷ []) front
     ∙ ap (λ t. take o.before (map tree old) ++ t ∷ []) whole
 
--- the head that was opened last was taken, and its tree put behind those that are not below it
+-- the head that was opened last was taken, and its tree put after those that are not below it
 pub closes : (o : Opened) (opened rest : List Opened) (old left new : List Term) (children : Bor (List Term)) → opened ≡ rest ++ o ∷ []
     → children.now ≡ drop o.before old → left ≡ take o.before old
     → new ≡ left ++ roll-Term (record { head = o.head; children = children }) ∷ []

@@ -43,7 +43,7 @@ abbrev with_phrase : Sort → ℕ → ℕ
 with_phrase Field k = suc k
 with_phrase _ k = k
 
--- with so many heads open below the one of a tree, the symbols close them and, with the last one, the tree
+-- with this many heads open below the one of a tree, the symbols close them and, with the last one, the tree
 abbrev ends : List Symbol → ℕ → Bool
 ends [] k = false
 ends (Token role class ∷ ss) k = ends ss (with_role role k)
@@ -116,7 +116,7 @@ even_one sort [] a each among = absurd among
 even_one sort (b ∷ others) a each (inl same) = subst (IsEven sort) (sym same) each.0
 even_one sort (b ∷ others) a each (inr more) = even_one sort others a each.1 more
 
--- so many heads are open below that of a tree before which none stands
+-- this many heads are open below that of a tree before which none is
 abbrev IsBelow : ℕ → List Opened → Type 0
 IsBelow k [] = ⊥
 IsBelow zero (o ∷ os) = o.before ≡ 0

@@ -25,11 +25,11 @@ IsEnd (Found t) = ⊥
 IsEnd End = Unit {0}
 IsEnd (NoToken at) = ⊥
 
--- a text that is divided to its end has nothing that is no token
+-- a text that is divided to its end has nothing that is not a token
 no_other : (bytes : List ℕ) (xs : List Token) (at : ℕ) → IsDivision bytes xs → MeetsNoToken bytes at → ⊥
 no_other bytes xs at whole meets = subst IsEnd ((one_division bytes 0 xs meets.0 End (NoToken at) tt tt whole meets.1).1) tt
 
--- where something stands that is no token
+-- where something is that is not a token
 abbrev place_in : Next → ℕ
 place_in (Found t) = 0
 place_in End = 0
@@ -56,7 +56,7 @@ one_byte start bytes i j first second =
     first.begins ∙ ap (λ ts. first_byte (length bytes) (drop first.place ts)) same
     ∙ ap (λ k. first_byte (length bytes) (drop k second.tokens)) place ∙ sym second.begins
 
--- the text has one fault, want of memory aside
+-- the text has one fault, running out of memory aside
 pub one_text_fault : (start : Sort) (bytes : List ℕ) (d e : TermFault) → IsTextFault start bytes d → IsTextFault start bytes e
     → (d ≡ Memory → ⊥) → (e ≡ Memory → ⊥) → d ≡ e
 one_text_fault start bytes (Lex i) (Lex j) first second some other = ap Lex (one_place bytes i j first second)

@@ -23,11 +23,11 @@ bare = record { finished = []; opened = [] }
 abbrev pub with_leaf : Head → Growth → Growth
 with_leaf head g = record { finished = g.finished ++ record { head = head; below = nothing } ∷ []; opened = g.opened }
 
--- a tree begins, which so many trees are not below
+-- a tree begins, which this many trees are not below
 abbrev pub with_head : Head → ℕ → Growth → Growth
 with_head head before g = record { finished = g.finished; opened = record { head = head; before = before } ∷ g.opened }
 
--- all trees but the first ones, so many, are the children of one
+-- all trees but the first ones, this many, are the children of one
 abbrev pub gathered : Opened → List Tree → List Tree
 gathered o ts = take o.before ts ++ record { head = o.head; below = forest (drop o.before ts) } ∷ []
 

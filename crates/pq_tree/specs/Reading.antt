@@ -29,7 +29,7 @@ abbrev pub first_byte : ℕ → List Token → ℕ
 first_byte end [] = end
 first_byte end (t ∷ ts) = t.at
 
--- the text's tokens are no sentence of the start sort: the first one with which no prefix of a sentence ends begins at this byte, or all of them are a prefix of a sentence and the text ends there
+-- the text's tokens are not sentence of the start sort: the first one with which no prefix of a sentence ends begins at this byte, or all of them are a prefix of a sentence and the text ends there
 pub record IsSyntaxFault (start : Sort) (bytes : List ℕ) (at : ℕ) : Type 0 where
   pub tokens : List Token
   pub divided : IsDivision bytes tokens
@@ -37,7 +37,7 @@ pub record IsSyntaxFault (start : Sort) (bytes : List ℕ) (at : ℕ) : Type 0 w
   pub fault : IsFirstFault start (lexemes bytes tokens) place
   pub begins : at ≡ first_byte (length bytes) (drop place tokens)
 
--- the text is refused for what is no token, for tokens that are no sentence, or for want of memory
+-- the text is refused for what is not a token, for tokens that are not sentence, or because memory runs out
 abbrev pub IsTextFault : Sort → List ℕ → TermFault → Type 0
 IsTextFault start bytes (Lex at) = MeetsNoToken bytes at
 IsTextFault start bytes (Syntax at) = IsSyntaxFault start bytes at

@@ -26,7 +26,7 @@ pub(crate) struct Growing<'a> {
     opened: Vec<Opened>,
 }
 
-/// The terms but for the first ones, so many.
+/// The terms but for the first ones, this many.
 fn terms_from<'a, 'b>(terms: &'b [Term<'a>], from: usize) -> &'b [Term<'a>]
     ensures { result.now ≡ drop from terms.now }
 {
@@ -66,7 +66,7 @@ impl<'a> Growing<'a> {
         Ok(())
     }
 
-    /// The head of a tree, which so many trees are not below.
+    /// The head of a tree, which this many trees are not below.
     fn put_head(&mut self, head: Token, before: usize) -> Result<(), AllocError>
         ensures { OnOk result (growth self.new ≡ with_head head before (growth self.old)) }
     {

@@ -6,8 +6,8 @@ ghost use Rattle.pq_grammar.specs.declared.sort.Sort.{Sort};
 ghost use Rattle.pq_tree.specs.Trees.{Forest};
 ghost use Rattle.pq_tree.specs.Reading.{IsForestOf, IsTextFault};
 
-/// A text has one forest at most; it is refused for one fault at most, want of memory aside; and a text that has a
-/// forest is refused for want of memory only.
+/// A text has one forest at most; it is refused for one fault at most, running out of memory aside; and a text that has a
+/// forest is refused because memory runs out only.
 pub fn has_one_reading()
     ensures forest { (start : Sort) (bytes : List ℕ) (f g : Forest) → IsForestOf start bytes f → IsForestOf start bytes g → f ≡ g }
     ensures fault { (start : Sort) (bytes : List ℕ) (d e : TermFault) → IsTextFault start bytes d → IsTextFault start bytes e

@@ -73,8 +73,8 @@ fn read_forest<'a>(
 
 /// The statements of a document, as trees in the arena.
 ///
-/// `Lex` comes exactly where the division into tokens meets something that is no token, with its first byte. `Syntax`
-/// comes exactly where the text is divided into tokens that are no sentence, with the first byte of the first token
+/// `Lex` comes exactly where the division into tokens meets something that is not a token, with its first byte. `Syntax`
+/// comes exactly where the text is divided into tokens that are not sentence, with the first byte of the first token
 /// with which no prefix of a sentence ends, or the number of bytes where all tokens together are a proper prefix of a
 /// sentence.
 pub fn read_terms<'a>(

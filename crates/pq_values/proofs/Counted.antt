@@ -40,7 +40,7 @@ has_last ks n m = either_has ks (n ∷ []) m ∙ by (has ks m) (n == m)
     by false true = refl
     by false false = refl
 
--- a number counts the same behind others as before them
+-- a number counts the same after others as before them
 last_first : (ks : List ℕ) (n : ℕ) → length (ascending (ks ++ n ∷ [])) ≡ length (ascending (n ∷ ks))
 last_first [] n = refl
 last_first (k ∷ ks) n =

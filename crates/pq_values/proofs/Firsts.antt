@@ -7,7 +7,7 @@ use Rattle.pq_values.specs.Limits.{Limit, count_for, first_above, first_full, li
 use Rattle.pq_values.specs.Room.{AreFewStated}
 use Rattle.pq_values.specs.Stated.{Stated}
 
--- some field is no none
+-- some field is not a none
 some_is : {A : Type 0} (a : A) → Some a ≡ None → ⊥
 some_is a same = absurd cc
 

@@ -55,7 +55,7 @@ found_turned (k ∷ ks) n = rw (equal-comm n k, found_turned ks n) refl
 pub among : (ks : List ℕ) (n : ℕ) → has ks n ≡ true → IsAmong n ks
 among ks n found = found_among n ks (found_turned ks n ∙ found)
 
--- what the list has it still has behind one more
+-- what the list has it still has after one more
 pub behind : (k : ℕ) (ks : List ℕ) (n : ℕ) → has ks n ≡ true → has (k ∷ ks) n ≡ true
 behind k ks n found = ap (λ b. (k == n) || b) found ∙ or-true (k == n)
 

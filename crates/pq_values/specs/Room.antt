@@ -33,7 +33,7 @@ HaveRoom T ps qs = HasRoom (AreWithin T ps qs)
 abbrev pub AreFewStated : List Stated → Type 0
 AreFewStated ss = All (λ l. count_for l.0 ss ≤ l.1) limits
 
--- the network is lawful, and the numbers of policies and queries may stand in a document about it
+-- the network is lawful, and the numbers of policies and queries may be in a document about it
 pub record AreOver (T : Topology) (ps : List PolicyTree) (qs : List QueryTree) : Type 0 where
   pub topology : IsNamedTopology T
   pub policies : All (IsPolicyOver (MayStand T)) ps

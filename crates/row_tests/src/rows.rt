@@ -46,7 +46,7 @@ fn adds(message: &Message) -> (bool, bool) {
     }
 }
 
-/// How many entries and how many groups an install adds; none where the bytes are no install.
+/// How many entries and how many groups an install adds; none where the bytes are not install.
 fn added(alloc: Global, bytes: &[u8]) -> (usize, usize) {
     let mut entries: usize = 0;
     let mut groups: usize = 0;

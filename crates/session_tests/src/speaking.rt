@@ -126,7 +126,7 @@ fn refused() -> Outcome {
     failed(Reason::SwitchError { kind: 5, code: 2 })
 }
 
-/// Whether a session in which the switch sends this ends so, after so many bytes.
+/// Whether a session in which the switch sends this ends so, after this many bytes.
 fn ends(alloc: Global, sent: &[&str], expected: Outcome, count: usize) -> Result<bool, AllocError> {
     let bytes = text(alloc, "586\n", &install(alloc)?, sent)?;
     let (outcome, put) = spoken(alloc, "1", bytes, &[], &[])?;

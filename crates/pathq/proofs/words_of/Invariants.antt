@@ -2,6 +2,6 @@ use Rattle.std.proofs.Common.{◌≡◌, ◌++◌}
 use Rattle.std.specs.Vec.Iter.{into_iter_items}
 use Rattle.pathq.proofs.words_of.Given as goal
 
--- the words so far and those that are left are the words behind the first
+-- the words so far and those that are left are the words after the first
 abbrev pub invariant-loop-word : goal.invariant-loop-word
 invariant-loop-word l = l.words.items ++ into_iter_items l.word-iterator ≡ into_iter_items l.initial.word-iterator

@@ -7,7 +7,7 @@ ghost use Rattle.pq_install.specs.Units.{Tells, UnitFails};
 use crate::fault::Fault;
 use std::alloc::{AllocError, Global};
 
-/// The number in the first two bytes, and the bytes behind it.
+/// The number in the first two bytes, and the bytes after it.
 pub fn u16_at(bytes: &[u8]) -> Option<(u16, &[u8])>
     ensures { MatchOption result (NoneAtFront IsU16 (to_be_bytes w16) bytes.now)
         (λ r. IsAtFront IsU16 (to_be_bytes w16) bytes.now r.0 r.1.now) }
@@ -16,7 +16,7 @@ pub fn u16_at(bytes: &[u8]) -> Option<(u16, &[u8])>
     Some((u16::from_be_bytes(*front), rest))
 }
 
-/// The number in the first four bytes, and the bytes behind it.
+/// The number in the first four bytes, and the bytes after it.
 pub fn u32_at(bytes: &[u8]) -> Option<(u32, &[u8])>
     ensures { MatchOption result (NoneAtFront IsU32 (to_be_bytes w32) bytes.now)
         (λ r. IsAtFront IsU32 (to_be_bytes w32) bytes.now r.0 r.1.now) }
@@ -25,7 +25,7 @@ pub fn u32_at(bytes: &[u8]) -> Option<(u32, &[u8])>
     Some((u32::from_be_bytes(*front), rest))
 }
 
-/// The number in the first eight bytes, and the bytes behind it.
+/// The number in the first eight bytes, and the bytes after it.
 pub fn u64_at(bytes: &[u8]) -> Option<(u64, &[u8])>
     ensures { MatchOption result (NoneAtFront IsU64 (to_be_bytes w64) bytes.now)
         (λ r. IsAtFront IsU64 (to_be_bytes w64) bytes.now r.0 r.1.now) }
@@ -34,7 +34,7 @@ pub fn u64_at(bytes: &[u8]) -> Option<(u64, &[u8])>
     Some((u64::from_be_bytes(*front), rest))
 }
 
-// So many numbers of four bytes, and the bytes behind them; `None` where there are fewer.
+// This many numbers of four bytes, and the bytes after them; `None` where there are fewer.
 fn u32s_at(
     alloc: Global,
     count: usize,
@@ -56,7 +56,7 @@ fn u32s_at(
     Ok(Some((numbers, rest)))
 }
 
-// So many numbers of eight bytes, and the bytes behind them; `None` where there are fewer.
+// This many numbers of eight bytes, and the bytes after them; `None` where there are fewer.
 fn u64s_at(
     alloc: Global,
     count: usize,
@@ -78,7 +78,7 @@ fn u64s_at(
     Ok(Some((numbers, rest)))
 }
 
-/// Numbers of four bytes behind their count in two, and the bytes behind them.
+/// Numbers of four bytes after their count in two, and the bytes after them.
 pub fn counted_u32s_at(alloc: Global, bytes: &[u8]) -> Result<Option<(Vec<u32>, &[u8])>, AllocError>
     ensures { IfOk result (λ found. MatchOption found
         (NoneAtFront (AreFew IsU16 IsU32) (counted_by w16 (to_be_bytes w32)) bytes.now)
@@ -90,7 +90,7 @@ pub fn counted_u32s_at(alloc: Global, bytes: &[u8]) -> Result<Option<(Vec<u32>, 
     }
 }
 
-/// Numbers of eight bytes behind their count in four, and the bytes behind them.
+/// Numbers of eight bytes after their count in four, and the bytes after them.
 pub fn counted_u64s_at(alloc: Global, bytes: &[u8]) -> Result<Option<(Vec<u64>, &[u8])>, AllocError>
     ensures { IfOk result (λ found. MatchOption found
         (NoneAtFront (AreFew IsU32 IsU64) (counted_by w32 (to_be_bytes w64)) bytes.now)
@@ -102,7 +102,7 @@ pub fn counted_u64s_at(alloc: Global, bytes: &[u8]) -> Result<Option<(Vec<u64>, 
     }
 }
 
-/// A count of at most so many in the first two bytes, and the bytes behind it.
+/// A count of at most this many in the first two bytes, and the bytes after it.
 pub fn count_at(most: u16, bytes: &[u8]) -> Result<(u16, &[u8]), Fault>
     ensures ok { IfOk result (λ r. IsAtFront (λ n. n ≤ most) (to_be_bytes w16) bytes.now r.0 r.1.now) }
     ensures err { IfErr result (Tells (UnitFails (λ n. n ≤ most) (to_be_bytes w16) bytes.now)) }

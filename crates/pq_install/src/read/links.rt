@@ -128,7 +128,7 @@ fn next_link(topology: &Topology, before: &[Link], bytes: &[u8]) -> Result<Link,
     Ok(link)
 }
 
-// So many links, each of which may follow those before it.
+// This many links, each of which may follow those before it.
 fn link_list<'a>(
     alloc: Global,
     topology: &Topology,
@@ -151,7 +151,7 @@ fn link_list<'a>(
     Ok((links, rest))
 }
 
-/// The links at the front between ports of the switches, behind their count.
+/// The links at the front between ports of the switches, after their count.
 pub fn links_at<'a>(
     alloc: Global,
     topology: &Topology,

@@ -68,7 +68,7 @@ fn next_message(alloc: Global, version: Version, bytes: &[u8]) -> Result<(Messag
     }
 }
 
-// So many messages.
+// This many messages.
 fn message_list(
     alloc: Global,
     version: Version,
@@ -89,7 +89,7 @@ fn message_list(
     Ok((messages, rest))
 }
 
-// The messages to a switch, behind their count.
+// The messages to a switch, after their count.
 fn list_at(alloc: Global, version: Version, bytes: &[u8]) -> Result<(Vec<Message>, &[u8]), Fault>
     ensures ok { IfOk result (λ r. IsAtFront (IsReadList version) list_bytes bytes.now r.0.items r.1.now) }
     ensures err { IfErr result (Tells (ListFailsAt version bytes.now)) }
@@ -100,7 +100,7 @@ fn list_at(alloc: Global, version: Version, bytes: &[u8]) -> Result<(Vec<Message
     }
 }
 
-/// The messages to each of so many switches.
+/// The messages to each of this many switches.
 pub fn lists_at(
     alloc: Global,
     version: Version,

@@ -10,7 +10,7 @@ use crate::read::front::count_at;
 use pq_term::Name;
 use std::alloc::Global;
 
-// The name at the front, behind one byte for its length.
+// The name at the front, after one byte for its length.
 fn name_at(bytes: &[u8]) -> Option<Name>
     ensures { MatchOption result (NoneAtFront IsName name_bytes bytes.now)
         (λ name. IsAtFront IsName name_bytes bytes.now name (drop (length name + 1) bytes.now)) }
@@ -53,7 +53,7 @@ fn next_name(before: &[Name], bytes: &[u8]) -> Result<Name, Fault>
     Ok(name)
 }
 
-// So many names, each of which may follow those before it.
+// This many names, each of which may follow those before it.
 fn name_list(alloc: Global, count: u16, bytes: &[u8]) -> Result<(Vec<Name>, &[u8]), Fault>
     ensures length { IfOk result (λ r. length r.0.items ≡ count) }
     ensures ok { IfOk result (λ r. IsAtFront AreReadNames (flat_map name_bytes) bytes.now r.0.items r.1.now) }
@@ -70,7 +70,7 @@ fn name_list(alloc: Global, count: u16, bytes: &[u8]) -> Result<(Vec<Name>, &[u8
     Ok((names, rest))
 }
 
-/// The names at the front: at most 256, behind their count.
+/// The names at the front: at most 256, after their count.
 pub fn names_at(alloc: Global, bytes: &[u8]) -> Result<(Vec<Name>, &[u8]), Fault>
     ensures ok { IfOk result (λ r. IsSection 256 AreReadNames name_bytes bytes.now r.0.items r.1.now) }
     ensures err { IfErr result (Tells (CountedFails 256 AreReadNames name_bytes bytes.now)) }

@@ -35,7 +35,7 @@ fn pair_at(alloc: Global, bytes: &[u8]) -> Result<Option<(Instance, &[u8])>, All
     Ok(Some((Instance { query, label }, rest)))
 }
 
-// So many instances; `None` where there are fewer.
+// This many instances; `None` where there are fewer.
 fn pairs_at(
     alloc: Global,
     count: usize,
@@ -57,7 +57,7 @@ fn pairs_at(
     Ok(Some((pairs, rest)))
 }
 
-// Instances behind their count.
+// Instances after their count.
 fn counted_pairs_at(
     alloc: Global,
     bytes: &[u8],
@@ -87,7 +87,7 @@ fn row_at(alloc: Global, bytes: &[u8]) -> Result<Option<(ReportRow, &[u8])>, All
     Ok(Some((ReportRow { tag, pairs }, rest)))
 }
 
-// Whether one label is below another: the first value that differs decides, and a label stands
+// Whether one label is below another: the first value that differs decides, and a label is
 // before each that it begins.
 fn label_is_below(a: &[u64], b: &[u64]) -> bool
     ensures { result ≡ is_before (label_numbers a.now) (label_numbers b.now) }
@@ -118,7 +118,7 @@ fn ascend(pairs: &[Instance]) -> bool
     true
 }
 
-// Whether all instances are of the queries, of which there are so many.
+// Whether all instances are of the queries, of which there are this many.
 fn are_of_queries(pairs: &[Instance], queries: usize) -> bool
     ensures { result ≡ list_all (λ i. nat_lt i.query queries) pairs.now }
 {
@@ -130,7 +130,7 @@ fn are_of_queries(pairs: &[Instance], queries: usize) -> bool
     true
 }
 
-// Whether the row is one of a report on so many queries.
+// Whether the row is one of a report on this many queries.
 fn is_row(queries: usize, row: &ReportRow) -> bool
     requires { HasPairs row.now }
     ensures { IsTrue result ↔ IsLawfulRow queries row.now }
@@ -193,7 +193,7 @@ fn next_row<'a>(
     Ok((row, rest))
 }
 
-// So many rows, each of which may follow those before it.
+// This many rows, each of which may follow those before it.
 fn row_list(
     alloc: Global,
     queries: usize,
@@ -215,7 +215,7 @@ fn row_list(
     Ok((rows, rest))
 }
 
-/// The rows at the front of a report on so many queries: at most 4,094, behind their count.
+/// The rows at the front of a report on this many queries: at most 4,094, after their count.
 pub fn rows_at(
     alloc: Global,
     queries: usize,

@@ -61,7 +61,7 @@ fn are_ports(ports: &[u32]) -> bool
     ascend(ports)
 }
 
-// The switch at the front, and the bytes behind it.
+// The switch at the front, and the bytes after it.
 fn switch_at(alloc: Global, bytes: &[u8]) -> Result<Option<(Switch, &[u8])>, AllocError>
     ensures { IfOk result (λ found. MatchOption found
         (NoneAtFront IsReadSwitch switch_bytes bytes.now)
@@ -139,7 +139,7 @@ fn next_switch<'a>(
     Ok((switch, rest))
 }
 
-// So many switches, each of which may follow those before it.
+// This many switches, each of which may follow those before it.
 fn switch_list(alloc: Global, count: u16, bytes: &[u8]) -> Result<(Vec<Switch>, &[u8]), Fault>
     ensures length { IfOk result (λ r. length r.0.items ≡ count) }
     ensures ok { IfOk result (λ r. IsAtFront AreReadSwitches (flat_map switch_bytes) bytes.now r.0.items r.1.now) }
@@ -155,7 +155,7 @@ fn switch_list(alloc: Global, count: u16, bytes: &[u8]) -> Result<(Vec<Switch>, 
     Ok((switches, rest))
 }
 
-/// The switches at the front: at most 256, behind their count.
+/// The switches at the front: at most 256, after their count.
 pub fn switches_at(alloc: Global, bytes: &[u8]) -> Result<(Vec<Switch>, &[u8]), Fault>
     ensures ok { IfOk result (λ r. IsSection 256 AreReadSwitches switch_bytes bytes.now r.0.items r.1.now) }
     ensures err { IfErr result (Tells (CountedFails 256 AreReadSwitches switch_bytes bytes.now)) }

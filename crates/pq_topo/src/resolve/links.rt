@@ -24,7 +24,7 @@ fn read_switch(bytes: &[u8], topology: &Topology, name: &Token) -> Result<u64, N
     }
 }
 
-/// Reads an end of a link, which is among no earlier ones, and puts it behind them.
+/// Reads an end of a link, which is among no earlier ones, and puts it after them.
 #[tactic(auto, using(crate::proofs::Passed::passed, crate::proofs::Passed::followed))]
 fn read_end(
     bytes: &[u8],
@@ -70,7 +70,7 @@ fn read_ends(
     Ok(Link { first, second })
 }
 
-/// Reads the link of a statement with these parts, with its ends as they stand there.
+/// Reads the link of a statement with these parts, with its ends as they are there.
 fn read_link(
     bytes: &[u8],
     topology: &Topology,

@@ -19,7 +19,7 @@ fn may_be_port(number: u64) -> bool
     1 <= number && number <= 0xffff_ff00
 }
 
-/// Reads a port of a list, after earlier ones of the list, of which there may be so many.
+/// Reads a port of a list, after earlier ones of the list, of which there may be this many.
 fn read_port(
     bytes: &[u8],
     room: usize,
@@ -46,7 +46,7 @@ fn read_port(
     }
 }
 
-/// Reads the ports of a list, of which there may be so many.
+/// Reads the ports of a list, of which there may be this many.
 #[tactic(auto, using(crate::proofs::PortSteps::port_is_read, crate::proofs::PortSteps::port_is_refused))]
 pub(crate) fn read_ports(
     alloc: Global,

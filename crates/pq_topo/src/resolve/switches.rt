@@ -35,7 +35,7 @@ impl Model for Before {
     ghost view = { λ b. record { names = b.names.keys; datapaths = b.datapaths.keys; room = b.room } };
 }
 
-/// Reads the name of a switch, which is among no earlier ones, and puts it behind them.
+/// Reads the name of a switch, which is among no earlier ones, and puts it after them.
 fn read_name(bytes: &[u8], names: &mut IndexSet<Name>, token: &Token) -> Result<Name, NameFault>
     ensures name { IsAnswer (λ name. name) result (name_of bytes.now names.old.keys token.now) }
     ensures kept { IfOk result (λ name. names.new.keys ≡ names.old.keys ++ name ∷ []) }
@@ -50,7 +50,7 @@ fn read_name(bytes: &[u8], names: &mut IndexSet<Name>, token: &Token) -> Result<
     Ok(name)
 }
 
-/// Reads the datapath number of a switch, which is among no earlier ones, and puts it behind them.
+/// Reads the datapath number of a switch, which is among no earlier ones, and puts it after them.
 fn read_datapath(
     bytes: &[u8],
     datapaths: &mut IndexSet<u64>,
@@ -69,7 +69,7 @@ fn read_datapath(
     }
 }
 
-/// Reads the number behind `limit`.
+/// Reads the number after `limit`.
 fn read_stated(bytes: &[u8], token: &Token) -> Result<u32, NameFault>
     ensures { IsAnswer (λ limit. limit) result (stated_limit bytes.now token.now) }
 {

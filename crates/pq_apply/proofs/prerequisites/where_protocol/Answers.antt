@@ -19,7 +19,7 @@ node-requires-clause-sides c =
     gate_joins c.leaf.new.self IpProto c.args.protocol 4 1 c.args.inner c.in_ok-no.no (refl, c.requires.protocol) (omega arith) (omega arith)
     (inner_still c.args.store.now c.leaf.new.self 4 1 c.args.inner c.leaf.ensures.keeps c.requires.inner) c.in_ok-no.ensures.leaf
 
--- the test of the protocol stands before the diagram
+-- the test of the protocol is before the diagram
 makes : (c : In_ok-of_protocol) → MakesAt (protocol_tree c.args.protocol) c.args.store.now c.args.inner c.node.new.self c.in_ok-of_protocol.of_protocol
 makes c =
     gate_makes c.args.store.now c.leaf.new.self c.node.new.self IpProto c.args.protocol 4 1 c.args.inner c.in_ok-no.no c.in_ok-of_protocol.of_protocol

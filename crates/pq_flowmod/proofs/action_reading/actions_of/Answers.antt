@@ -5,14 +5,14 @@ use Rattle.pq_flowmod.proofs.ActionsRead.{action_is, action_long, no_action}
 use Rattle.pq_flowmod.proofs.Leading.{one_read, none_read, all_read, some_left, none_left}
 use Rattle.pq_flowmod.proofs.action_reading.actions_of.Goals as goal
 
--- no length is told, so no lawful action stands there
+-- no length is told, so no lawful action is there
 pub returns-in_default : goal.returns-in_default
 returns-in_default c =
     let left = some_left c.loop-rest.rest.now c.is_empty.result c.is_empty.ensures c.loop-rest-test.true in
     none_read action_bytes IsLawfulAction c.args.bytes.now c.loop-rest.actions.items c.loop-rest.rest.now left
     (λ a more law is. let told = c.in_default.ensures.told a more law is in absurd cc) c.loop-rest.invariant
 
--- what stands there says no action
+-- what is there says no action
 pub returns-in_default-action_of : goal.returns-in_default-action_of
 returns-in_default-action_of c =
     let left = some_left c.loop-rest.rest.now c.is_empty.result c.is_empty.ensures c.loop-rest-test.true in

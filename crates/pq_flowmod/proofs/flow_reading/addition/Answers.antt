@@ -7,13 +7,13 @@ use Rattle.pq_flowmod.proofs.FlowLaws.{flow_is}
 use Rattle.pq_flowmod.proofs.Parts.{flow_parted, instructions_short}
 use Rattle.pq_flowmod.proofs.flow_reading.addition.Goals as goal
 
--- no match stands there
+-- no match is there
 pub returns-in_default-clause-said : goal.returns-in_default-clause-said
 returns-in_default-clause-said c = λ f law add xid short is.
     let parts = flow_parted c.args.body.now f is in
     absurd (rw c.in_default.is at c.in_ok-matching.ensures.said f.matching _ law.matching parts.rest)
 
--- no instructions stand behind it
+-- no instructions are after it
 pub returns-in_default-2-clause-said : goal.returns-in_default-2-clause-said
 returns-in_default-2-clause-said c = λ f law add xid short is.
     let parts = flow_parted c.args.body.now f is in

@@ -23,7 +23,7 @@ returns-then-bytes-size c = λ actions goto short is.
     let parts = is_applied actions goto c.args.bytes.now short is c.if-bytes-lt8.false c.if-bytes-ne-APPLY_ACTIONS.false in
     omega (arith, parts.told, parts.within, c.from_be_bytes.ensures, c.from-size.ensures, c.if-bytes-size.true)
 
--- the actions, and what stands behind them
+-- the actions, and what is after them
 pub returns : goal.returns
 returns c = λ actions goto short is.
     let parts = is_applied actions goto c.args.bytes.now short is c.if-bytes-lt8.false c.if-bytes-ne-APPLY_ACTIONS.false in

@@ -6,7 +6,7 @@ use Rattle.pq_flowmod.proofs.FlowLaws.{flow_is}
 use Rattle.pq_flowmod.proofs.Parts.{flow_parted}
 use Rattle.pq_flowmod.proofs.flow_reading.removal.Goals as goal
 
--- no match stands there
+-- no match is there
 pub returns-in_default-clause-said : goal.returns-in_default-clause-said
 returns-in_default-clause-said c = λ f law strict xid is.
     let parts = flow_parted c.args.body.now f is in

@@ -6,14 +6,14 @@ use Rattle.pq_flowmod.proofs.Parts.{bucket_next, bucket_long}
 use Rattle.pq_flowmod.proofs.Leading.{one_read, none_read, all_read, some_left, none_left}
 use Rattle.pq_flowmod.proofs.group_reading.buckets_of.Goals as goal
 
--- no length is told, so no bucket stands there
+-- no length is told, so no bucket is there
 pub returns-in_default : goal.returns-in_default
 returns-in_default c =
     let left = some_left c.loop-rest.rest.now c.is_empty.result c.is_empty.ensures c.loop-rest-test.true in
     none_read bucket_bytes IsReadable c.args.bytes.now (map (λ b. b.items) c.loop-rest.buckets.items) c.loop-rest.rest.now left
     (λ a more law is. let told = c.in_default.ensures.told a more law.1 is in absurd cc) c.loop-rest.invariant
 
--- what stands there has no lawful actions
+-- what is there has no lawful actions
 pub returns-in_default-2 : goal.returns-in_default-2
 returns-in_default-2 c =
     let left = some_left c.loop-rest.rest.now c.is_empty.result c.is_empty.ensures c.loop-rest-test.true in

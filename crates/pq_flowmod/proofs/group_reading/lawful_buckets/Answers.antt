@@ -4,7 +4,7 @@ use Rattle.pq_model.specs.Lawful.{HasBuckets}
 use Rattle.pq_flowmod.proofs.Parts.{each_readable}
 use Rattle.pq_flowmod.proofs.group_reading.lawful_buckets.Goals as goal
 
--- these are no buckets
+-- these are not buckets
 pub returns-in_default-clause-said : goal.returns-in_default-clause-said
 returns-in_default-clause-said c = λ whole law short is. rw c.in_default.is at c.in_ok-buckets.ensures whole (each_readable whole law.1 short) is
 

@@ -5,7 +5,7 @@ use Rattle.pq_oxm.proofs.Places.{followed}
 use Rattle.pq_flowmod.proofs.Parts.{message_parted}
 use Rattle.pq_flowmod.proofs.reading.read_message.Goals as goal
 
--- nothing stands behind the end
+-- nothing is after the end
 pub returns-then-bytes-at-clause-err : goal.returns-then-bytes-at-clause-err
 returns-then-bytes-at-clause-err c = (
   refl,

@@ -82,7 +82,7 @@ choice_is g t c =
     ap policy_tree (c.in-If.is ∙ sym (rolls-If c.in-If.pred c.in-If.yes c.in-If.no))
     ∙ fold-roll-Policy PolicyTree policy_step (Policy-F.If c.in-If.pred c.in-If.yes c.in-If.no)
 
--- the tree of the first stands where the second is made
+-- the tree of the first is where the second is made
 yes_has : (g : Over) (t : ℕ) (c : built-In_ok-failed-in-If g t)
     → HasAt (IsForward c.args.topology.now (policy_tree c.in-If.yes.value)) c.built-in-If.new.store c.in_ok-passed-in-If.passed
 yes_has g t c =

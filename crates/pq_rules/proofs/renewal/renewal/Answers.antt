@@ -16,7 +16,7 @@ grouped c =
     c.in_ok-messages.ensures.items c.in_ok-push_deletes.ensures c.in_ok-push_barrier.ensures c.in_ok-push_groups.ensures
     ∙ ap (λ k. 3 + k) (length-map c.args.grouping.now.groups.keys buckets_of)
 
--- and the barrier behind them
+-- and the barrier after them
 fourth : (c : In_ok-push_barrier-2) → length c.push_groups.new.messages.items ≡ 3 + length c.args.grouping.now.groups.keys
     → length c.push_barrier-2.new.messages.items ≡ 4 + length c.args.grouping.now.groups.keys
 fourth c long =

@@ -4,6 +4,6 @@ use Rattle.std.specs.Prelude.{codes}
 use Rattle.pq_schedule.specs.Values.{two_digits}
 use Rattle.pq_schedule.proofs.numbers.write_pairs.Given as goal
 
--- what stands behind the first so far
+-- what is after the first so far
 abbrev pub invariant-loop-byte : goal.invariant-loop-byte
 invariant-loop-byte l = l.into.items ≡ l.initial.into.items ++ flat_map (λ n. (codes ":") ++ two_digits n) (take l.byte-index l.rest)

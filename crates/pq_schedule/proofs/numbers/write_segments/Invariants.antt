@@ -4,6 +4,6 @@ use Rattle.std.specs.Prelude.{codes}
 use Rattle.std.specs.Fmt.{digits}
 use Rattle.pq_schedule.proofs.numbers.write_segments.Given as goal
 
--- what stands behind the first so far
+-- what is after the first so far
 abbrev pub invariant-loop-segment : goal.invariant-loop-segment
 invariant-loop-segment l = l.into.items ≡ l.initial.into.items ++ flat_map (λ n. (codes ":") ++ digits 16 false n) (take l.segment-index l.rest)

@@ -14,7 +14,7 @@ returns-in_default-clause-err c =
     read_stops _ c.loop-rest.events.items _ _ c.loop-rest.invariant left
     (λ e behind begins. none-some behind (ap option_copied (sym c.in_default.is) ∙ c.cut_at.ensures.behind ∙ begins.1)) refl
 
--- the next line is no event
+-- the next line is not an event
 pub returns-in_default-event_of_line-clause-err : goal.returns-in_default-event_of_line-clause-err
 returns-in_default-event_of_line-clause-err c =
     let left : c.loop-rest.rest.now ≢ [] = search rules in

@@ -3,7 +3,7 @@ use Rattle.std.proofs.lemmas.List.{length-drop, take_all}
 use Rattle.pq_sum.proofs.Leaves.{first_leaf, halves_have_leaf, only_leaf, second_leaf, some_leaf_cell}
 use Rattle.pq_sum.proofs.cells.+leaf_at.Goals as goal
 
--- the cells behind the root
+-- the cells after the root
 rest : (cells : List ℕ) → take (length cells - 1) (drop 1 cells) ≡ drop 1 cells
 rest cells = let long = length-drop 1 cells in take_all (length cells - 1) (drop 1 cells) (omega (arith, long))
 

@@ -9,7 +9,7 @@ returns-in-End c =
     let loop = c.loop-token.invariant in
     record { ok = ends_here _ _ _ _ loop.divided (sym c.token_at.ensures.value ∙ c.in-End.is); err = tt; within = loop.lie; form = loop.formed }
 
--- what is no token ends the division
+-- what is not a token ends the division
 pub returns-in-NoToken : goal.returns-in-NoToken
 returns-in-NoToken c =
     let loop = c.loop-token.invariant in

@@ -7,6 +7,6 @@ use Rattle.pq_grammar.proofs.parser.Parser.advance.Given as goal
 abbrev pub invariant-loop-symbol : goal.invariant-loop-symbol
 invariant-loop-symbol l = IsAt l.lexemes l.self (reverse l.self.stack.items) × (l.self.at ≡ l.initial.self.at) × (l.self.start ≡ l.initial.self.start)
 
--- what stands before the next token weighs less each turn
+-- what is before the next token weighs less each turn
 abbrev pub decreases-loop-symbol : goal.decreases-loop-symbol
 decreases-loop-symbol l = pending (reverse l.self.stack.items)

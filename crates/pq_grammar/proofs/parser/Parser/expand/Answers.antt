@@ -14,6 +14,6 @@ returns-clause-place c =
     part_place _ _ _ _ c.args.sort c.in-Some.alternative.now _ _ _ (ap (λ o. chosen c.args.sort (ahead o)) (sym c.next_class.ensures)
     ∙ sym c.in-Some.ensures) c.in_ok-push_reversed.ensures.items c.requires
 
--- what stands before the next token weighs less
+-- what is before the next token weighs less
 pub returns-clause-falls : goal.returns-clause-falls
 returns-clause-falls c = part_falls c.args.sort _ c.in-Some.alternative.now _ _ (sym c.in-Some.ensures) c.in_ok-push_reversed.ensures.items

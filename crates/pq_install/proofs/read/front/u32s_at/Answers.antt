@@ -4,7 +4,7 @@ use Rattle.pq_install.specs.Front.{IsU32}
 use Rattle.pq_install.proofs.Front.{unique_u32, longer_goes_on}
 use Rattle.pq_install.proofs.read.front.u32s_at.Goals as goal
 
--- the numbers so far are fewer than asked for, and no further one stands behind them
+-- the numbers so far are fewer than asked for, and no further one is after them
 pub returns-in_default : goal.returns-in_default
 returns-in_default c ns more counted e =
     let so_far = c.loop.invariant in

@@ -17,7 +17,7 @@ returns-in_err-link-clause-err c =
 pub loop-init : goal.loop-init
 loop-init c = rw c.new-links.ensures.items (refl, (no_links c.args.topology.now.switches, refl))
 
--- the link is added, and the bytes behind it are left
+-- the link is added, and the bytes after it are left
 pub loop-preserved : goal.loop-preserved
 loop-preserved c =
     let next = rw c.deref.ensures.value at c.in_ok-link.ensures.ok in

@@ -5,6 +5,6 @@ use Rattle.pq_install.specs.Front.{IsAtFront}
 use Rattle.pq_install.specs.Links.{AreReadLinks}
 use Rattle.pq_install.proofs.read.links.link_list.Given as goal
 
--- the links so far stand at the front
+-- the links so far are at the front
 abbrev pub invariant-loop : goal.invariant-loop
 invariant-loop l = (length l.links.items ≡ l.counter) × IsAtFront (AreReadLinks l.topology.switches) (flat_map link_bytes) l.bytes l.links.items l.rest

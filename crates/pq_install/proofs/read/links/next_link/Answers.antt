@@ -11,7 +11,7 @@ pub returns-in_default-clause-err : goal.returns-in_default-clause-err
 returns-in_default-clause-err c =
     (refl, λ l rest are e. c.in_default.ensures l rest (last_has_ends c.args.topology.now.switches c.args.before.now c.requires.switches l are) e)
 
--- the link that stands there may not follow
+-- the link that is there may not follow
 pub returns-then-not-may_follow-clause-err : goal.returns-then-not-may_follow-clause-err
 returns-then-not-may_follow-clause-err c = (
   refl,

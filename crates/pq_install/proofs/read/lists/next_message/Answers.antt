@@ -3,7 +3,7 @@ use Rattle.pq_flowmod.proofs.OneMessage.{one_message}
 use Rattle.pq_install.proofs.MessageLists.{front_of}
 use Rattle.pq_install.proofs.read.lists.next_message.Goals as goal
 
--- the message that stands there is none that the spelling has
+-- the message that is there is none that the spelling has
 pub returns-then-not-may_stand_in-clause-err : goal.returns-then-not-may_stand_in-clause-err
 returns-then-not-may_stand_in-clause-err c =
     let found = c.in-Ok.ensures.ok in (

@@ -5,6 +5,6 @@ use Rattle.pq_install.specs.Front.{IsAtFront}
 use Rattle.pq_install.specs.Names.{AreReadNames}
 use Rattle.pq_install.proofs.read.names.name_list.Given as goal
 
--- the names so far stand at the front
+-- the names so far are at the front
 abbrev pub invariant-loop : goal.invariant-loop
 invariant-loop l = (length l.names.items ≡ l.counter) × IsAtFront AreReadNames (flat_map name_bytes) l.bytes l.names.items l.rest

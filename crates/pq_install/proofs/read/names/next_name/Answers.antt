@@ -5,7 +5,7 @@ use Rattle.pq_install.proofs.Sequences.{none_but}
 use Rattle.pq_install.proofs.NameUnits.{unique_name, last_is_name, name_follows}
 use Rattle.pq_install.proofs.read.names.next_name.Goals as goal
 
--- the name that stands there is not new
+-- the name that is there is not new
 pub returns-then-is_among-clause-err : goal.returns-then-is_among-clause-err
 returns-then-is_among-clause-err c =
     let front = rw c.in-Some.is at c.name_at.ensures in (

@@ -12,7 +12,7 @@ returns-in_default-clause-err c =
     let none = rw c.in_default.is at c.in_ok-row.ensures in
     (refl, λ row rest are e. none row rest (last_has_pairs c.args.queries c.requires.few c.args.before.now row are) e)
 
--- the row that stands there may not follow
+-- the row that is there may not follow
 pub returns-then-not-may_follow-clause-err : goal.returns-then-not-may_follow-clause-err
 returns-then-not-may_follow-clause-err c =
     let front = rw c.in-Some.is at c.in_ok-row.ensures in (

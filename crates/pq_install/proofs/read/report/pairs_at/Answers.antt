@@ -6,7 +6,7 @@ use Rattle.pq_install.proofs.RowUnits.{unique_instance}
 use Rattle.pq_install.proofs.UnitLists.{all_more, one_more_unit}
 use Rattle.pq_install.proofs.read.report.pairs_at.Goals as goal
 
--- the instances so far are fewer than asked for, and no further one stands behind them
+-- the instances so far are fewer than asked for, and no further one is after them
 pub returns-in_default : goal.returns-in_default
 returns-in_default c pairs more counted e =
     let so_far = c.loop.invariant in

@@ -6,7 +6,7 @@ use Rattle.pq_install.proofs.SwitchUnits.{unique_switch}
 use Rattle.pq_install.proofs.SwitchLists.{last_is_read}
 use Rattle.pq_install.proofs.read.switches.next_switch.Goals as goal
 
--- the switch that stands there may not follow
+-- the switch that is there may not follow
 pub returns-then-not-may_follow-clause-err : goal.returns-then-not-may_follow-clause-err
 returns-then-not-may_follow-clause-err c =
     let front = rw c.in-Some.is at c.in_ok-switch.ensures in (

@@ -5,6 +5,6 @@ use Rattle.pq_install.specs.Front.{IsAtFront}
 use Rattle.pq_install.specs.Switches.{AreReadSwitches}
 use Rattle.pq_install.proofs.read.switches.switch_list.Given as goal
 
--- the switches so far stand at the front
+-- the switches so far are at the front
 abbrev pub invariant-loop : goal.invariant-loop
 invariant-loop l = (length l.switches.items ≡ l.counter) × IsAtFront AreReadSwitches (flat_map switch_bytes) l.bytes l.switches.items l.rest

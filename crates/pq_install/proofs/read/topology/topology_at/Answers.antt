@@ -12,7 +12,7 @@ made-unlinked-requires c =
     let section = c.in_ok-switches.ensures.ok in
     rw c.new.ensures.items (unlinked_is_named c.in_ok-switches.switches.items section.0.0 section.0.1)
 
--- the links fail behind the switches
+-- the links fail after the switches
 pub returns-in_err-links-clause-err : goal.returns-in_err-links-clause-err
 returns-in_err-links-clause-err c =
     let p = err_from_is_err_and c.from_residual-in_err-links.result c.from_residual-in_err-links.ensures.1 in
