@@ -1,5 +1,5 @@
 -- The policies of examples have diagrams on the topology of examples.
-use Rattle.std.proofs.Common.{ℕ, ◌^◌, ◌<◌, ◌≤◌, ◌≡◌, ◌∙◌, true, ◌∷◌, refl, sym, ap, subst, arith, rules, []}
+use Rattle.std.proofs.Common.{ℕ, ◌^◌, ◌<◌, ◌≤◌, ◌≡◌, ◌∙◌, true, false, [], ◌∷◌, refl, sym, ap, subst, arith, rules}
 use Rattle.std.specs.Prelude.{◌==◌, All}
 use Rattle.std.specs.List.{IsDistinct, list_any}
 use Rattle.std.proofs.lemmas.List.Elements.{All-nil, All-cons}
@@ -20,8 +20,9 @@ use Rattle.pq_policy.specs.declared.policy.Policy.TheFolds.{fold-roll-Policy}
 use Rattle.pq_policy.specs.Policy.{Forward, IsLawfulTop, PolicyTop, PolicyTree, Write, is_writable, leaf, none, policy_step, policy_tree}
 use Rattle.pq_store.specs.Room.{AreFew, IsAmong}
 use Rattle.pq_store.proofs.RoomLemmas.{roomy}
-use Rattle.pq_apply.specs.Predicates.{IsPredWithin}
-use Rattle.pq_apply.proofs.Examples.{found_among, needs_known}
+use Rattle.pq_apply.specs.Predicates.{IsPredWithin, NeedsAmong}
+use Rattle.pq_apply.proofs.Examples.{found_among}
+use Rattle.pq_apply.proofs.Required.{needs_among}
 use Rattle.pq_forward.specs.Forward.{FitAsForward, IsPolicyTopWithin, IsTopologyWithin}
 use Rattle.pq_forward.specs.Examples.{IsExamplePolicy, example_numbers, example_switch, example_topology}
 use Rattle.pq_forward.proofs.Tops.{choice_of}
@@ -59,6 +60,12 @@ topology_is_named = record {
 -- there are few
 few : AreFew (λ f. example_numbers)
 few f whole = omega (arith, roomy f)
+
+-- those in prerequisites are among them
+needs_known : (f : Field) → NeedsAmong (λ g. example_numbers) f
+needs_known f =
+    needs_among (λ g. example_numbers) (found_among 0x0800 example_numbers refl) (found_among 0x86dd example_numbers refl) (found_among 6 example_numbers refl)
+    (found_among 17 example_numbers refl) f
 
 -- and those of the topology
 topology_within : IsTopologyWithin (λ f. example_numbers) example_topology

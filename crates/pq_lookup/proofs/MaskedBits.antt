@@ -9,7 +9,6 @@ use Rattle.std.proofs.lemmas.Nat.Bits.{and_pow, bit_at_cat_low, bit_at-lt}
 use Rattle.std.proofs.lemmas.Bool.{eq-eqb}
 use Rattle.std.proofs.lemmas.Bool.Decides.{nat_tests}
 use Rattle.std.specs.declared.option.Option.{Option}
-use Rattle.pq_store.proofs.Bits.{digit, digit_below}
 use Rattle.pq_model.specs.MatchFields.{agrees_masked}
 use Rattle.pq_layout.specs.Entries.{masked_with, stated_with}
 
@@ -23,6 +22,16 @@ two_tests false false c into back = refl
 -- the test of a bit, or that it isn't set
 abbrev pub sided : Bool → Bool → Bool
 sided b c = if b then c else not c
+
+-- a bit as a number
+digit : Bool → ℕ
+digit true = 1
+digit false = 0
+
+digit_below : (b : Bool) → digit b < 2
+unfolding digit
+digit_below true = omega arith
+digit_below false = omega arith
 
 -- a number below 2 is the digit just where it is 1 or isn't
 digit_tells : (d : ℕ) → d < 2 → (b : Bool) → d == digit b ≡ sided b (d == 1)
