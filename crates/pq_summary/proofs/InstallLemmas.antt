@@ -1,18 +1,18 @@
 -- The bytes of an install are as long as its parts, and shorter than 2 ^ 64.
-use Rattle.std.proofs.Common.{◌≡◌, ℕ, ◌+◌, ◌*◌, ◌^◌, ◌<◌, ◌≤◌, List, [], ◌∷◌, ◌++◌, length, get_or, map, refl, arith}
+use Rattle.std.proofs.Common.{◌≡◌, ℕ, ◌+◌, ◌*◌, ◌^◌, ◌<◌, ◌≤◌, List, [], ◌∷◌, ◌++◌, length, get_or, refl, arith}
 use Rattle.std.specs.Prelude.{All, IsTrue, sum_by}
 use Rattle.std.specs.Int.{w16, w32, w64, to_be_bytes}
 use Rattle.std.specs.List.{flat_map}
 use Rattle.std.proofs.lemmas.Bool.Decides.{nat_tests}
 use Rattle.std.proofs.lemmas.List.{length-append}
-use Rattle.std.proofs.lemmas.List.Elements.{All-head, All-tail, All-weaker}
+use Rattle.std.proofs.lemmas.List.Elements.{All-weaker}
 use Rattle.std.proofs.lemmas.List.Sums.{sum_by-cons, sum_by-le}
 use Rattle.pq_term.specs.Names.{is_name}
 use Rattle.pq_model.specs.declared.message.Message.{Message}
 use Rattle.pq_model.specs.Buckets.{Instance}
 use Rattle.pq_model.specs.Install.{Install, IsLawfulInstall, IsLawfulList, IsLawfulPair, IsLawfulRow, install_bytes, link_bytes, list_bytes}
 use Rattle.pq_model.specs.Install.{name_bytes, pair_bytes, port_count, row_bytes, spelling, switch_bytes}
-use Rattle.pq_model.specs.Lawful.{Ascends, IsLawfulMessage}
+use Rattle.pq_model.specs.Lawful.{IsLawfulMessage}
 use Rattle.pq_model.specs.Spelling.{message_bytes}
 use Rattle.pq_model.specs.TablesMachine.{Row}
 use Rattle.pq_model.specs.Topology.{Switch}
@@ -99,13 +99,6 @@ list_short ms lawful =
     let each : All (λ m. message_length m ≤ 2 ^ 16) ms =
     All-weaker IsLawfulMessage (λ m. message_length m ≤ 2 ^ 16) (λ m law. omega (arith, law.short, message_long m law.content)) ms lawful.1 in
     omega (arith, lawful.0, sum_by-le message_length (2 ^ 16) ms each)
-
--- ascending numbers are no more than the greatest of them
-few_ascending : (most x : ℕ) (rows : List Row) (row : Row) → Ascends (map (λ r. r.tag) (row ∷ rows)) → All (λ r. r.tag ≤ most) (row ∷ rows)
-    → length (row ∷ rows) + row.tag ≤ most + 1
-few_ascending most x [] row up fit = omega (arith, All-head (λ (r : Row). r.tag ≤ most) row [] fit)
-few_ascending most x (next ∷ rows) row up fit =
-    omega (arith, up.0, few_ascending most x rows next up.1 (All-tail (λ (r : Row). r.tag ≤ most) row (next ∷ rows) fit))
 
 pub install_short : (i : Install) → IsLawfulInstall i → install_length i < 2 ^ 64
 unfolding install_length
