@@ -1,7 +1,7 @@
 -- What is read whole of a known input, and when a command is done.
-use Rattle.std.proofs.Common.{◌≡◌, ℕ, ◌≤◌, List, ◌++◌, length, ap, sym, ◌∙◌, subst, arith, length-append, append-nil, Option, Some, None, inl, inr}
+use Rattle.std.proofs.Common.{◌≡◌, ℕ, ◌≤◌, List, length, ap, sym, subst, arith, length-append, Option, Some, None, inl, inr}
 use Rattle.std.proofs.lemmas.Option.{same_Some}
-use Rattle.std.specs.Io.KnownBytes.{Consumes, IsAtEnd}
+use Rattle.std.specs.Io.KnownBytes.{Consumes}
 use Rattle.pq_inspect.proofs.Unspoiled.{not_spoiled}
 use Rattle.pq_install.specs.declared.fault.InstallFault.TheVariants as install
 use Rattle.pq_replay.specs.declared.fault.ReplayFault.TheVariants as replay
@@ -17,12 +17,7 @@ use Rattle.pq_command.specs.Answers.{ReadsWhole, StopsReading, Streams, Task, st
 use Rattle.pq_generate.specs.Generated.{generated_text}
 use Rattle.pq_command.specs.Tasks.{CompletesAs, IsAnswerTo, compile_task, generate_task, inspect_task, replay_task, summary_task}
 use Rattle.pq_command.proofs.SessionCompletes.{document_completes, memory, sat_through}
-use Rattle.pq_command.proofs.SpeakCompletes.{spoken}
-
--- known bytes that were read to their end are what was read
-pub whole_text : (bytes text : List ℕ) (now : Option (List ℕ)) → Consumes (Some bytes) now text → IsAtEnd now → bytes ≡ text
-whole_text bytes text None taken end = absurd taken
-whole_text bytes text (Some rest) taken end = taken ∙ ap (λ r. text ++ r) end ∙ append-nil text
+use Rattle.pq_command.proofs.SpeakCompletes.{spoken, whole_text}
 
 -- what was read is no longer than the known bytes
 no_longer : (bytes text : List ℕ) (now : Option (List ℕ)) → Consumes (Some bytes) now text → length text ≤ length bytes

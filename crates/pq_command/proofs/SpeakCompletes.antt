@@ -25,7 +25,11 @@ use Rattle.pq_command.specs.Speaks.{IsSpokenThrough, Stated, has_switch, is_cut,
 use Rattle.pq_command.proofs.Headings.{followed, none-append, stated-append}
 use Rattle.pq_command.proofs.Openings.{one-list, one-session, one-switch, opened-append}
 use Rattle.pq_command.proofs.Turns.{state-append}
-use Rattle.pq_command.proofs.Complete.{whole_text}
+
+-- known bytes that were read to their end are what was read
+pub whole_text : (bytes text : List ℕ) (now : Option (List ℕ)) → Consumes (Some bytes) now text → IsAtEnd now → bytes ≡ text
+whole_text bytes text None taken end = absurd taken
+whole_text bytes text (Some rest) taken end = taken ∙ ap (λ r. text ++ r) end ∙ append-nil text
 
 -- known bytes begin with what was read
 rest-of : (bytes text : List ℕ) (now : Option (List ℕ)) → Consumes (Some bytes) now text → (rest : List ℕ) × (now ≡ Some rest) × (bytes ≡ text ++ rest)
