@@ -3,6 +3,7 @@ pub mod Choice
 pub mod Falling
 pub mod Kept
 pub mod Lookups
+pub mod Noted
 pub mod OnShelves
 pub mod Passing
 pub mod Patterns

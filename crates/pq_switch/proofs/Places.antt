@@ -12,7 +12,7 @@ use Rattle.std.specs.Cmp.Lexicographic.{options_total}
 use Rattle.std.specs.FinMap.{nat_cmp-IsAntisymmetric}
 use Rattle.std.specs.List.{AllByRecursion}
 use Rattle.std.specs.Option.{option_cmp}
-use Rattle.std.specs.Ordering.{bool_cmp, is_eq, is_le, nat_cmp, ordering_then}
+use Rattle.std.specs.Ordering.{bool_cmp, is_eq, is_gt, is_le, nat_cmp, ordering_then}
 use Rattle.pq_model.specs.MatchFields.{MatchFields, same_number, same_masked, same_match}
 use Rattle.pq_model.specs.Mods.{FlowValue}
 use Rattle.pq_model.specs.SwitchMachine.{Entry, is_placed}
@@ -288,6 +288,25 @@ first_of-first b q block =
       ap (λ c. is_le (block_cmp b c)) block ∙ ap is_le (tied_itself block_total b),
       (no_pattern-first q.shape, (false-first q.behind, (no_pattern-first q.pattern, (zero-first q.down, tt)))),
     )
+
+-- before all places
+abbrev pub lowest : Place
+lowest = first_of (block_at 0 None None)
+
+pub not_gt : (r : Ordering) → is_le r ≡ true → is_gt r ≡ false
+not_gt Less h = refl
+not_gt Equal h = refl
+not_gt Greater h = absurd (true≢false (sym h))
+
+pub lowest-first : (q : Place) → is_gt (place_cmp lowest q) ≡ false
+lowest-first q = not_gt (place_cmp lowest q) (chain-le (block_cmp (block_at 0 None None) q.block)
+    (pattern_cmp no_pattern q.shape ∷ bool_cmp false q.behind ∷ pattern_cmp no_pattern q.pattern ∷ nat_cmp 0 q.down ∷ []) (
+      chain-le (nat_cmp 0 q.block.table) (option_cmp nat_cmp None q.block.in_port ∷ option_cmp nat_cmp None q.block.vlan ∷ []) (
+        zero-first q.block.table,
+        (none-first nat_cmp q.block.in_port, (none-first nat_cmp q.block.vlan, tt)),
+      ),
+      (no_pattern-first q.shape, (false-first q.behind, (no_pattern-first q.pattern, (zero-first q.down, tt)))),
+    ))
 
 downs : (p q : ℕ) → p < 0x10000 → q < 0x10000 → is_eq (nat_cmp (0x10000 - p) (0x10000 - q)) ≡ (p == q)
 downs p q a b = grind (arith, nat_tests)

@@ -1,5 +1,5 @@
 -- The values of a map's entries, when one is put in or taken out at a key.
-use Rattle.std.proofs.Common.{◌≡◌, Bool, true, false, not, cond, List, [], ◌∷◌, ◌++◌, refl, sym, ap, subst, ◌∙◌}
+use Rattle.std.proofs.Common.{◌≡◌, Bool, true, false, not, cond, List, [], ◌∷◌, ◌++◌, refl, sym, ap, ◌∙◌}
 use Rattle.std.specs.declared.cmp.Ordering.{Ordering}
 use Rattle.std.specs.declared.cmp.Ordering.TheVariants.{Less, Equal, Greater}
 use Rattle.std.specs.declared.option.Option.TheVariants.{None, Some}
@@ -7,14 +7,12 @@ use Rattle.std.specs.Option.{is_some}
 use Rattle.std.specs.List.{AllByRecursion, filter}
 use Rattle.std.specs.List.Sorted.{IsStrictlySortedBy}
 use Rattle.std.specs.Cmp.{IsTotalOrder}
-use Rattle.std.specs.Map.Calls.{RetainsPairs}
 use Rattle.std.proofs.lemmas.Bool.{true≢false}
-use Rattle.std.proofs.lemmas.Map.Entries.{filter_from_retain_pairs}
 use Rattle.std.specs.Map.{keys_of, lookup, remove_entry, values_of}
 use Rattle.std.specs.BTreeMap.{insert_entry, is_at}
 use Rattle.std.specs.Ordering.{is_eq, match_ordering}
 
-some_is_no_none : {A B : Type 0} (x : A) → Some x ≡ None → B
+pub some_is_no_none : {A B : Type 0} (x : A) → Some x ≡ None → B
 some_is_no_none x e = absurd (true≢false (ap is_some e))
 
 module _ {K X : Type 0} where
@@ -120,10 +118,3 @@ module _ {K X : Type 0} where
             is = ap (λ l. e.1 ∷ l) more.is;
             rest = ap (λ b. cond b (e.1 ∷ filter p (values_of es)) (filter p (values_of es))) (here ∙ ap (λ r. not (is_eq r)) is) ∙ ap (λ l. e.1 ∷ l) more.rest;
           }
-
--- what `retain` leaves, where the closure only tests and stays as it is
-pub retained : {F K X : Type 0} (T : F → K → X → Bool → X → F → Type 0) (p : K × X → Bool) (f : F) →
-    ((k : K) (v : X) (b : Bool) (w : X) (g : F) → T f k v b w g → (b ≡ p (k, v)) × (w ≡ v) × (g ≡ f)) → (es kept : List (K × X))
-    → RetainsPairs T f es kept → kept ≡ filter p es
-retained T p f h es kept r =
-    filter_from_retain_pairs T (λ g. g ≡ f) p (λ g k v b w g' i t. h k v b w g' (subst (λ e. T e k v b w g') i t)) f es kept refl r

@@ -1,6 +1,7 @@
 pub mod Added
 pub mod Choice
 pub mod Listed
+pub mod Namings
 pub mod Patterns
 pub mod Places
 pub mod Ranges

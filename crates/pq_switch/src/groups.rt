@@ -1,23 +1,19 @@
-ghost use Rattle.std.specs.Prelude.{◌≡◌, ◌==◌, ◌||◌, [], ◌∷◌, OnErr, OnOk, not};
-ghost use Rattle.std.specs.List.{list_all, list_any};
+ghost use Rattle.std.specs.Prelude.{◌≡◌, ℕ, [], ◌∷◌, OnErr, OnOk, not};
+ghost use Rattle.std.specs.List.{list_all};
 ghost use Rattle.std.specs.FinMap.{contains_key, get, insert};
-ghost use Rattle.pq_model.specs.SwitchMachine.{
-  all_groups,
-  buckets_in,
-  groups_named,
-  is_removed,
-  no_groups,
-  removed_from,
-};
+ghost use Rattle.std.specs.Ordering.{eq_by_cmp, nat_cmp};
+ghost use Rattle.std.specs.Set.{is_member};
+ghost use Rattle.pq_model.specs.SwitchMachine.{buckets_in, groups_named, no_groups, removed_from};
 
 use crate::actions::Actions;
 use pq_model::Action;
 use std::alloc::{AllocError, Global};
 use std::collections::BTreeMap;
+use std::collections::btree_map::Keys;
 use std::marker::Model;
 
 /// The number that names all groups (OpenFlow 1.3.5, section 7.3.4.2).
-const ALL_GROUPS: u32 = 0xffff_fffc;
+pub(crate) const ALL_GROUPS: u32 = 0xffff_fffc;
 
 /// The groups of a switch: the buckets of each, by its number.
 #[derive(Drop)]
@@ -98,23 +94,11 @@ impl Groups {
         true
     }
 
-    /// Whether removing takes out a group that the actions name.
-    pub(crate) fn removes_named(&self, number: u32, actions: &[Action]) -> bool
-        ensures { result ≡ list_any (is_removed self.now number) (groups_named actions.now) }
+    /// The numbers of all groups.
+    pub(crate) fn numbers(&self) -> Keys<'_, u32, Vec<Actions>>
+        ensures { (n : ℕ) → contains_key self.now n ≡ is_member (eq_by_cmp nat_cmp) result n }
     {
-        for action in actions {
-            if self.removes(number, *action) {
-                return true;
-            }
-        }
-        false
-    }
-
-    /// Whether removing takes out a group. It may say so of all groups where there is none.
-    pub(crate) fn removes_any(&self, number: u32) -> bool
-        ensures { result ≡ (number == all_groups) || contains_key self.now number }
-    {
-        number == ALL_GROUPS || self.contains(number)
+        self.buckets.keys()
     }
 
     // Whether the action names a group that isn't there.
@@ -123,17 +107,6 @@ impl Groups {
     {
         match action {
             Action::Group(named) => !self.contains(named),
-            _ => false,
-        }
-    }
-
-    // Whether removing takes out the group that the action names.
-    fn removes(&self, number: u32, action: Action) -> bool
-        ensures { result ≡ list_any (is_removed self.now number) (groups_named (action ∷ [])) }
-    {
-        match action {
-            Action::Group(named) => self.contains(named)
-                && (number == ALL_GROUPS || named == number),
             _ => false,
         }
     }

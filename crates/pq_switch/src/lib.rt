@@ -8,6 +8,7 @@ mod entry;
 mod groups;
 mod listing;
 mod lookup;
+mod naming;
 mod pattern;
 mod place;
 mod sending;

@@ -8,15 +8,17 @@ pub invariant_of-self-2 : goal.invariant_of-self-2
 invariant_of-self-2 c =
     let f = c.args.flow.now in
     let at : c.of-place.result ≡ place_of f.table f.matching f.priority = rw (← c.flow.view_is) c.of-place.ensures.value in
-    let small : f.priority < 0x10000 = rw (← c.flow.view_is) c.of-place.ensures.small in
-    put_in-kept f c.self.inside.next small c.of-place.result at c.self.inside.slots c.insert.new.self c.self.invariant _
-    c.in_ok-entry.ensures refl c.insert.ensures.was_ordered c.in_ok-insert.ensures.entries
+    let small : f.priority < 0x10000 = rw (← c.flow.view_is) c.of-place.ensures.small in (
+      put_in-kept f c.self.inside.next small c.of-place.result at c.self.inside.slots c.put_in.new.slots c.self.invariant.0 _
+          c.in_ok-entry.ensures refl c.self.invariant.1.ordered c.in_ok-put_in.ensures.ok,
+      c.put_in.ensures.indexed,
+    )
 
 pub returns-clause-ok : goal.returns-clause-ok
 returns-clause-ok c =
     let f = c.args.flow.now in
     let at : c.of-place.result ≡ place_of f.table f.matching f.priority = rw (← c.flow.view_is) c.of-place.ensures.value in
     let small : f.priority < 0x10000 = rw (← c.flow.view_is) c.of-place.ensures.small in
-    put_in f c.self.inside.next small c.of-place.result at c.self.inside.slots c.insert.new.self c.self.invariant _ c.in_ok-entry.ensures
-    refl c.insert.ensures.was_ordered c.in_ok-insert.ensures.entries
+    put_in f c.self.inside.next small c.of-place.result at c.self.inside.slots c.put_in.new.slots c.self.invariant.0 _ c.in_ok-entry.ensures
+    refl c.self.invariant.1.ordered c.in_ok-put_in.ensures.ok
     ∙ ap (λ l. filter (λ e. not (is_placed f e)) l ++ entry_of f ∷ []) c.self.view_is

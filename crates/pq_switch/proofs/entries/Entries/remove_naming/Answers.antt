@@ -1,26 +1,46 @@
-use Rattle.std.proofs.Common.{◌≡◌, Bool, not, filter, rules, ap, sym, ◌∙◌}
-use Rattle.std.specs.List.{list_any}
-use Rattle.pq_model.specs.SwitchMachine.{Entry, groups_named, is_removed}
+use Rattle.std.proofs.Common.{◌≡◌, ◌==◌, Bool, filter, ap, sym, ◌∙◌, ne_eqb}
+use Rattle.std.proofs.lemmas.Bool.{or_from}
+use Rattle.std.specs.FinMap.{contains_key}
+use Rattle.pq_model.specs.SwitchMachine.{Entry, all_groups}
 use Rattle.pq_switch.proofs.Absent.{none_is_removed}
 use Rattle.pq_switch.proofs.Kept.{entries_where, kept_where}
-use Rattle.pq_switch.proofs.Rows.{retained}
+use Rattle.pq_switch.proofs.Noted.{left, one_removed}
 use Rattle.pq_switch.proofs.entries.Entries.remove_naming.Goals as goal
 
 pub invariant_of-self : goal.invariant_of-self
-invariant_of-self c =
-    let q : Entry → Bool = λ e. not (list_any (is_removed c.args.groups.now c.args.number) (groups_named e.actions)) in
-    let es = c.self.inside.slots.entries in
-    let left : c.retain.new.self.entries ≡ filter (λ r. q r.1.entry) es =
-    retained _ (λ r. q r.1.entry) _ (λ k v b w g called. search rules) es _ c.retain.ensures.filtered in
-    kept_where c.self.inside.next q es c.retain.new.self.entries c.self.invariant left
+invariant_of-self c = (
+  kept_where c.self.inside.next (left c.args.groups.now all_groups) c.self.inside.slots.entries c.take_naming_any.new.slots.entries c.self.invariant.0
+      c.take_naming_any.ensures.rows,
+  c.take_naming_any.ensures.indexed,
+)
 
-pub returns : goal.returns
-returns c =
-    let q : Entry → Bool = λ e. not (list_any (is_removed c.args.groups.now c.args.number) (groups_named e.actions)) in
-    let es = c.self.inside.slots.entries in
-    let left : c.retain.new.self.entries ≡ filter (λ r. q r.1.entry) es =
-    retained _ (λ r. q r.1.entry) _ (λ k v b w g called. search rules) es _ c.retain.ensures.filtered in
-    entries_where q es c.retain.new.self.entries left ∙ ap (filter q) c.self.view_is
+pub returns-then-number-eq-ALL_GROUPS : goal.returns-then-number-eq-ALL_GROUPS
+returns-then-number-eq-ALL_GROUPS c =
+    let q : Entry → Bool = left c.args.groups.now all_groups in
+    entries_where q c.self.inside.slots.entries c.take_naming_any.new.slots.entries c.take_naming_any.ensures.rows ∙ ap (filter q) c.self.view_is
+    ∙ ap (λ n. filter (left c.args.groups.now n) c.args.self.now) (sym c.if-number-eq-ALL_GROUPS.true)
 
-pub returns-then-not-removes_any : goal.returns-then-not-removes_any
-returns-then-not-removes_any c = none_is_removed c.args.groups.now c.args.number c.args.self.now (sym c.if-not-removes_any.ensures)
+-- what is left where one group is removed
+one_left : (c : goal.After-take_naming)
+    → c.take_naming.new.slots.entries ≡ filter (λ r. left c.args.groups.now c.args.number r.1.entry) c.self.inside.slots.entries
+one_left c =
+    c.take_naming.ensures.rows
+    ∙ one_removed c.args.groups.now c.args.number (ne_eqb c.args.number all_groups c.if-number-eq-ALL_GROUPS.false) (sym c.if-contains.ensures)
+    c.self.inside.slots.entries
+
+pub invariant_of-self-then-contains : goal.invariant_of-self-then-contains
+invariant_of-self-then-contains c = (
+  kept_where c.self.inside.next (left c.args.groups.now c.args.number) c.self.inside.slots.entries c.take_naming.new.slots.entries c.self.invariant.0
+      (one_left c),
+  c.take_naming.ensures.indexed,
+)
+
+pub returns-then-contains : goal.returns-then-contains
+returns-then-contains c =
+    let q : Entry → Bool = left c.args.groups.now c.args.number in
+    entries_where q c.self.inside.slots.entries c.take_naming.new.slots.entries (one_left c) ∙ ap (filter q) c.self.view_is
+
+pub returns-else-contains : goal.returns-else-contains
+returns-else-contains c = none_is_removed c.args.groups.now c.args.number c.args.self.now
+    (or_from (c.args.number == all_groups) (contains_key c.args.groups.now c.args.number)
+    (ne_eqb c.args.number all_groups c.if-number-eq-ALL_GROUPS.false) (sym c.if-contains.ensures))
