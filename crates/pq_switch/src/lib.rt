@@ -5,6 +5,7 @@
 mod actions;
 mod entries;
 mod entry;
+mod flow_tables;
 mod groups;
 mod listing;
 mod lookup;

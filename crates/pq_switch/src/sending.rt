@@ -4,6 +4,7 @@ ghost use Rattle.pq_model.specs.Lawful.{IsLawfulAction};
 ghost use Rattle.pq_model.specs.SwitchMachine.{changed_by, copies, emits, emits_in_bucket, runs, sends};
 
 use crate::actions::{Actions, change, output, run_bucket};
+use crate::flow_tables::FlowTables;
 use crate::groups::Groups;
 use crate::sorting::sort;
 use crate::tables::Tables;
@@ -11,12 +12,23 @@ use pq_model::{Action, Sent, Tagged};
 use std::alloc::{AllocError, Global};
 
 /// The most tables that a packet passes: GOTO_TABLE leads up, to 254 at the most.
-pub(crate) const MOST_TABLES: u8 = 255;
+const MOST_TABLES: u8 = 255;
 
 /// The copies that a switch with these tables sends for an arriving packet (OpenFlow 1.3.5, section 5.1): those to
 /// ports first, each part in packet order and then by VLAN number, a copy without a header first.
 pub fn hop(alloc: Global, tables: &Tables, arriving: &Tagged) -> Result<Vec<Sent>, AllocError>
     ensures { IfOk result (λ sent. sent.items ≡ sends tables.now arriving.now) }
+{
+    sent_from(alloc, tables, arriving)
+}
+
+/// The copies that a switch sends from these tables, in order.
+pub(crate) fn sent_from<T: FlowTables>(
+    alloc: Global,
+    tables: &T,
+    arriving: &Tagged,
+) -> Result<Vec<Sent>, AllocError>
+    ensures { IfOk result (λ sent. sent.items ≡ sends (T.FlowTables.tables tables.now) arriving.now) }
 {
     let mut sent = copies(alloc, tables, *arriving)?;
     sort(&mut sent)?;
@@ -25,16 +37,16 @@ pub fn hop(alloc: Global, tables: &Tables, arriving: &Tagged) -> Result<Vec<Sent
 
 // The copies of a packet in the order of the actions.
 #[tactic(auto, unfolding(pq_model::specs::SwitchMachine::copies))]
-fn copies(alloc: Global, tables: &Tables, mut x: Tagged) -> Result<Vec<Sent>, AllocError>
-    ensures { IfOk result (λ sent. sent.items ≡ copies tables.now x) }
+fn copies<T: FlowTables>(alloc: Global, tables: &T, mut x: Tagged) -> Result<Vec<Sent>, AllocError>
+    ensures { IfOk result (λ sent. sent.items ≡ copies (T.FlowTables.tables tables.now) x) }
 {
     let mut sent = Vec::new(alloc);
     let mut table = 0;
     for _passed in 0..MOST_TABLES {
-        let Some(entry) = tables.entries.taken(table, &x) else {
+        let Some(entry) = tables.taken(table, &x) else {
             return Ok(sent);
         };
-        x = run(&tables.groups, &entry.actions, x, &mut sent)?;
+        x = run(tables.groups(), &entry.actions, x, &mut sent)?;
         let Some(next) = entry.goto else {
             return Ok(sent);
         };

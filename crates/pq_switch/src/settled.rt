@@ -1,10 +1,9 @@
 ghost use Rattle.std.specs.Prelude.{◌≡◌, IfOk};
-ghost use Rattle.pq_model.specs.SwitchMachine.{copies, sends};
+ghost use Rattle.pq_model.specs.SwitchMachine.{sends};
 
 use crate::groups::Groups;
 use crate::listing::Listing;
-use crate::sending::{MOST_TABLES, run};
-use crate::sorting::sort;
+use crate::sending::sent_from;
 use pq_model::{Sent, Tagged};
 use std::alloc::{AllocError, Global};
 use std::marker::Model;
@@ -38,28 +37,6 @@ impl Settled {
     pub fn hop(&self, alloc: Global, arriving: &Tagged) -> Result<Vec<Sent>, AllocError>
         ensures { IfOk result (λ sent. sent.items ≡ sends self.now arriving.now) }
     {
-        let mut sent = copies(alloc, self, *arriving)?;
-        sort(&mut sent)?;
-        Ok(sent)
+        sent_from(alloc, self, arriving)
     }
-}
-
-// The copies of a packet in the order of the actions.
-#[tactic(auto, unfolding(pq_model::specs::SwitchMachine::copies))]
-fn copies(alloc: Global, tables: &Settled, mut x: Tagged) -> Result<Vec<Sent>, AllocError>
-    ensures { IfOk result (λ sent. sent.items ≡ copies tables.now x) }
-{
-    let mut sent = Vec::new(alloc);
-    let mut table = 0;
-    for _passed in 0..MOST_TABLES {
-        let Some(entry) = tables.entries.taken(table, &x) else {
-            return Ok(sent);
-        };
-        x = run(&tables.groups, &entry.actions, x, &mut sent)?;
-        let Some(next) = entry.goto else {
-            return Ok(sent);
-        };
-        table = next;
-    }
-    Ok(sent)
 }

@@ -4,4 +4,5 @@ use Rattle.pq_switch.proofs.sending.copies.Given as goal
 
 -- what is sent, with what the tables to come send, is all
 abbrev pub invariant-loop-passed : goal.invariant-loop-passed
-invariant-loop-passed l = l.sent.items ++ sent_from_table (255 - l._passed) l.tables l.table l.x ≡ copies l.tables l.initial.x
+invariant-loop-passed g l =
+    l.sent.items ++ sent_from_table (255 - l._passed) (g.T.FlowTables.tables l.tables) l.table l.x ≡ copies (g.T.FlowTables.tables l.tables) l.initial.x
