@@ -4,18 +4,9 @@ ghost use Rattle.pq_fields.specs.Packet.{rank};
 ghost use Rattle.pq_store.specs.Store.{Keeps};
 ghost use Rattle.pq_apply.specs.Atoms.{IsInnerAt, MakesAt, ip_tree, present_tree, protocol_tree, type_tree};
 
-use pq_fields::Field;
+use pq_fields::{Field, IPV4, IPV6, TCP, UDP};
 use pq_store::{NodeId, Store, Test};
 use std::alloc::AllocError;
-
-/// The EtherType of IPv4.
-const IPV4: u64 = 0x0800;
-/// The EtherType of IPv6.
-const IPV6: u64 = 0x86dd;
-/// The IP protocol number of TCP.
-const TCP: u64 = 6;
-/// The IP protocol number of UDP.
-const UDP: u64 = 17;
 
 /// The diagram of the packets that have the field and reach `true` in a diagram of tests of that field.
 pub(crate) fn where_present(

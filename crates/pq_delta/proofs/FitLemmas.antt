@@ -9,7 +9,8 @@ use Rattle.pq_model.specs.declared.group_mod.GroupCommand.TheVariants.{Modify}
 use Rattle.pq_model.specs.declared.message.Message.{Message}
 use Rattle.pq_model.specs.declared.message.Message.TheVariants.{Flow, Group}
 use Rattle.pq_model.specs.Mods.{FlowValue}
-use Rattle.pq_model.specs.SwitchMachine.{Entry, Groups, Tables, all_groups, applies, applies_all, groups_named, is_placed}
+use Rattle.pq_model.specs.SwitchMachine.{Entry, Groups, Tables, applies, applies_all, groups_named, is_placed}
+use Rattle.pq_model.specs.declared.reserved.TheConstants.{ALL_GROUPS}
 use Rattle.pq_model.specs.Orders.{HaveOwnPriorities}
 use Rattle.pq_model.proofs.FreeOfOrder.{adds-leave}
 use Rattle.pq_model.proofs.Reorderings.{all-front}
@@ -78,11 +79,11 @@ adds-fit xid (e ∷ es) front groups (here, rest) own =
 -- Groups.
 
 pub group_deletes-fit : (xid number : ℕ) (es : List Entry) (done : Pairs) (gone : List Buckets) → Under number done
-    → number + length gone ≤ all_groups → NameBelow number es →
+    → number + length gone ≤ ALL_GROUPS → NameBelow number es →
     AllFit (record { entries = es; groups = groups_with (done ++ numbered_from number gone) }) (map Group (group_deletes_from xid number (length gone)))
 group_deletes-fit xid number es done [] under few named = tt
 group_deletes-fit xid number es done (b ∷ gone) under few named =
-    let less : number < all_groups = omega (arith, few) in (
+    let less : number < ALL_GROUPS = omega (arith, few) in (
       (
         there done number b (numbered_from (suc number) gone) under,
         all-not_hit (groups_with (done ++ (number, b) ∷ numbered_from (suc number) gone)) number es (no_all number less)

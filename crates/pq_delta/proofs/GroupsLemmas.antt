@@ -12,7 +12,8 @@ use Rattle.std.proofs.lemmas.Bool.Decides.{nat_tests}
 use Rattle.pq_model.specs.declared.group_mod.GroupCommand.TheVariants.{Add, Modify, Delete}
 use Rattle.pq_model.specs.declared.message.Message.TheVariants.{Group}
 use Rattle.pq_model.specs.Mods.{GroupValue}
-use Rattle.pq_model.specs.SwitchMachine.{Entry, Groups, Tables, all_groups, applies, applies_all, groups_named, is_removed, no_groups, removed_from}
+use Rattle.pq_model.specs.SwitchMachine.{Entry, Groups, Tables, applies, applies_all, groups_named, is_removed, no_groups, removed_from}
+use Rattle.pq_model.specs.declared.reserved.TheConstants.{ALL_GROUPS}
 use Rattle.pq_delta.specs.Added.{Buckets}
 use Rattle.pq_delta.specs.Changes.{group_delete_of, group_deletes_from, group_mod_of, group_mods_from, puts_from}
 use Rattle.pq_delta.specs.Equal.{same_buckets}
@@ -94,7 +95,7 @@ seek-after q (e ∷ done) es none = by (q == e.0) refl (seek-after q done es)
 
 -- One group taken out, changed, put in.
 
-removed_one : (done es : Pairs) (k : ℕ) (b : Buckets) → (k == all_groups) ≡ false → seek k done ≡ None → seek k es ≡ None
+removed_one : (done es : Pairs) (k : ℕ) (b : Buckets) → (k == ALL_GROUPS) ≡ false → seek k done ≡ None → seek k es ≡ None
     → removed_from (groups_with (done ++ (k, b) ∷ es)) k ≡ groups_with (done ++ es)
 removed_one done es k b some before behind =
     ap (λ c. if c then no_groups else remove (groups_with (done ++ (k, b) ∷ es)) k) some ∙ same_groups _ _ at
@@ -147,7 +148,7 @@ put_one done k b before = same_groups _ _ at
 abbrev pub NameBelow : ℕ → List Entry → Type 0
 NameBelow n es = (k : ℕ) → n ≤ k → AllByRecursion (λ e. list_any (λ m. m == k) (groups_named e.actions) ≡ false) es
 
-not_hit : (groups : Groups) (k : ℕ) (ns : List ℕ) → (k == all_groups) ≡ false → list_any (λ m. m == k) ns ≡ false → list_any (is_removed groups k) ns ≡ false
+not_hit : (groups : Groups) (k : ℕ) (ns : List ℕ) → (k == ALL_GROUPS) ≡ false → list_any (λ m. m == k) ns ≡ false → list_any (is_removed groups k) ns ≡ false
 not_hit groups k [] some none = refl
 not_hit groups k (n ∷ ns) some none = by (n == k) refl (not_hit groups k ns some)
   where
@@ -155,7 +156,7 @@ not_hit groups k (n ∷ ns) some none = by (n == k) refl (not_hit groups k ns so
         → (is_removed groups k n || list_any (is_removed groups k) ns) ≡ false
     by true is rest = absurd (let no : true || list_any (λ m. m == k) ns ≡ false = sym (ap (λ b. b || list_any (λ m. m == k) ns) is) ∙ none in cc)
     by false is rest =
-        let apart : (if k == all_groups then true else n == k) ≡ false = ap (λ b. if b then true else n == k) some ∙ is in
+        let apart : (if k == ALL_GROUPS then true else n == k) ≡ false = ap (λ b. if b then true else n == k) some ∙ is in
         let kept : is_removed groups k n ≡ false = ap (λ b. contains_key groups n && b) apart ∙ and_false (contains_key groups n) in
         ap (λ b. b || list_any (is_removed groups k) ns) kept ∙ rest (sym (ap (λ b. b || list_any (λ m. m == k) ns) is) ∙ none)
       where
@@ -164,7 +165,7 @@ not_hit groups k (n ∷ ns) some none = by (n == k) refl (not_hit groups k ns so
         and_false false = refl
 
 -- no entry goes with a group that none names
-pub all-not_hit : (groups : Groups) (k : ℕ) (es : List Entry) → (k == all_groups) ≡ false
+pub all-not_hit : (groups : Groups) (k : ℕ) (es : List Entry) → (k == ALL_GROUPS) ≡ false
     → AllByRecursion (λ e. list_any (λ m. m == k) (groups_named e.actions) ≡ false) es
     → AllByRecursion (λ e. list_any (is_removed groups k) (groups_named e.actions) ≡ false) es
 all-not_hit groups k [] some all = tt
@@ -186,11 +187,11 @@ there done k b es under =
 pub free : (done : Pairs) (k : ℕ) → Under k done → contains_key (groups_with (done ++ [])) k ≡ false
 free done k under = ap is_some (seek-get (done ++ []) k ∙ ap (seek k) (append-nil done) ∙ seek-under k done under)
 
-pub no_all : (k : ℕ) → k < all_groups → (k == all_groups) ≡ false
+pub no_all : (k : ℕ) → k < ALL_GROUPS → (k == ALL_GROUPS) ≡ false
 no_all k less = grind (arith, nat_tests)
 
 pub deleted_step : (xid number : ℕ) (es : List Entry) (done : Pairs) (b : Buckets) (gone : List Buckets) → Under number done
-    → number < all_groups → NameBelow number es →
+    → number < ALL_GROUPS → NameBelow number es →
     applies (record {
       entries = es;
       groups = groups_with (done ++ (number, b) ∷ numbered_from (suc number) gone);
@@ -237,7 +238,7 @@ under-weaker number (e ∷ es) (here, rest) = (omega (arith, here), under-weaker
 
 -- DELETEs of the last groups leave those before, and all entries
 pub group_deletes-leave : (xid number : ℕ) (es : List Entry) (done : Pairs) (gone : List Buckets) → Under number done
-    → number + length gone ≤ all_groups → NameBelow number es →
+    → number + length gone ≤ ALL_GROUPS → NameBelow number es →
     applies_all (record { entries = es; groups = groups_with (done ++ numbered_from number gone) })
     (map Group (group_deletes_from xid number (length gone))) ≡ record { entries = es; groups = groups_with done }
 group_deletes-leave xid number es done [] under few named = λ i. record { entries = es; groups = groups_with (append-nil done i) }

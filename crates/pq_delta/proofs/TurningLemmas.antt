@@ -11,7 +11,8 @@ use Rattle.pq_model.specs.declared.group_mod.GroupCommand.TheVariants.{Add as Ad
 use Rattle.pq_model.specs.declared.message.Message.{Message}
 use Rattle.pq_model.specs.declared.message.Message.TheVariants.{Flow, Group, Barrier}
 use Rattle.pq_model.specs.Mods.{FlowValue, GroupValue}
-use Rattle.pq_model.specs.SwitchMachine.{Entry, Groups, Tables, all_groups, applies_all, entry_of, groups_named}
+use Rattle.pq_model.specs.SwitchMachine.{Entry, Groups, Tables, applies_all, entry_of, groups_named}
+use Rattle.pq_model.specs.declared.reserved.TheConstants.{ALL_GROUPS}
 use Rattle.pq_model.specs.Orders.{AreSame, HaveOwnPriorities, IsFreeOfOrder, IsLawfulOrder, IsReordering}
 use Rattle.pq_model.specs.Renewal.{IsRenewing, Renewal, added_groups, renewal_messages, renewed}
 use Rattle.pq_model.proofs.FreeOfOrder.{adds-free, adds-leave, deletes-free, free-parted, puts-free}
@@ -196,7 +197,7 @@ module _ (es fs : List Entry) (bs cs : List Buckets) where
           next : 1 + length cs ≡ suc (length cs)
           next = omega arith
 
-          few_gone : suc (length cs) + length (drop (length cs) bs) ≤ all_groups
+          few_gone : suc (length cs) + length (drop (length cs) bs) ≤ ALL_GROUPS
           few_gone = let left = length-drop (length cs) bs in omega (arith, left, few, few_new)
 
       groups_put : applies_all (stand kept (take (length cs) bs)) (map Group mods) ≡ stand kept cs
@@ -235,7 +236,7 @@ module _ (es fs : List Entry) (bs cs : List Buckets) where
           next : 1 + length cs ≡ suc (length cs)
           next = omega arith
 
-          few_gone : suc (length cs) + length (drop (length cs) bs) ≤ all_groups
+          few_gone : suc (length cs) + length (drop (length cs) bs) ≤ ALL_GROUPS
           few_gone = let left = length-drop (length cs) bs in omega (arith, left, few, few_new)
 
       groups_put_fit : AllFit (stand kept (take (length cs) bs)) (map Group mods)

@@ -12,6 +12,7 @@ use Rattle.pq_model.specs.Mods.{FlowValue, GroupValue}
 use Rattle.pq_model.specs.Renewal.{IsRenewing, Renewal}
 use Rattle.pq_model.specs.SwitchMachine.{Tables, applies, groups_named, is_placed, is_removed}
 use Rattle.pq_delta.specs.Added.{groups_added}
+use Rattle.pq_model.specs.declared.reserved.TheConstants.{LAST_PORT}
 
 -- this many numbers from one on
 abbrev pub numbers_from : ℕ → ℕ → List ℕ
@@ -22,7 +23,7 @@ numbers_from n (suc more) = n ∷ numbers_from (suc n) more
 pub record IsNumberedRenewal (r : Renewal) : Type 0 where
   pub renewing : IsRenewing r
   pub numbers : map (λ g. g.group) r.groups ≡ numbers_from 1 (length r.groups)
-  pub few : length r.groups ≤ 0xffffff00
+  pub few : length r.groups ≤ LAST_PORT
 
 -- an Add finds its place free and its groups there; a DeleteStrict finds an entry
 abbrev pub FitsFlow : FlowCommand → FlowValue → Tables → Type 0
@@ -50,4 +51,4 @@ AllFit t (m ∷ ms) = Fits t m × AllFit (applies t m) ms
 
 -- no more groups than there are numbers of groups
 abbrev pub HasFewGroups : List Message → Type 0
-HasFewGroups ms = length (groups_added ms) ≤ 0xffffff00
+HasFewGroups ms = length (groups_added ms) ≤ LAST_PORT

@@ -3,6 +3,7 @@ use Rattle.std.specs.Prelude.{ℕ, ◌-◌, ◌/◌, ◌%◌, ◌^◌, ◌<◌, 
 use Rattle.pq_fields.specs.declared.field.Field.{Field}
 use Rattle.pq_fields.specs.declared.field.Field.TheVariants.{Switch, Port, EthType, IpProto, EthSrc, EthDst, Ipv4Src, Ipv4Dst, TcpSrc}
 use Rattle.pq_fields.specs.declared.field.Field.TheVariants.{TcpDst, UdpSrc, UdpDst, Ipv6Src, Ipv6Dst}
+use Rattle.pq_fields.specs.declared.protocols.TheConstants.{IPV4, IPV6, TCP, UDP}
 
 -- the numbers of a packet, in field order
 pub record Numbers : Type 0 where
@@ -112,21 +113,21 @@ with_number Ipv6Dst n x = record x { ipv6_dst = n }
 
 -- the EtherTypes of IPv4 and IPv6
 abbrev pub is_ipv4 : Numbers → Bool
-is_ipv4 x = x.eth_type == 0x0800
+is_ipv4 x = x.eth_type == IPV4
 
 abbrev pub is_ipv6 : Numbers → Bool
-is_ipv6 x = x.eth_type == 0x86dd
+is_ipv6 x = x.eth_type == IPV6
 
 abbrev pub is_ip : Numbers → Bool
 is_ip x = is_ipv4 x || is_ipv6 x
 
 abbrev pub is_tcp : Numbers → Bool
-is_tcp x = is_ip x && (x.ip_proto == 6)
+is_tcp x = is_ip x && (x.ip_proto == TCP)
 
 abbrev pub is_udp : Numbers → Bool
-is_udp x = is_ip x && (x.ip_proto == 17)
+is_udp x = is_ip x && (x.ip_proto == UDP)
 
--- whether the packet has the field (the prerequisites of OpenFlow 1.3.5, section 7.2.3.7)
+-- whether the packet has the field (the prerequisites of OpenFlow 1.3.5, section 7.2.3.6)
 abbrev pub has_field : Field → Numbers → Bool
 has_field Switch x = true
 has_field Port x = true

@@ -3,17 +3,9 @@ ghost use Rattle.pq_fields.specs.Packet.{has_field, is_ip, is_ipv4, is_ipv6, is_
 
 use crate::field::Field;
 use crate::packet::Packet;
+use crate::protocols::{IPV4, IPV6, TCP, UDP};
 
-/// The EtherType of IPv4.
-const IPV4: u64 = 0x0800;
-/// The EtherType of IPv6.
-const IPV6: u64 = 0x86dd;
-/// The IP protocol number of TCP.
-const TCP: u64 = 6;
-/// The IP protocol number of UDP.
-const UDP: u64 = 17;
-
-/// Whether the packet has the field: the prerequisites of OpenFlow 1.3.5, section 7.2.3.7.
+/// Whether the packet has the field: the prerequisites of OpenFlow 1.3.5, section 7.2.3.6.
 pub fn has(field: Field, x: &Packet) -> bool
     ensures { result ≡ has_field field x.now }
 {

@@ -4,7 +4,7 @@ ghost use Rattle.pq_model.specs.Lawful.{IsLawfulAction};
 ghost use Rattle.pq_model.specs.Spelling.{action_bytes, actions_bytes, max_len};
 
 use crate::set_field::{write_set_field, write_set_vlan};
-use pq_model::Action;
+use pq_model::{Action, CONTROLLER};
 use std::alloc::{AllocError, Global};
 
 /// The type of an action that sends to a port (OpenFlow 1.3.5, section 7.2.5).
@@ -18,9 +18,6 @@ pub const POP_VLAN: u8 = 18;
 
 /// The type of an action that runs a group.
 pub const GROUP: u8 = 22;
-
-/// The port number that stands for the controller (OpenFlow 1.3.5, section 7.2.1).
-pub const CONTROLLER: u32 = 0xffff_fffd;
 
 // The room for a spelling of actions to begin with, in bytes: four actions need no more.
 const ROOM: usize = 64;

@@ -12,20 +12,10 @@ ghost use Rattle.pq_model.specs.Lawful.{
   IsSettable,
   bucket_place,
 };
-ghost use Rattle.pq_model.specs.SwitchMachine.{all_groups};
+ghost use Rattle.pq_model.specs.declared.reserved.TheConstants.{ALL_GROUPS};
 
-use crate::action::CONTROLLER;
 use pq_fields::Field;
-use pq_model::Action;
-
-// The greatest number of a port or a group (OpenFlow 1.3.5, sections 7.2.1 and 7.3.4.2).
-const GREATEST: u32 = 0xffff_ff00;
-
-// The port number that stands for the arriving port.
-const IN_PORT: u32 = 0xffff_fff8;
-
-// The number that stands for all groups.
-const ALL: u32 = 0xffff_fffc;
+use pq_model::{ALL_GROUPS, Action, CONTROLLER, IN_PORT, LAST_PORT};
 
 // The greatest number of a table.
 const LAST_TABLE: u8 = 254;
@@ -48,7 +38,7 @@ fn is_lawful(action: Action) -> bool
 {
     match action {
         Action::Output(port) => {
-            (1 <= port && port <= GREATEST) || port == IN_PORT || port == CONTROLLER
+            (1 <= port && port <= LAST_PORT) || port == IN_PORT || port == CONTROLLER
         }
         Action::PushVlan | Action::PopVlan | Action::Group(_) => true,
         Action::SetVlan(word) => 0x1001 <= word && word <= 0x1ffe,
@@ -102,14 +92,14 @@ pub fn is_addition(table: u8, actions: &[Action], goto: Option<u8>) -> bool
 pub fn is_group_number(number: u32) -> bool
     ensures { IsTrue result ↔ IsGroupNumber number }
 {
-    1 <= number && number <= GREATEST
+    1 <= number && number <= LAST_PORT
 }
 
 /// Whether the number is that of a group that is removed, or stands for all groups.
 pub fn is_removed(number: u32) -> bool
-    ensures { IsTrue result ↔ (IsGroupNumber number ⊎ (number ≡ all_groups)) }
+    ensures { IsTrue result ↔ (IsGroupNumber number ⊎ (number ≡ ALL_GROUPS)) }
 {
-    is_group_number(number) || number == ALL
+    is_group_number(number) || number == ALL_GROUPS
 }
 
 // A field's place in field order.

@@ -8,7 +8,7 @@ use Rattle.pq_fields.specs.declared.field.Field.TheVariants.{EthSrc, EthDst, Ipv
 use Rattle.pq_fields.specs.Writes.{Written}
 use Rattle.pq_model.specs.declared.action.Action.{Action}
 use Rattle.pq_model.specs.declared.action.Action.TheVariants.{Output, PushVlan, PopVlan, SetVlan, SetField}
-use Rattle.pq_model.specs.SwitchMachine.{in_port_number, controller_number}
+use Rattle.pq_model.specs.declared.reserved.TheConstants.{CONTROLLER, IN_PORT}
 use Rattle.pq_rewrite.specs.declared.outgoing.OutKind.{OutKind}
 use Rattle.pq_rewrite.specs.declared.outgoing.OutKind.TheVariants.{Send, CaptureOut}
 use Rattle.pq_rewrite.specs.declared.outgoing.Outgoing.{Outgoing}
@@ -35,7 +35,7 @@ untagging_actions false = []
 
 -- the actions of an arrival: its tag, and a copy to the collector where it captures
 abbrev pub arrival_actions : Bool → Arrive → List Action
-arrival_actions tagged a = tagging_actions tagged a.tag ++ (if a.capture then Output controller_number ∷ [] else [])
+arrival_actions tagged a = tagging_actions tagged a.tag ++ (if a.capture then Output CONTROLLER ∷ [] else [])
 
 -- the number that is written into a header field
 abbrev pub set_field : Field → Option ℕ → List Action
@@ -50,8 +50,8 @@ header_actions w =
 
 -- where a copy goes: to the collector, to the written port, or back where none is written
 abbrev pub output_port : OutKind → Written → ℕ
-output_port Send w = unwrap_or w.port in_port_number
-output_port CaptureOut w = controller_number
+output_port Send w = unwrap_or w.port IN_PORT
+output_port CaptureOut w = CONTROLLER
 
 abbrev pub tag_actions : Bool → Option ℕ → List Action
 tag_actions tagged None = untagging_actions tagged

@@ -13,7 +13,7 @@ use Rattle.pq_model.specs.declared.message.Message.{Message}
 use Rattle.pq_model.specs.MatchFields.{MatchFields, empty_match}
 use Rattle.pq_model.specs.Mods.{FlowValue, GroupValue}
 use Rattle.pq_model.specs.Renewal.{Renewal, renewal_messages}
-use Rattle.pq_model.specs.SwitchMachine.{all_groups}
+use Rattle.pq_model.specs.declared.reserved.TheConstants.{ALL_GROUPS}
 use Rattle.pq_rewrite.specs.declared.outgoing.Outgoing.{Outgoing}
 use Rattle.pq_rewrite.specs.declared.trees.Arrive.{Arrive}
 use Rattle.pq_store.specs.Tree.{Tree}
@@ -122,7 +122,7 @@ abbrev pub delete_entries : FlowValue
 delete_entries = record { xid = 1; cookie = 0; table = 0xff; command = DeleteAll; priority = 0; matching = empty_match; actions = []; goto = None }
 
 abbrev pub delete_groups : GroupValue
-delete_groups = record { xid = 2; command = Delete; group = all_groups; buckets = [] }
+delete_groups = record { xid = 2; command = Delete; group = ALL_GROUPS; buckets = [] }
 
 -- groups and the rules of both tables as messages, with xids from 1 on: all is deleted, groups are added, then entries
 abbrev pub renewal_with : List Buckets → List Rule → List Rule → Renewal

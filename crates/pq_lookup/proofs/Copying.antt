@@ -14,7 +14,8 @@ use Rattle.pq_model.specs.declared.action.Action.TheVariants.{Output, PushVlan, 
 use Rattle.pq_model.specs.declared.tagged.Sent.{Sent}
 use Rattle.pq_model.specs.declared.tagged.Sent.TheVariants.{Port}
 use Rattle.pq_model.specs.MatchFields.{IsPortNumber}
-use Rattle.pq_model.specs.SwitchMachine.{Groups, changed, changed_by, controller_number, emits, emits_in_bucket, in_port_number, outputs, runs}
+use Rattle.pq_model.specs.SwitchMachine.{Groups, changed, changed_by, emits, emits_in_bucket, outputs, runs}
+use Rattle.pq_model.specs.declared.reserved.TheConstants.{CONTROLLER, IN_PORT}
 use Rattle.pq_model.specs.Tagged.{TaggedPacket}
 use Rattle.pq_rewrite.specs.declared.outgoing.OutKind.{OutKind}
 use Rattle.pq_rewrite.specs.declared.outgoing.OutKind.TheVariants.{Send, CaptureOut}
@@ -105,10 +106,10 @@ tag-changes (Some u) x t = λ i. record { packet = x; vlan = Some (back i) }
 
 -- an Output to the written port, or back
 port-sends : (o : Option ℕ) (y : TaggedPacket) → IfSome o IsPortNumber → ((p : ℕ) → o ≡ Some p → y.packet.port ≢ p) →
-    outputs (unwrap_or o in_port_number) y ≡ Port (record y { packet = record y.packet { port = unwrap_or o y.packet.port } }) ∷ []
+    outputs (unwrap_or o IN_PORT) y ≡ Port (record y { packet = record y.packet { port = unwrap_or o y.packet.port } }) ∷ []
 port-sends None y port other = refl
 port-sends (Some p) y port other =
-    rw (ne_eqb p in_port_number (λ e. omega arith), ne_eqb p controller_number (λ e. omega arith), ne_eqb p y.packet.port (λ e. other p refl (sym e))) refl
+    rw (ne_eqb p IN_PORT (λ e. omega arith), ne_eqb p CONTROLLER (λ e. omega arith), ne_eqb p y.packet.port (λ e. other p refl (sym e))) refl
 
 -- what is asked of a copy: it is written to a port of a switch, and not to the arriving one
 pub record IsSendable (x : Numbers) (c : Outgoing) : Type 0 where

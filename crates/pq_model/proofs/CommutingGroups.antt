@@ -13,7 +13,8 @@ use Rattle.pq_model.specs.declared.group_mod.GroupCommand.{GroupCommand}
 use Rattle.pq_model.specs.declared.group_mod.GroupCommand.TheVariants.{Add, Modify, Delete}
 use Rattle.pq_model.specs.declared.message.Message.TheVariants.{Group}
 use Rattle.pq_model.specs.Mods.{GroupValue}
-use Rattle.pq_model.specs.SwitchMachine.{Entry, Groups, Tables, all_groups, groups_named, is_removed, removed_from, no_groups, changes_groups}
+use Rattle.pq_model.specs.SwitchMachine.{Entry, Groups, Tables, groups_named, is_removed, removed_from, no_groups, changes_groups}
+use Rattle.pq_model.specs.declared.reserved.TheConstants.{ALL_GROUPS}
 use Rattle.pq_model.specs.Orders.{Commute}
 use Rattle.pq_model.proofs.SameTables.{same-equal}
 use Rattle.pq_model.proofs.Filters.{filter-filter}
@@ -73,10 +74,10 @@ put-put f g isf isg apart t = same-equal _ _
 
 -- whether deleting the group of this number hits number n
 abbrev is_hit : ℕ → ℕ → Bool
-is_hit number n = if number == all_groups then true else n == number
+is_hit number n = if number == ALL_GROUPS then true else n == number
 
 get-removed : (groups : Groups) (k q : ℕ) → get (removed_from groups k) q ≡ (if is_hit k q then None else get groups q)
-get-removed groups k q = by (k == all_groups)
+get-removed groups k q = by (k == ALL_GROUPS)
   where
     by : (b : Bool) → get (if b then no_groups else remove groups k) q ≡ (if (if b then true else q == k) then None else get groups q)
     by true = get-empty nat_cmp q

@@ -10,14 +10,14 @@ use Rattle.pq_model.specs.declared.message.Message.{Message}
 use Rattle.pq_model.specs.declared.message.Message.TheVariants.{Flow, Group as Grouping, Barrier}
 use Rattle.pq_model.specs.MatchFields.{MatchFields, empty_match}
 use Rattle.pq_model.specs.Topology.{Switch, Link, Topology}
-use Rattle.pq_model.specs.SwitchMachine.{all_groups}
+use Rattle.pq_model.specs.declared.reserved.TheConstants.{ALL_GROUPS}
 use Rattle.pq_model.specs.Install.{Install}
 
 abbrev pub delete_entries : Message
 delete_entries = Flow (record { xid = 1; cookie = 0; table = 0xff; command = DeleteAll; priority = 0; matching = empty_match; actions = []; goto = None })
 
 abbrev pub delete_groups : Message
-delete_groups = Grouping (record { xid = 2; command = Delete; group = all_groups; buckets = [] })
+delete_groups = Grouping (record { xid = 2; command = Delete; group = ALL_GROUPS; buckets = [] })
 
 abbrev pub add : ℕ → ℕ → ℕ → MatchFields → List Action → Option ℕ → Message
 add xid table priority matching actions goto = Flow (record {

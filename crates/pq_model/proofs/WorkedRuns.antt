@@ -15,7 +15,8 @@ use Rattle.pq_model.specs.Topology.{Topology, is_port}
 use Rattle.pq_model.specs.Word.{Word, In, Out}
 use Rattle.pq_model.specs.Buckets.{Instance}
 use Rattle.pq_model.specs.Meaning.{Meaning, Stranger, at_rest, run}
-use Rattle.pq_model.specs.SwitchMachine.{Tables, no_tables, applies_all, copies, sends, in_port_number, controller_number}
+use Rattle.pq_model.specs.SwitchMachine.{Tables, no_tables, applies_all, copies, sends}
+use Rattle.pq_model.specs.declared.reserved.TheConstants.{CONTROLLER, IN_PORT}
 use Rattle.pq_model.specs.Orders.{IsLawfulOrder}
 use Rattle.pq_model.specs.declared.message.Message.{Message}
 use Rattle.pq_model.specs.declared.message.Message.TheVariants.{Flow, Group as Grouping, Barrier}
@@ -55,14 +56,14 @@ unfolding copies covers same_match
 header_dropped = refl
 
 -- IN_PORT sends back, and the number of the arriving port sends nothing
-sent_back : sends (applies_all no_tables (add 1 0 9 empty_match (Output in_port_number ∷ Output 1 ∷ []) None ∷ [])) (plain (at 1 1))
+sent_back : sends (applies_all no_tables (add 1 0 9 empty_match (Output IN_PORT ∷ Output 1 ∷ []) None ∷ [])) (plain (at 1 1))
     ≡ Port (plain (at 1 1)) ∷ []
 unfolding copies covers same_match
 sent_back = refl
 
 -- copies to ports come first and in packet order; a controller copy has the arriving port and the header of its moment
 copied : sends (applies_all no_tables
-    (add 1 0 9 empty_match (PushVlan ∷ SetVlan 0x1003 ∷ Output controller_number ∷ Output 3 ∷ PopVlan ∷ Output 2 ∷ []) None ∷ []))
+    (add 1 0 9 empty_match (PushVlan ∷ SetVlan 0x1003 ∷ Output CONTROLLER ∷ Output 3 ∷ PopVlan ∷ Output 2 ∷ []) None ∷ []))
     (plain (at 1 1))
     ≡ Port (plain (at 1 2)) ∷ Port (tagged 3 (at 1 3)) ∷ Controller (tagged 3 (at 1 1)) ∷ []
 unfolding copies covers same_match

@@ -13,6 +13,7 @@ use Rattle.pq_model.specs.Buckets.{Instance, instance_numbers}
 use Rattle.pq_model.specs.TablesMachine.{Row, Report}
 use Rattle.pq_model.specs.Spelling.{message_bytes}
 use Rattle.pq_model.specs.Lawful.{Ascends, IsLawfulMessage}
+use Rattle.pq_fields.specs.declared.protocols.TheConstants.{IPV6}
 
 -- the topology, the names of the queries, the report, and the messages of each switch in the topology's order
 pub record Install : Type 0 where
@@ -133,7 +134,7 @@ old_spelling i = install_bytes 0x31 i
 
 -- a match that an install of the old spelling may have: no IPv6 address, and no IP_PROTO under the EtherType of IPv6
 abbrev pub IsOldMatch : MatchFields → Type 0
-IsOldMatch m = (m.ipv6_src ≡ None) × (m.ipv6_dst ≡ None) × (m.ip_proto ≢ None → m.eth_type ≢ Some 0x86dd)
+IsOldMatch m = (m.ipv6_src ≡ None) × (m.ipv6_dst ≡ None) × (m.ip_proto ≢ None → m.eth_type ≢ Some IPV6)
 
 abbrev pub IsOldMessage : Message → Type 0
 IsOldMessage (Flow f) = IsOldMatch f.matching

@@ -16,7 +16,7 @@ use Rattle.pq_model.specs.declared.message.Message.{Message}
 use Rattle.pq_model.specs.declared.message.Message.TheVariants.{Flow, Group as Grouping, Barrier}
 use Rattle.pq_model.specs.MatchFields.{IsLawfulMatch, IsPortNumber, IsTagWord, empty_match}
 use Rattle.pq_model.specs.Mods.{FlowValue, GroupValue}
-use Rattle.pq_model.specs.SwitchMachine.{in_port_number, controller_number, all_groups}
+use Rattle.pq_model.specs.declared.reserved.TheConstants.{ALL_GROUPS, CONTROLLER, IN_PORT, LAST_PORT}
 use Rattle.pq_model.specs.Spelling.{message_bytes}
 
 -- the header fields that a policy writes
@@ -38,7 +38,7 @@ IsSettable Ipv6Dst = ⊥
 
 -- an Output goes to a port, back, or to the controller
 abbrev pub IsLawfulAction : Action → Type 0
-IsLawfulAction (Output port) = IsPortNumber port ⊎ (port ≡ in_port_number) ⊎ (port ≡ controller_number)
+IsLawfulAction (Output port) = IsPortNumber port ⊎ (port ≡ IN_PORT) ⊎ (port ≡ CONTROLLER)
 IsLawfulAction PushVlan = Unit {0}
 IsLawfulAction PopVlan = Unit {0}
 IsLawfulAction (Group n) = n < 2 ^ 32
@@ -88,7 +88,7 @@ pub record IsLawfulBucket (actions : List Action) : Type 0 where
 
 -- the number of a group
 abbrev pub IsGroupNumber : ℕ → Type 0
-IsGroupNumber n = (1 ≤ n) × (n ≤ 0xffffff00)
+IsGroupNumber n = (1 ≤ n) × (n ≤ LAST_PORT)
 
 abbrev pub HasBuckets : List (List Action) → Type 0
 HasBuckets buckets = (buckets ≢ []) × All IsLawfulBucket buckets
@@ -96,7 +96,7 @@ HasBuckets buckets = (buckets ≢ []) × All IsLawfulBucket buckets
 abbrev pub IsLawfulGrouping : GroupCommand → GroupValue → Type 0
 IsLawfulGrouping AddGroup g = IsGroupNumber g.group × HasBuckets g.buckets
 IsLawfulGrouping Modify g = IsGroupNumber g.group × HasBuckets g.buckets
-IsLawfulGrouping Delete g = (IsGroupNumber g.group ⊎ (g.group ≡ all_groups)) × (g.buckets ≡ [])
+IsLawfulGrouping Delete g = (IsGroupNumber g.group ⊎ (g.group ≡ ALL_GROUPS)) × (g.buckets ≡ [])
 
 pub record IsLawfulGroup (g : GroupValue) : Type 0 where
   pub xid : g.xid < 2 ^ 32

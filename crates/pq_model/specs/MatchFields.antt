@@ -3,6 +3,8 @@ use Rattle.std.specs.Prelude.{◌≡◌, ℕ, ◌+◌, ◌^◌, ◌<◌, ◌≤�
 use Rattle.std.specs.declared.option.Option.{Option}
 use Rattle.std.specs.declared.option.Option.TheVariants.{None, Some}
 use Rattle.pq_model.specs.Tagged.{TaggedPacket}
+use Rattle.pq_model.specs.declared.reserved.TheConstants.{LAST_PORT}
+use Rattle.pq_fields.specs.declared.protocols.TheConstants.{IPV4, IPV6, TCP, UDP}
 
 pub record MatchFields : Type 0 where
   pub in_port : Option ℕ
@@ -41,7 +43,7 @@ empty_match = record {
 
 -- the number of a port that a switch may have
 abbrev pub IsPortNumber : ℕ → Type 0
-IsPortNumber p = (1 ≤ p) × (p ≤ 0xffffff00)
+IsPortNumber p = (1 ≤ p) × (p ≤ LAST_PORT)
 
 -- 0x1000 and a VLAN number from 1 to 4094 together
 abbrev pub IsTagWord : ℕ → Type 0
@@ -56,17 +58,17 @@ pub record IsLawfulMatch (m : MatchFields) : Type 0 where
   pub in_port : IfSome m.in_port IsPortNumber
   pub vlan : IfSome m.vlan (λ w. (w ≡ 0) ⊎ IsTagWord w)
   pub eth_type : IfSome m.eth_type (λ n. n < 2 ^ 16)
-  pub ip_proto : IfSome m.ip_proto (λ n. (n < 2 ^ 8) × ((m.eth_type ≡ Some 0x0800) ⊎ (m.eth_type ≡ Some 0x86dd)))
+  pub ip_proto : IfSome m.ip_proto (λ n. (n < 2 ^ 8) × ((m.eth_type ≡ Some IPV4) ⊎ (m.eth_type ≡ Some IPV6)))
   pub eth_src : IfSome m.eth_src (λ n. n < 2 ^ 48)
   pub eth_dst : IfSome m.eth_dst (λ n. n < 2 ^ 48)
-  pub ipv4_src : IfSome m.ipv4_src (λ a. IsMasked 32 a × (m.eth_type ≡ Some 0x0800))
-  pub ipv4_dst : IfSome m.ipv4_dst (λ a. IsMasked 32 a × (m.eth_type ≡ Some 0x0800))
-  pub tcp_src : IfSome m.tcp_src (λ n. (n < 2 ^ 16) × (m.ip_proto ≡ Some 6))
-  pub tcp_dst : IfSome m.tcp_dst (λ n. (n < 2 ^ 16) × (m.ip_proto ≡ Some 6))
-  pub udp_src : IfSome m.udp_src (λ n. (n < 2 ^ 16) × (m.ip_proto ≡ Some 17))
-  pub udp_dst : IfSome m.udp_dst (λ n. (n < 2 ^ 16) × (m.ip_proto ≡ Some 17))
-  pub ipv6_src : IfSome m.ipv6_src (λ a. IsMasked 128 a × (m.eth_type ≡ Some 0x86dd))
-  pub ipv6_dst : IfSome m.ipv6_dst (λ a. IsMasked 128 a × (m.eth_type ≡ Some 0x86dd))
+  pub ipv4_src : IfSome m.ipv4_src (λ a. IsMasked 32 a × (m.eth_type ≡ Some IPV4))
+  pub ipv4_dst : IfSome m.ipv4_dst (λ a. IsMasked 32 a × (m.eth_type ≡ Some IPV4))
+  pub tcp_src : IfSome m.tcp_src (λ n. (n < 2 ^ 16) × (m.ip_proto ≡ Some TCP))
+  pub tcp_dst : IfSome m.tcp_dst (λ n. (n < 2 ^ 16) × (m.ip_proto ≡ Some TCP))
+  pub udp_src : IfSome m.udp_src (λ n. (n < 2 ^ 16) × (m.ip_proto ≡ Some UDP))
+  pub udp_dst : IfSome m.udp_dst (λ n. (n < 2 ^ 16) × (m.ip_proto ≡ Some UDP))
+  pub ipv6_src : IfSome m.ipv6_src (λ a. IsMasked 128 a × (m.eth_type ≡ Some IPV6))
+  pub ipv6_dst : IfSome m.ipv6_dst (λ a. IsMasked 128 a × (m.eth_type ≡ Some IPV6))
 
 -- the VLAN_VID word of a packet: 0 without a header
 abbrev pub vlan_word : Option ℕ → ℕ

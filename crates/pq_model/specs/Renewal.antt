@@ -7,7 +7,8 @@ use Rattle.pq_model.specs.declared.group_mod.GroupCommand.TheVariants.{Add as Ad
 use Rattle.pq_model.specs.declared.message.Message.{Message}
 use Rattle.pq_model.specs.declared.message.Message.TheVariants.{Flow, Group, Barrier}
 use Rattle.pq_model.specs.Mods.{FlowValue, GroupValue}
-use Rattle.pq_model.specs.SwitchMachine.{Groups, Tables, all_groups, entry_of, groups_named}
+use Rattle.pq_model.specs.SwitchMachine.{Groups, Tables, entry_of, groups_named}
+use Rattle.pq_model.specs.declared.reserved.TheConstants.{ALL_GROUPS}
 use Rattle.pq_model.specs.Orders.{HaveOwnPriorities}
 
 -- two deletes, the groups and the entries that are added, and the xids of the barriers after these three
@@ -35,7 +36,7 @@ renewed r = record { entries = map entry_of r.entries; groups = added_groups r.g
 -- all is deleted; each group has a number of its own, each entry of a table a priority of its own, and the groups that entries name are added
 pub record IsRenewing (r : Renewal) : Type 0 where
   pub entries_away : r.entries_away.command ≡ DeleteAll
-  pub groups_away : (r.groups_away.command ≡ Delete) × (r.groups_away.group ≡ all_groups)
+  pub groups_away : (r.groups_away.command ≡ Delete) × (r.groups_away.group ≡ ALL_GROUPS)
   pub groups : AllByRecursion (λ g. g.command ≡ AddGroup) r.groups
   pub numbers : IsDistinct nat_eq (map (λ g. g.group) r.groups)
   pub entries : AllByRecursion (λ f. f.command ≡ AddFlow) r.entries

@@ -17,7 +17,7 @@ use Rattle.pq_model.specs.declared.message.Message.{Message}
 use Rattle.pq_model.specs.declared.message.Message.TheVariants.{Flow, Group as Grouping, Barrier}
 use Rattle.pq_model.specs.MatchFields.{MatchFields}
 use Rattle.pq_model.specs.Mods.{FlowValue, GroupValue}
-use Rattle.pq_model.specs.SwitchMachine.{controller_number}
+use Rattle.pq_model.specs.declared.reserved.TheConstants.{CONTROLLER}
 
 -- how many zeros make a length a multiple of eight
 abbrev pub padding : ℕ → ℕ
@@ -97,7 +97,7 @@ set_oxm Ipv6Dst n = []
 
 -- the whole packet goes to the controller, and none of it is kept back for a port
 abbrev pub max_len : ℕ → ℕ
-max_len port = if port == controller_number then 0xffff else 0
+max_len port = if port == CONTROLLER then 0xffff else 0
 
 -- an action with its type and its length
 unfoldable pub action_bytes : Action → List ℕ

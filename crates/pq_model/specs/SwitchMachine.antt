@@ -20,6 +20,7 @@ use Rattle.pq_model.specs.Tagged.{TaggedPacket, tagged_numbers}
 use Rattle.pq_model.specs.MatchFields.{MatchFields, covers, same_match}
 use Rattle.pq_model.specs.Mods.{FlowValue, GroupValue}
 use Rattle.pq_model.specs.Sorting.{sort_by}
+use Rattle.pq_model.specs.declared.reserved.TheConstants.{IN_PORT, CONTROLLER, ALL_GROUPS}
 
 pub record Entry : Type 0 where
   pub table : ℕ
@@ -43,13 +44,6 @@ no_groups = empty
 
 abbrev pub no_tables : Tables
 no_tables = record { entries = []; groups = no_groups }
-
--- the reserved port numbers
-abbrev pub in_port_number : ℕ
-in_port_number = 0xfffffff8
-
-abbrev pub controller_number : ℕ
-controller_number = 0xfffffffd
 
 -- Messages.
 
@@ -81,16 +75,12 @@ changes_entries AddFlow f t =
 changes_entries DeleteAll f t = record t { entries = [] }
 changes_entries DeleteStrict f t = record t { entries = filter (λ e. not (is_placed f e)) t.entries }
 
--- the number that names all groups
-abbrev pub all_groups : ℕ
-all_groups = 0xfffffffc
-
 -- whether deleting the group of this number removes the group with number n
 abbrev pub is_removed : Groups → ℕ → ℕ → Bool
-is_removed groups number n = contains_key groups n && (if number == all_groups then true else n == number)
+is_removed groups number n = contains_key groups n && (if number == ALL_GROUPS then true else n == number)
 
 abbrev pub removed_from : Groups → ℕ → Groups
-removed_from groups number = if number == all_groups then no_groups else remove groups number
+removed_from groups number = if number == ALL_GROUPS then no_groups else remove groups number
 
 -- an ADD of a number that is taken, and a MODIFY of one that isn't there, change nothing; DELETE takes the entries that name a removed group along
 abbrev pub changes_groups : GroupCommand → GroupValue → Tables → Tables
@@ -148,8 +138,8 @@ changed_by (a ∷ as_) x = changed_by as_ (changed a x)
 -- what an Output sends; to the number of the arriving port it sends nothing
 abbrev pub outputs : ℕ → TaggedPacket → List Sent
 outputs p x =
-    if p == in_port_number then Port x ∷ []
-    else if p == controller_number then Controller x ∷ []
+    if p == IN_PORT then Port x ∷ []
+    else if p == CONTROLLER then Controller x ∷ []
     else if p == x.packet.port then []
     else Port (record x { packet = record x.packet { port = p } }) ∷ []
 

@@ -16,6 +16,7 @@ mod matching;
 mod message;
 mod orders;
 mod renewal;
+mod reserved;
 mod simulation;
 mod tagged;
 
@@ -35,5 +36,6 @@ pub use orders::{
     lawful_orders_leave_the_same_tables, messages_keep_tables_the_same, same_tables_send_the_same,
 };
 pub use renewal::renewals_leave_what_they_add;
+pub use reserved::{ALL_GROUPS, CONTROLLER, IN_PORT, LAST_PORT};
 pub use simulation::{Correspondence, agreeing_hops_make_schedules_agree};
 pub use tagged::{Sent, Tagged};

@@ -6,21 +6,11 @@ ghost use Rattle.pq_model.specs.MatchFields.{
   IsPortNumber,
   IsTagWord,
 };
+ghost use Rattle.pq_fields.specs.declared.protocols.TheConstants.{IPV4, IPV6};
 
 use crate::fields::Fields;
-use pq_model::Match;
-
-// The Ethernet type of IPv4.
-const IPV4: u16 = 0x0800;
-
-// The Ethernet type of IPv6.
-const IPV6: u16 = 0x86dd;
-
-// The IP protocol of TCP.
-const TCP: u8 = 6;
-
-// The IP protocol of UDP.
-const UDP: u8 = 17;
+use pq_fields::{IPV4, IPV6, TCP, UDP};
+use pq_model::{LAST_PORT, Match};
 
 // A port is one that a switch may have (OpenFlow 1.3.5, section 7.2.1).
 fn is_in_port(value: Option<u32>) -> bool
@@ -28,7 +18,7 @@ fn is_in_port(value: Option<u32>) -> bool
 {
     match value {
         None => true,
-        Some(port) => 1 <= port && port <= 0xffff_ff00,
+        Some(port) => 1 <= port && port <= LAST_PORT,
     }
 }
 
@@ -54,23 +44,23 @@ fn is_mac(value: Option<u64>) -> bool
 
 // An IP protocol is beside the Ethernet type of IPv4 or IPv6.
 fn is_ip_proto(value: Option<u8>, eth_type: Option<u16>) -> bool
-    ensures { IsTrue result ↔ IfSome value (λ n. (n < 2 ^ 8) × ((eth_type ≡ Some 0x0800) ⊎ (eth_type ≡ Some 0x86dd))) }
+    ensures { IsTrue result ↔ IfSome value (λ n. (n < 2 ^ 8) × ((eth_type ≡ Some IPV4) ⊎ (eth_type ≡ Some IPV6))) }
 {
     match (value, eth_type) {
         (None, _) => true,
-        (Some(_), Some(number)) => number == IPV4 || number == IPV6,
+        (Some(_), Some(number)) => u64::from(number) == IPV4 || u64::from(number) == IPV6,
         (Some(_), None) => false,
     }
 }
 
 // An IPv4 address is beside the Ethernet type of IPv4. Its mask has a one, and it has none outside it.
 fn is_ipv4(value: Option<(u32, u32)>, eth_type: Option<u16>) -> bool
-    ensures { IsTrue result ↔ IfSome value (λ a. IsMasked 32 a × (eth_type ≡ Some 0x0800)) }
+    ensures { IsTrue result ↔ IfSome value (λ a. IsMasked 32 a × (eth_type ≡ Some IPV4)) }
 {
     match (value, eth_type) {
         (None, _) => true,
         (Some((address, mask)), Some(number)) => {
-            mask != 0 && address & mask == address && number == IPV4
+            mask != 0 && address & mask == address && u64::from(number) == IPV4
         }
         (Some(_), None) => false,
     }
@@ -78,24 +68,24 @@ fn is_ipv4(value: Option<(u32, u32)>, eth_type: Option<u16>) -> bool
 
 // An IPv6 address is beside the Ethernet type of IPv6. Its mask has a one, and it has none outside it.
 fn is_ipv6(value: Option<(u128, u128)>, eth_type: Option<u16>) -> bool
-    ensures { IsTrue result ↔ IfSome value (λ a. IsMasked 128 a × (eth_type ≡ Some 0x86dd)) }
+    ensures { IsTrue result ↔ IfSome value (λ a. IsMasked 128 a × (eth_type ≡ Some IPV6)) }
 {
     match (value, eth_type) {
         (None, _) => true,
         (Some((address, mask)), Some(number)) => {
-            mask != 0 && address & mask == address && number == IPV6
+            mask != 0 && address & mask == address && u64::from(number) == IPV6
         }
         (Some(_), None) => false,
     }
 }
 
 // A port of TCP or UDP is beside its IP protocol.
-fn is_port_of(value: Option<u16>, ip_proto: Option<u8>, protocol: u8) -> bool
+fn is_port_of(value: Option<u16>, ip_proto: Option<u8>, protocol: u64) -> bool
     ensures { IsTrue result ↔ IfSome value (λ n. (n < 2 ^ 16) × (ip_proto ≡ Some protocol)) }
 {
     match (value, ip_proto) {
         (None, _) => true,
-        (Some(_), Some(number)) => number == protocol,
+        (Some(_), Some(number)) => u64::from(number) == protocol,
         (Some(_), None) => false,
     }
 }

@@ -8,6 +8,7 @@ use Rattle.pq_model.specs.Topology.{Topology, ports_of}
 use Rattle.pq_policy.specs.declared.policy.Policy.{Policy}
 use Rattle.pq_policy.specs.declared.policy.Policy.TheOpen.{Policy-F}
 use Rattle.pq_policy.specs.declared.policy.Policy.TheFolds.{fold-Policy}
+use Rattle.pq_model.specs.MatchFields.{IsPortNumber}
 
 -- what is at the top of a policy
 pub data PolicyTop : Type 0 where
@@ -116,7 +117,7 @@ IsTopOver V Discard below = Unit {0}
 IsTopOver V Spread below = Unit {0}
 IsTopOver V (Only p) below = IsPredOver V p
 IsTopOver V (Write f n) below = (is_writable f ≡ true) × V f n
-IsTopOver V (Forward n) below = (1 ≤ n) × (n ≤ 4294967040)
+IsTopOver V (Forward n) below = IsPortNumber n
 IsTopOver V (Choose p) below = IsPredOver V p
 IsTopOver V Either below = below ≢ none
 IsTopOver V InTurn below = below ≢ none

@@ -13,6 +13,7 @@ use Rattle.pq_topo.specs.Naming.{Reading, faulty, unless, named, next, gathered}
 use Rattle.pq_pred.specs.Values.{field_at, value_of, within}
 use Rattle.pq_pred.specs.Predicates.{pred_of}
 use Rattle.pq_policy.specs.Policy.{PolicyTop, Pass, Discard, Spread, Only, Write, Forward, Choose, Either, InTurn, PolicyTree, leaf, policies, is_writable}
+use Rattle.pq_model.specs.declared.reserved.TheConstants.{LAST_PORT}
 
 -- the filter by the predicate below it
 abbrev pub filter_of : Topology → List ℕ → Token → Forest → Reading PolicyTree
@@ -41,7 +42,7 @@ write_of T bytes head (grown field below rest) = write_below T bytes field below
 -- the port below
 abbrev pub forward_of : List ℕ → Token → Forest → Reading PolicyTree
 forward_of bytes head nothing = faulty head BadValue
-forward_of bytes head (grown port x y) = next (named port (within 1 4294967040 (number_of (text_in bytes port)))) (λ n. Ok (leaf (Forward n)))
+forward_of bytes head (grown port x y) = next (named port (within 1 LAST_PORT (number_of (text_in bytes port)))) (λ n. Ok (leaf (Forward n)))
 
 -- the choice between two policies by the predicate that is the first child; the other two children are the policies
 abbrev pub choice_of : Topology → List ℕ → Token → Forest → List (Reading PolicyTree) → Reading PolicyTree

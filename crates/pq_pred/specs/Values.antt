@@ -18,6 +18,7 @@ use Rattle.pq_model.specs.Topology.{Topology, switch_named}
 use Rattle.pq_topo.specs.declared.fault.NameKind.{NameKind}
 use Rattle.pq_topo.specs.declared.fault.NameKind.TheVariants.{BadValue, UnknownSwitch, UnknownField}
 use Rattle.pq_topo.specs.Naming.{Reading, faulty}
+use Rattle.pq_model.specs.declared.reserved.TheConstants.{LAST_PORT}
 
 -- a value, or the rule that its text breaks
 abbrev pub Ruled : Type 0 → Type 0
@@ -52,7 +53,7 @@ switch_value T None = Err BadValue
 -- the number that a text stands for as a value of the field; no IPv6 address is one
 abbrev pub value_of : Topology → Field → List ℕ → Ruled ℕ
 value_of T Switch text = switch_value T (name_in text)
-value_of T Port text = within 1 4294967040 (number_of text)
+value_of T Port text = within 1 LAST_PORT (number_of text)
 value_of T EthType text = within 0 65535 (number_of text)
 value_of T IpProto text = within 0 255 (number_of text)
 value_of T EthSrc text = or_else BadValue (mac_of text)

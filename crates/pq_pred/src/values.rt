@@ -3,6 +3,7 @@ ghost use Rattle.std.specs.Prelude.{◌≡◌, ◌≤◌, option_map, IfOk};
 ghost use Rattle.pq_term.specs.Numbers.{number_of};
 ghost use Rattle.pq_topo.specs.Naming.{IsAnswer};
 ghost use Rattle.pq_pred.specs.Values.{field_at, name_in, or_else, switch_value, value_of, within};
+ghost use Rattle.pq_model.specs.declared.reserved.TheConstants.{LAST_PORT};
 
 use pq_fields::{Field, field_named};
 use pq_term::{Name, Token, ipv4_value, mac_value, number_value};
@@ -39,7 +40,7 @@ fn within(least: u64, most: u64, number: Option<u64>) -> Result<u64, NameKind>
 
 /// The number of a port, from 1 to 4294967040.
 pub fn port_value(text: &[u8]) -> Result<u32, NameKind>
-    ensures { result ≡ within 1 4294967040 (number_of text.now) }
+    ensures { result ≡ within 1 LAST_PORT (number_of text.now) }
 {
     match within(1, 4_294_967_040, number_value(text)) {
         Ok(port) => Ok(port as u32),

@@ -6,7 +6,7 @@ ghost use Rattle.pq_store.specs.Store.{Keeps};
 ghost use Rattle.pq_rewrite.specs.Choices.{ChoosesByAt, FitByAt, TellsPresence, field_needs};
 
 use pq_apply::{ite, pred_node};
-use pq_fields::{Field, Pred};
+use pq_fields::{Field, IPV4, Pred, TCP, UDP};
 use pq_store::{Leaf, NodeId, Store};
 use std::alloc::AllocError;
 
@@ -17,9 +17,9 @@ pub(crate) fn presence(field: Field) -> Option<Pred>
     ensures { TellsPresence field result }
 {
     match field {
-        Field::Ipv4Src | Field::Ipv4Dst => Some(Pred::Equal(Field::EthType, 0x0800)),
-        Field::TcpSrc | Field::TcpDst => Some(Pred::Equal(Field::IpProto, 6)),
-        Field::UdpSrc | Field::UdpDst => Some(Pred::Equal(Field::IpProto, 17)),
+        Field::Ipv4Src | Field::Ipv4Dst => Some(Pred::Equal(Field::EthType, IPV4)),
+        Field::TcpSrc | Field::TcpDst => Some(Pred::Equal(Field::IpProto, TCP)),
+        Field::UdpSrc | Field::UdpDst => Some(Pred::Equal(Field::IpProto, UDP)),
         _ => None,
     }
 }

@@ -15,7 +15,7 @@ use Rattle.pq_model.specs.declared.action.Action.{Action}
 use Rattle.pq_model.specs.declared.action.Action.TheVariants.{Output}
 use Rattle.pq_model.specs.Lawful.{Ascends, IsLawfulAction, IsLawfulBucket, IsSettable, bucket_place}
 use Rattle.pq_model.specs.MatchFields.{IsPortNumber, IsTagWord}
-use Rattle.pq_model.specs.SwitchMachine.{in_port_number, controller_number}
+use Rattle.pq_model.specs.declared.reserved.TheConstants.{CONTROLLER, IN_PORT}
 use Rattle.pq_rewrite.specs.declared.outgoing.OutKind.{OutKind}
 use Rattle.pq_rewrite.specs.declared.outgoing.OutKind.TheVariants.{Send, CaptureOut}
 use Rattle.pq_rewrite.specs.declared.outgoing.Outgoing.{Outgoing}
@@ -99,8 +99,8 @@ output_lawful CaptureOut w port = inr (inr refl)
 output_lawful Send w port = by w.port port
   where
     by : (o : Option ℕ) → IfSome o IsPortNumber
-        → IsPortNumber (unwrap_or o in_port_number) ⊎ (unwrap_or o in_port_number ≡ in_port_number) ⊎
-        (unwrap_or o in_port_number ≡ controller_number)
+        → IsPortNumber (unwrap_or o IN_PORT) ⊎ (unwrap_or o IN_PORT ≡ IN_PORT) ⊎
+        (unwrap_or o IN_PORT ≡ CONTROLLER)
     by None port = inr (inl refl)
     by (Some p) port = inl port
 

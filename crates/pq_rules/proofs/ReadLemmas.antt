@@ -10,7 +10,7 @@ use Rattle.pq_fields.specs.Writes.{Written, with_write}
 use Rattle.pq_model.specs.declared.action.Action.{Action}
 use Rattle.pq_model.specs.declared.action.Action.TheVariants.{Output, PushVlan, PopVlan, Group, SetVlan, SetField}
 use Rattle.pq_model.specs.MatchFields.{IsPortNumber}
-use Rattle.pq_model.specs.SwitchMachine.{in_port_number, controller_number}
+use Rattle.pq_model.specs.declared.reserved.TheConstants.{CONTROLLER, IN_PORT}
 use Rattle.pq_rewrite.specs.declared.outgoing.OutKind.{OutKind}
 use Rattle.pq_rewrite.specs.declared.outgoing.OutKind.TheVariants.{Send, CaptureOut}
 use Rattle.pq_rewrite.specs.declared.outgoing.Outgoing.{Outgoing}
@@ -25,7 +25,7 @@ step PopVlan o = o
 step PushVlan o = o
 step (Group n) o = o
 step (SetField f n) o = record o { writes = with_write f n o.writes }
-step (Output p) o = if p == controller_number then record o { kind = CaptureOut } else if p == in_port_number then o else record o
+step (Output p) o = if p == CONTROLLER then record o { kind = CaptureOut } else if p == IN_PORT then o else record o
     { writes = with_write Port p o.writes }
 
 read : Outgoing → List Action → Outgoing
@@ -150,13 +150,13 @@ output_read Send w t port = by w.port refl port
         → read (made t w.eth_src w.eth_dst w.ipv4_src w.ipv4_dst w.tcp_src w.tcp_dst w.udp_src w.udp_dst) (Output (output_port Send w) ∷ [])
         ≡ record { writes = w; tag = t; kind = Send }
     by None is port =
-        let out : output_port Send w ≡ in_port_number = ap (λ o. output_port Send (record w { port = o })) is in
+        let out : output_port Send w ≡ IN_PORT = ap (λ o. output_port Send (record w { port = o })) is in
         ap (λ p. read (made t w.eth_src w.eth_dst w.ipv4_src w.ipv4_dst w.tcp_src w.tcp_dst w.udp_src w.udp_dst) (Output p ∷ [])) out
         ∙ ap (λ o. record { writes = record w { port = o }; tag = t; kind = Send }) (sym is)
     by (Some p) is port =
         let out : output_port Send w ≡ p = ap (λ o. output_port Send (record w { port = o })) is in
-        let first : p == controller_number ≡ false = ne_eqb p controller_number (λ e. absurd (omega (arith, e, port))) in
-        let second : p == in_port_number ≡ false = ne_eqb p in_port_number (λ e. absurd (omega (arith, e, port))) in
+        let first : p == CONTROLLER ≡ false = ne_eqb p CONTROLLER (λ e. absurd (omega (arith, e, port))) in
+        let second : p == IN_PORT ≡ false = ne_eqb p IN_PORT (λ e. absurd (omega (arith, e, port))) in
         let o = made t w.eth_src w.eth_dst w.ipv4_src w.ipv4_dst w.tcp_src w.tcp_dst w.udp_src w.udp_dst in
         ap (λ p. read o (Output p ∷ [])) out
         ∙ (λ i. if first i then record o { kind = CaptureOut } else if second i then o else record o { writes = with_write Port p o.writes })

@@ -14,15 +14,9 @@ ghost use Rattle.pq_layout.specs.Actions.{
 ghost use Rattle.pq_layout.specs.Sound.{IsTagNumber};
 
 use pq_fields::{Field, Writes};
-use pq_model::Action;
+use pq_model::{Action, CONTROLLER, IN_PORT};
 use pq_rewrite::{Arrive, OutKind, Outgoing};
 use std::alloc::{AllocError, Global};
-
-/// The port number that sends a packet back to where it arrived.
-const IN_PORT: u32 = 0xffff_fff8;
-
-/// The port number of the controller.
-const CONTROLLER: u32 = 0xffff_fffd;
 
 /// The VLAN_VID word of a tag.
 pub(crate) const TAGGED: u16 = 0x1000;

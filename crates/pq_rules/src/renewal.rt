@@ -17,16 +17,13 @@ ghost use Rattle.pq_rules.specs.Renewing.{AreFewPlaces, IsArrivingLeaf, IsLeavin
 use crate::actions::{arrival_actions, copy_actions};
 use crate::grouping::{Grouping, leaf_copies};
 use indexmap::IndexSet;
-use pq_model::{Action, FlowCommand, FlowMod, GroupCommand, GroupMod, Match, Message};
+use pq_model::{ALL_GROUPS, Action, FlowCommand, FlowMod, GroupCommand, GroupMod, Match, Message};
 use pq_rewrite::{Arrive, Copies, Outgoing};
 use pq_store::{NodeId, Store, View};
 use std::alloc::{AllocError, Global};
 
 /// The table number that names all tables.
 const ALL_TABLES: u8 = 0xff;
-
-/// The group number that names all groups.
-const ALL_GROUPS: u32 = 0xffff_fffc;
 
 /// The priority of a table's first entry.
 const HIGHEST: u16 = 65535;

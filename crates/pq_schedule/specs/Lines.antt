@@ -14,6 +14,7 @@ use Rattle.pq_schedule.specs.declared.key.Key.{Key}
 use Rattle.pq_schedule.specs.declared.key.Key.TheVariants.{Vlan, Header}
 use Rattle.pq_fields.specs.Names.{field_name}
 use Rattle.pq_schedule.specs.Values.{field_number}
+use Rattle.pq_model.specs.declared.reserved.TheConstants.{LAST_PORT}
 
 -- the words of a line: what is between spaces
 abbrev pub words_of : List ℕ → List (List ℕ)
@@ -87,7 +88,7 @@ with_statements x statements = if ascend statements then Some (fold with_stateme
 
 -- the number of a port that OpenFlow does not reserve: 1 to 0xffffff00
 abbrev pub port_of : List ℕ → Option ℕ
-port_of word = if bytes_eq word (codes "0") then None else decimal_of 0xffffff00 word
+port_of word = if bytes_eq word (codes "0") then None else decimal_of LAST_PORT word
 
 -- a packet whose switch and port are stated, with what else is stated of it
 abbrev pub injected_at : Option ℕ → Option ℕ → Option (List Statement) → Option TaggedPacket

@@ -16,11 +16,8 @@ ghost use Rattle.pq_schedule.specs.Stated.{stated_by, stated_under};
 use crate::key::Key;
 use crate::values::with_field;
 use pq_fields::{Field, Packet};
-use pq_model::Tagged;
+use pq_model::{LAST_PORT, Tagged};
 use pq_term::{cut_at, decimal_value};
-
-/// The greatest port number that OpenFlow does not reserve (OpenFlow 1.3.5, section 7.2.1).
-const LAST_PORT: u64 = 0xffff_ff00;
 
 /// The greatest VLAN number.
 const LAST_VLAN: u64 = 4095;
@@ -103,7 +100,7 @@ fn port_value(word: &[u8]) -> Option<u64>
 {
     match word {
         b"0" => None,
-        _ => decimal_value(LAST_PORT, word),
+        _ => decimal_value(u64::from(LAST_PORT), word),
     }
 }
 

@@ -20,7 +20,8 @@ use Rattle.std.specs.Ordering.{eq_by_cmp, is_eq, is_gt, is_le, nat_cmp, ordering
 use Rattle.std.specs.Set.{is_member}
 use Rattle.std.proofs.lemmas.List.{drop_more}
 use Rattle.pq_lists.proofs.Holding.{all_filter, all_weaker}
-use Rattle.pq_model.specs.SwitchMachine.{Entry, Groups, all_groups, group_named, groups_named, is_removed}
+use Rattle.pq_model.specs.SwitchMachine.{Entry, Groups, group_named, groups_named, is_removed}
+use Rattle.pq_model.specs.declared.reserved.TheConstants.{ALL_GROUPS}
 use Rattle.pq_model.proofs.Filters.{filter-filter}
 use Rattle.pq_model.specs.declared.action.Action.{Action}
 use Rattle.pq_switch.specs.Namings.{AreIndexed, AreNoted, Grows, is_naming, is_noted, names, names_any, naming, naming_cmp}
@@ -413,14 +414,14 @@ abbrev pub left : Groups → ℕ → Entry → Bool
 left groups number e = not (list_any (is_removed groups number) (groups_named e.actions))
 
 pub all_removed : (groups : Groups) (numbers : List ℕ) → ((n : ℕ) → contains_key groups n ≡ is_member (eq_by_cmp nat_cmp) numbers n)
-    → (es : List (Place × Slot)) → filter (free numbers) es ≡ filter (λ r. left groups all_groups r.1.entry) es
+    → (es : List (Place × Slot)) → filter (free numbers) es ≡ filter (λ r. left groups ALL_GROUPS r.1.entry) es
 all_removed groups numbers has es = λ i. filter (λ r. not (list_any (λ n. (sym (has n) ∙ whole (contains_key groups n)) i) (groups_named r.1.entry.actions))) es
   where
     whole : (b : Bool) → b ≡ b && true
     whole true = refl
     whole false = refl
 
-pub one_removed : (groups : Groups) (number : ℕ) → (number == all_groups) ≡ false → contains_key groups number ≡ true
+pub one_removed : (groups : Groups) (number : ℕ) → (number == ALL_GROUPS) ≡ false → contains_key groups number ≡ true
     → (es : List (Place × Slot)) → filter (other number) es ≡ filter (λ r. left groups number r.1.entry) es
 one_removed groups number not_all is es = λ i. filter (λ r. not (list_any (λ n. same n i) (groups_named r.1.entry.actions))) es
   where

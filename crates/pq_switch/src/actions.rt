@@ -3,14 +3,9 @@ ghost use Rattle.pq_model.specs.Lawful.{IsLawfulAction};
 ghost use Rattle.pq_model.specs.SwitchMachine.{changed, emits_in_bucket, outputs, pushed, renamed, runs};
 
 use pq_fields::{Field, has};
-use pq_model::{Action, Sent, Tagged};
+use pq_model::{Action, CONTROLLER, IN_PORT, Sent, Tagged};
 use std::alloc::{AllocError, Global};
 use std::marker::Model;
-
-/// The port number `IN_PORT`.
-const IN_PORT: u32 = 0xffff_fff8;
-/// The port number `CONTROLLER`.
-const CONTROLLER: u32 = 0xffff_fffd;
 
 /// The actions of an entry or a bucket, each of which a message may hold.
 #[derive(Drop)]

@@ -6,17 +6,18 @@ ghost use Rattle.std.specs.Map.{keys_of, values_of};
 ghost use Rattle.std.specs.Option.{option_copied};
 ghost use Rattle.std.specs.Ordering.{is_eq};
 ghost use Rattle.pq_model.specs.Lawful.{IsLawfulAction};
-ghost use Rattle.pq_model.specs.SwitchMachine.{all_groups, entry_of, groups_named, is_placed, is_removed, taken};
+ghost use Rattle.pq_model.specs.SwitchMachine.{entry_of, groups_named, is_placed, is_removed, taken};
+ghost use Rattle.pq_model.specs.declared.reserved.TheConstants.{ALL_GROUPS};
 ghost use Rattle.pq_switch.specs.Namings.{AreIndexed, is_naming, names};
 ghost use Rattle.pq_switch.specs.Places.{place_cmp};
 
 use crate::entry::{Entry, Slot};
-use crate::groups::{ALL_GROUPS, Groups};
+use crate::groups::Groups;
 use crate::lookup::{best_in_table, entry_in};
 use crate::naming::{Naming, first_place, names_group, note};
 use crate::place::Place;
 use crate::shelves::Shelved;
-use pq_model::{FlowMod, Tagged};
+use pq_model::{ALL_GROUPS, FlowMod, Tagged};
 use std::alloc::{AllocError, Global};
 use std::collections::{BTreeMap, BTreeSet};
 use std::marker::Model;
@@ -155,7 +156,7 @@ fn put_in(
 // Takes out each entry that names a group that is there.
 fn take_naming_any(slots: &mut BTreeMap<Place, Slot>, index: &mut BTreeSet<Naming>, groups: &Groups)
     requires { AreIndexed index.old.keys slots.old.entries }
-    ensures rows { slots.new.entries ≡ filter (λ r. not (list_any (is_removed groups.now all_groups) (groups_named r.1.entry.actions))) slots.old.entries }
+    ensures rows { slots.new.entries ≡ filter (λ r. not (list_any (is_removed groups.now ALL_GROUPS) (groups_named r.1.entry.actions))) slots.old.entries }
     ensures indexed { AreIndexed index.new.keys slots.new.entries }
 {
     for group in groups.numbers() {

@@ -6,14 +6,11 @@ ghost use Rattle.std.specs.Set.{is_member};
 ghost use Rattle.pq_model.specs.SwitchMachine.{buckets_in, groups_named, no_groups, removed_from};
 
 use crate::actions::Actions;
-use pq_model::Action;
+use pq_model::{ALL_GROUPS, Action};
 use std::alloc::{AllocError, Global};
 use std::collections::BTreeMap;
 use std::collections::btree_map::Keys;
 use std::marker::Model;
-
-/// The number that names all groups (OpenFlow 1.3.5, section 7.3.4.2).
-pub(crate) const ALL_GROUPS: u32 = 0xffff_fffc;
 
 /// The groups of a switch: the buckets of each, by its number.
 #[derive(Drop)]

@@ -16,6 +16,7 @@ use Rattle.pq_model.specs.Topology.{Switch, Link, Topology, is_port, named_in, i
 use Rattle.pq_model.specs.Install.{port_count, end_numbers, link_numbers, ends_of}
 use Rattle.pq_topo.specs.declared.fault.NameKind.TheVariants.{Many, Doubled, BadValue, UnknownSwitch, UnknownPort}
 use Rattle.pq_topo.specs.Naming.{Reading, faulty, unless, next}
+use Rattle.pq_model.specs.declared.reserved.TheConstants.{LAST_PORT}
 
 -- the number that a token spells, and 0 where it spells none
 abbrev pub number_in : List ℕ → Token → ℕ
@@ -23,7 +24,7 @@ number_in bytes t = unwrap_or (number_of (text_in bytes t)) 0
 
 -- a number that a port may have
 abbrev pub may_be_port : ℕ → Bool
-may_be_port n = nat_le 1 n && nat_le n 4294967040
+may_be_port n = nat_le 1 n && nat_le n LAST_PORT
 
 -- Switches.
 

@@ -3,9 +3,11 @@ ghost use Rattle.pq_model.specs.Lawful.{Ascends};
 ghost use Rattle.pq_model.specs.MatchFields.{IsPortNumber};
 ghost use Rattle.pq_model.specs.Topology.{is_edge, is_port, limit_of, peer, ports_of, switch_named};
 ghost use Rattle.pq_topo.specs.Named.{IsNamedTopology, IsNoSwitch, IsSwitchAt};
+ghost use Rattle.pq_model.specs.declared.reserved.TheConstants.{LAST_PORT};
 
 use crate::link::Link;
 use crate::switch::Switch;
+use pq_model::LAST_PORT;
 use pq_term::Name;
 use std::alloc::{AllocError, Global};
 use std::marker::Model;
@@ -114,10 +116,10 @@ impl Topology {
     /// Whether the switch with this datapath number has a port of this number, which may be beyond all ports.
     pub(crate) fn has_port(&self, datapath: u64, number: u64) -> bool
         ensures port { result ≡ is_port self.now datapath number }
-        ensures within { IsTrue result → number ≤ 0xffffff00 }
+        ensures within { IsTrue result → number ≤ LAST_PORT }
     {
         let ports = self.ports_of(datapath);
-        if 0xffff_ff00 < number {
+        if u64::from(LAST_PORT) < number {
             return false;
         }
         ports.binary_search(&(number as u32)).is_ok()

@@ -9,12 +9,10 @@ ghost use Rattle.pq_install.specs.Units.{ListFails, Tells, UnitFails};
 use crate::fault::Fault;
 use crate::read::front::u32_at;
 use crate::version::Version;
+use pq_fields::IPV6;
 use pq_flowmod::{Message, MessageFault, read_message};
 use pq_oxm::Match;
 use std::alloc::Global;
-
-/// The EtherType of IPv6.
-const IPV6: u16 = 0x86dd;
 
 // Whether an install of the old spelling may have the match.
 fn is_old_match(matching: &Match) -> bool
@@ -26,7 +24,13 @@ fn is_old_match(matching: &Match) -> bool
     if matching.ipv6_dst.is_some() {
         return false;
     }
-    matching.ip_proto.is_none() || matching.eth_type != Some(IPV6)
+    if matching.ip_proto.is_none() {
+        return true;
+    }
+    match matching.eth_type {
+        Some(number) => u64::from(number) != IPV6,
+        None => true,
+    }
 }
 
 // Whether an install of the old spelling may have the message.

@@ -10,12 +10,10 @@ ghost use Rattle.pq_install.specs.Units.{CountedFails, IsSection, ListFails, Tel
 
 use crate::fault::Fault;
 use crate::read::front::{count_at, counted_u32s_at, u64_at};
+use pq_model::LAST_PORT;
 use pq_term::Name;
 use pq_topo::Switch;
 use std::alloc::{AllocError, Global};
-
-/// The greatest port number (OpenFlow 1.3.5, section 7.2.1).
-const MOST_PORT: u32 = 0xffff_ff00;
 
 /// The most ports that a network has.
 const MOST_PORTS: usize = 4096;
@@ -40,7 +38,7 @@ fn ascend(ports: &[u32]) -> bool
         if *port <= last {
             return false;
         }
-        if *port > MOST_PORT {
+        if *port > LAST_PORT {
             return false;
         }
         last = *port;

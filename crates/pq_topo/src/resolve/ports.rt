@@ -8,6 +8,7 @@ ghost use Rattle.pq_topo.specs.Statements.{may_be_port, port_of, ports_after};
 use crate::fault::{NameFault, NameKind};
 use crate::resolve::tokens::{fault, number_in};
 use indexmap::IndexSet;
+use pq_model::LAST_PORT;
 use pq_term::Token;
 use pq_tree::Term;
 use std::alloc::Global;
@@ -16,7 +17,7 @@ use std::alloc::Global;
 fn may_be_port(number: u64) -> bool
     ensures { result ≡ may_be_port number }
 {
-    1 <= number && number <= 0xffff_ff00
+    1 <= number && number <= u64::from(LAST_PORT)
 }
 
 /// Reads a port of a list, after earlier ones of the list, of which there may be this many.

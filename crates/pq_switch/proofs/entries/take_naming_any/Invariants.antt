@@ -1,5 +1,5 @@
 use Rattle.std.proofs.Common.{◌≡◌, filter}
-use Rattle.pq_model.specs.SwitchMachine.{all_groups}
+use Rattle.pq_model.specs.declared.reserved.TheConstants.{ALL_GROUPS}
 use Rattle.pq_switch.specs.Namings.{AreIndexed}
 use Rattle.pq_switch.proofs.Noted.{free, left}
 use Rattle.pq_switch.proofs.entries.take_naming_any.Given as goal
@@ -8,5 +8,5 @@ use Rattle.pq_switch.proofs.entries.take_naming_any.Given as goal
 abbrev pub invariant-loop-group : goal.invariant-loop-group
 invariant-loop-group l = record {
   indexed : AreIndexed l.index.keys l.slots.entries;
-  rows : filter (free l.group-iterator) l.slots.entries ≡ filter (λ r. left l.groups all_groups r.1.entry) l.initial.slots.entries;
+  rows : filter (free l.group-iterator) l.slots.entries ≡ filter (λ r. left l.groups ALL_GROUPS r.1.entry) l.initial.slots.entries;
 }
