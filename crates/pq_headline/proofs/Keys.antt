@@ -29,10 +29,6 @@ module _ {A : Type 0} (key : A → List ℕ) where
       later [] all = tt
       later (z ∷ zs) all = (before_trans (key x) (key y) (key z) up.0 all.0, later zs all.1)
 
-  pub rest_ascends : (x : A) (xs : List A) → AscendsBy key (x ∷ xs) → AscendsBy key xs
-  rest_ascends x [] up = tt
-  rest_ascends x (y ∷ ys) up = up.1
-
 abbrev head_or : ℕ → List ℕ → ℕ
 head_or d [] = d
 head_or d (x ∷ xs) = x

@@ -1,3 +1,4 @@
+pub mod Ascending
 pub mod CommutingFlows
 pub mod CommutingGroups
 pub mod Examples

@@ -16,13 +16,14 @@ use Rattle.pq_tree.specs.Trees.{Forest, nothing, grown}
 use Rattle.pq_model.specs.Sorting.{put_by, sort_by}
 use Rattle.pq_model.specs.Topology.{Switch, Link, Topology, is_port, is_end}
 use Rattle.pq_model.specs.Install.{IsLawfulLink, end_numbers, link_numbers, ends_of}
+use Rattle.pq_model.proofs.Sorted.{sort-all}
 use Rattle.pq_grammar.specs.declared.class.Class.TheVariants.{LinkWord}
 use Rattle.pq_topo.specs.declared.fault.NameKind.TheVariants.{UnknownPort, Doubled}
 use Rattle.pq_topo.specs.Named.{IsNamedTopology}
 use Rattle.pq_topo.specs.Naming.{next}
 use Rattle.pq_topo.specs.Statements.{number_in, switch_at, end_of, link_of, begins_with, links_after, ordered, in_order}
 use Rattle.pq_topo.proofs.Readings.{next_ok, unless_ok}
-use Rattle.pq_topo.proofs.Ordered.{sort_ascends, all_sorted, same_key, one_is_before}
+use Rattle.pq_topo.proofs.Ordered.{sort_ascends, same_key, one_is_before}
 
 -- the same end
 abbrev pub same_end : ℕ × ℕ → ℕ × ℕ → Bool
@@ -214,7 +215,7 @@ module _ (ss : List Switch) (ls : List Link) where
           switches = named.lawful.switches;
           ascending = named.lawful.ascending;
           links = All-from_recursion (IsLawfulLink (record { switches = ss; links = in_order ls })) (in_order ls)
-              (all_sorted link_numbers (IsLawfulLink (record { switches = ss; links = in_order ls })) flat (all_ordered ls are.each));
+              (sort-all link_numbers (IsLawfulLink (record { switches = ss; links = in_order ls })) flat (all_ordered ls are.each));
           linked_once = IsDistinct-IsPermutation same_end end_equiv.symm (ends_of flat) (ends_of (in_order ls)) (ends_sorted flat) apart;
           links_ascend = sort_ascends link_numbers flat (numbers_differ flat apart);
         };
