@@ -5,6 +5,7 @@ pub mod Examples
 pub mod Filters
 pub mod FreeOfOrder
 pub mod LawfulOrders
+pub mod Lengths
 pub mod NumberLists
 pub mod Pairs
 pub mod Reorderings

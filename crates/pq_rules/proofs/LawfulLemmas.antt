@@ -11,6 +11,7 @@ use Rattle.pq_lists.proofs.Holding.{all_append, all_weaker}
 use Rattle.pq_model.specs.declared.message.Message.TheVariants.{Flow, Group as Grouping, Barrier}
 use Rattle.pq_model.specs.Lawful.{IsLawfulAction, IsLawfulBucket, IsLawfulGoto, IsLawfulMessage}
 use Rattle.pq_model.specs.MatchFields.{MatchFields, IsLawfulMatch}
+use Rattle.pq_model.proofs.Lengths.{barrier_lawful}
 use Rattle.pq_rewrite.specs.declared.outgoing.Outgoing.{Outgoing}
 use Rattle.pq_rewrite.specs.declared.trees.Arrive.{Arrive}
 use Rattle.pq_store.specs.Tree.{Tree}
@@ -26,7 +27,7 @@ use Rattle.pq_rules.specs.Grouping.{group_copies, in_bucket, with_groups}
 use Rattle.pq_rules.specs.Paths.{StaysLawful}
 use Rattle.pq_rules.specs.Refusals.{FitRules, many_copies}
 use Rattle.pq_rules.proofs.ActionLemmas.{arrival_lawful, buckets_few, buckets_lawful, copy_ordered}
-use Rattle.pq_rules.proofs.BytesLemmas.{barrier_short, entries_away_short, flow_short, group_short, groups_away_short}
+use Rattle.pq_rules.proofs.BytesLemmas.{entries_away_short, flow_short, group_short, groups_away_short}
 use Rattle.pq_rules.proofs.GroupsLemmas.{IsShown, SoundEntries, groups_all, groups_few, groups_made, groups_shown}
 use Rattle.pq_rules.proofs.PathsLemmas.{stays_lawful, word_lawful}
 use Rattle.pq_rules.proofs.RenewingLemmas.{length_adds, length_groups}
@@ -156,9 +157,6 @@ groups_lawful (b ∷ bs) xid number some less few all =
       },
       groups_lawful bs (suc xid) (suc number) (omega arith) (omega (arith, less)) (omega (arith, few)) all.1,
     )
-
-barrier_lawful : (xid : ℕ) → xid < 2 ^ 32 → IsLawfulMessage (Barrier xid)
-barrier_lawful xid few = record { content = few; short = barrier_short xid }
 
 away_lawful : IsLawfulMessage (Flow delete_entries)
 away_lawful = record {

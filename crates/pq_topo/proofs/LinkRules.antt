@@ -42,6 +42,10 @@ end_equiv = record {
 
 -- Links as they are read.
 
+-- the ends of one link more
+pub one_link : (ls : List Link) (l : Link) → ends_of (ls ++ l ∷ []) ≡ (ends_of ls ++ l.first ∷ []) ++ l.second ∷ []
+one_link ls l = flat_map-append (λ (m : Link). m.first ∷ m.second ∷ []) ls (l ∷ []) ∙ sym (append_assoc (ends_of ls) (l.first ∷ []) (l.second ∷ []))
+
 module _ (switches : List Switch) where
   abbrev network : Topology
   network = record { switches = switches; links = [] }
@@ -71,9 +75,6 @@ module _ (switches : List Switch) where
       is_true : (b : Bool) → not b ≡ false → IsTrue b
       is_true true e = refl
       is_true false e = absurd cc
-
-  ends_more : (ls : List Link) (l : Link) → ends_of (ls ++ l ∷ []) ≡ (ends_of ls ++ l.first ∷ []) ++ l.second ∷ []
-  ends_more ls l = flat_map-append (λ l. l.first ∷ l.second ∷ []) ls (l ∷ []) ∙ sym (append_assoc (ends_of ls) (l.first ∷ []) (l.second ∷ []))
 
   any_last : (p : ℕ × ℕ → Bool) (es : List (ℕ × ℕ)) (e : ℕ × ℕ) → list_any p (es ++ e ∷ []) ≡ false → p e ≡ false
   any_last p [] e h = by (p e) h
@@ -106,7 +107,7 @@ module _ (switches : List Switch) where
       let more = IsDistinct-push end_equiv (ends ++ d ∷ []) c (IsDistinct-push end_equiv ends d are.distinct first.1) second.1 in
       subst (λ k. AreReadLinks (earlier ++ k ∷ [])) is (record {
         each = all_push IsReadLink earlier (record { first = d; second = c }) are.each (first.0, second.0, apart);
-        distinct = subst (IsDistinct same_end) (sym (ends_more earlier (record { first = d; second = c }))) more;
+        distinct = subst (IsDistinct same_end) (sym (one_link earlier (record { first = d; second = c }))) more;
       })
 
   -- all links that are read keep the rules
