@@ -35,7 +35,6 @@ together {P} {Q} {a} {b} {c} {d} first second = record { small = omega (arith, f
     smaller (inr is) = omega (arith, first.small, second.smaller is)
 
 module _ {L : Type 0} where
-
   -- a node whose root is the test splits into its sides
   pub splits_root : (ts : List (Tree L)) (s r : Test) (k i j : ℕ) → ShowsBranch ts k r i j → LeadsAt s ts k → (Precedes s r → ⊥) → SplitsAt ts s k i j
   splits_root ts s r k i j shows leads not t t_is =

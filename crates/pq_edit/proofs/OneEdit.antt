@@ -32,7 +32,8 @@ IsRead (Ok e) = Unit {0}
 IsRead (Err fault) = ⊥
 
 -- two faults of a text are one
-same_fault : (bytes : List ℕ) (f g : TermFault) → IsText f → IsText g → IsTextFault EditSort bytes f → IsTextFault EditSort bytes g → as_document f ≡ as_document g
+same_fault : (bytes : List ℕ) (f g : TermFault) → IsText f → IsText g → IsTextFault EditSort bytes f → IsTextFault EditSort bytes g
+    → as_document f ≡ as_document g
 same_fault bytes f g some other first second = ap as_document (one_text_fault EditSort bytes f g first second (not_memory f some) (not_memory g other))
 
 -- a text with a statement has none

@@ -156,7 +156,11 @@ module _ (front : List ℕ) (p : ℕ) (ps : List ℕ) (ts : List (Tree (List Wri
       record {
         met = p ∷ behind.met;
         all = parts;
-        has = (made.0, made.1, spread_more p behind.met ps behind.has.0 more_rise behind.has.2 made.0 (all_inside IsPortNumber front p behind.met ps parts numbers) made.2);
+        has = (
+          made.0,
+          made.1,
+          spread_more p behind.met ps behind.has.0 more_rise behind.has.2 made.0 (all_inside IsPortNumber front p behind.met ps parts numbers) made.2,
+        );
       }
 
 -- What the tree gives once all ports are met.

@@ -164,7 +164,11 @@ module _ (kind : ℕ → PortKind) (front : List ℕ) (p : ℕ) (ps : List ℕ) 
       record {
         met = p ∷ behind.met;
         all = parts;
-        has = (made.0, made.1, over_more kind p behind.met behind.has.0 more_rise behind.has.2 made.0 (all_inside IsPortNumber front p behind.met ps parts numbers) made.2);
+        has = (
+          made.0,
+          made.1,
+          over_more kind p behind.met behind.has.0 more_rise behind.has.2 made.0 (all_inside IsPortNumber front p behind.met ps parts numbers) made.2,
+        );
       }
 
 -- with no port left the tree at the place is that over all

@@ -36,7 +36,6 @@ use Rattle.pq_local.proofs.Small.{nothing_or}
 
 -- Messages that serve switches.
 module _ (T : Topology) (g : Tagging) (writes : Departures) where
-
   pub all_from : (ss : List Switch) (all : List (List Message)) → AllZip (IsServed T g writes) ss all → AllZip (Comes T g writes) ss all
   all_from ss all served =
       zip_weaker (IsServed T g writes) (Comes T g writes)
@@ -44,7 +43,8 @@ module _ (T : Topology) (g : Tagging) (writes : Departures) where
 
   pub all_messages : (ss : List Switch) (all : List (List Message)) → AllZip (IsServed T g writes) ss all
       → AllZip (λ s ms. AreMessages T g writes s.datapath ms) ss all
-  all_messages ss all served = zip_weaker (Comes T g writes) (λ s ms. AreMessages T g writes s.datapath ms) (λ s ms from. from.0) ss all (all_from ss all served)
+  all_messages ss all served =
+      zip_weaker (Comes T g writes) (λ s ms. AreMessages T g writes s.datapath ms) (λ s ms from. from.0) ss all (all_from ss all served)
 
   abbrev trees_in : (ss : List Switch) (all : List (List Message)) → AllZip (IsServed T g writes) ss all → List TablesTrees
   trees_in [] [] served = []

@@ -48,7 +48,6 @@ seen_here seen k j b c place within is own = same_bool (sym (slice_get-get_or se
     same_bool h = cc
 
 module _ {L : Type 0} where
-
   -- a tree is at each place
   pub tree_there : (ts : List (Tree L)) (k : ℕ) → k < length ts → (t : Tree L) × (slice_get ts k ≡ Some t)
   tree_there ts k within = elim (slice_get_cases ts k).1 [ inl h ↦ (h.0, h.2) | inr h ↦ absurd (omega arith) ]

@@ -117,7 +117,8 @@ module _ {K X : Type 0} (R : K → K → Ordering) (o : IsTotalOrder R) (k : K) 
   one_taken v (e ∷ es) (later, sorted) found = by (R k e.0) refl found (one_taken v es sorted)
     where
       rest : R k e.0 ≡ Equal → filter apart es ≡ es
-      rest is = filter-all apart es (all-apart es (all_weaker (λ z. R e.0 z ≡ Less) (λ z. R k z ≡ Less) (λ z less. o.congr k e.0 z is ∙ less) (keys_of es) later))
+      rest is =
+          filter-all apart es (all-apart es (all_weaker (λ z. R e.0 z ≡ Less) (λ z. R k z ≡ Less) (λ z less. o.congr k e.0 z is ∙ less) (keys_of es) later))
 
       kept : (r : Ordering) → is_eq r ≡ false → R k e.0 ≡ r → filter apart (e ∷ es) ≡ e ∷ filter apart es
       kept r h is = ap (λ b. cond b (e ∷ filter apart es) (filter apart es)) (away (t e.1) (R k e.0) (ap is_eq is ∙ h))
