@@ -13,14 +13,14 @@ behind_none zero r some = absurd (omega (arith, some))
 behind_none (suc gap) r some = let less : suc gap - 1 ≡ gap = omega arith in rw less refl
 
 -- where more sets than one are empty or no number is left, one set is
-pub idle_first : (k gap : ℕ) (left : List ℕ) → (suc k ≤ gap) ⊎ (length left ≡ 0) → (0 < gap) ⊎ (length left ≡ 0)
-idle_first k gap left (inl h) = inl (omega (arith, h))
-idle_first k gap left (inr h) = inr h
+pub some_idle : (k gap : ℕ) (left : List ℕ) → (suc k ≤ gap) ⊎ (length left ≡ 0) → (0 < gap) ⊎ (length left ≡ 0)
+some_idle k gap left (inl h) = inl (omega (arith, h))
+some_idle k gap left (inr h) = inr h
 
 -- and so are those behind it
-pub idle_behind : (k gap : ℕ) (left : List ℕ) → (suc k ≤ gap) ⊎ (length left ≡ 0) → (k ≤ gap - 1) ⊎ (length left ≡ 0)
-idle_behind k gap left (inl h) = inl (omega (arith, h))
-idle_behind k gap left (inr h) = inr h
+pub fewer_idle : (k gap : ℕ) (left : List ℕ) → (suc k ≤ gap) ⊎ (length left ≡ 0) → (k ≤ gap - 1) ⊎ (length left ≡ 0)
+fewer_idle k gap left (inl h) = inl (omega (arith, h))
+fewer_idle k gap left (inr h) = inr h
 
 -- sets are read after the number of empty ones
 pub spread_gap : (n : ℕ) (r : List ℕ) → spread n (first_gap r ∷ behind_gap r) ≡ spread n r
