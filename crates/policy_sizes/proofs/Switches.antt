@@ -1,10 +1,10 @@
 -- A switch with many ports keeps the rules, and broadcasts there have a diagram.
-use Rattle.std.proofs.Common.{ℕ, zero, suc, ◌-◌, ◌/◌, ◌^◌, ◌<◌, ◌≤◌, ◌≡◌, ◌++◌, ◌==◌, List, [], ◌∷◌, if◌then◌else◌, length, length-append}
+use Rattle.std.proofs.Common.{ℕ, zero, suc, ◌-◌, ◌/◌, ◌^◌, ◌<◌, ◌≤◌, ◌≡◌, ◌==◌, List, [], ◌∷◌, if◌then◌else◌, length, length-append}
 use Rattle.std.proofs.Common.{refl, inl, inr, sym, ap, subst, arith}
 use Rattle.std.specs.Prelude.{◌≢◌, All}
 use Rattle.std.specs.List.{IsDistinct}
 use Rattle.std.proofs.lemmas.Bool.Decides.{eqb_tells}
-use Rattle.std.proofs.lemmas.List.Elements.{All-append, All-cons, All-contains_itself, All-head, All-nil, All-tail, All-weaker}
+use Rattle.std.proofs.lemmas.List.Elements.{All-append, All-cons, All-contains_itself, All-nil, All-weaker}
 use Rattle.pq_fields.specs.declared.field.Field.{Field}
 use Rattle.pq_fields.specs.declared.field.Field.TheVariants.{EthDst, Port, Switch as SwitchField}
 use Rattle.pq_fields.specs.Packet.{rank, width_of}
@@ -12,6 +12,7 @@ use Rattle.pq_model.specs.Install.{IsLawfulLink, IsLawfulSwitch}
 use Rattle.pq_model.specs.Lawful.{Ascends}
 use Rattle.pq_model.specs.MatchFields.{IsPortNumber}
 use Rattle.pq_model.specs.Topology.{Switch}
+use Rattle.pq_model.proofs.Ascending.{ascend_push}
 use Rattle.pq_topo.specs.Named.{IsNamedTopology}
 use Rattle.pq_policy.specs.Policy.{IsLawfulPolicy}
 use Rattle.pq_store.specs.Room.{AreFew, IsAmong}
@@ -38,17 +39,11 @@ up_to (suc n) =
     (All-weaker (λ p. (1 ≤ p) × (p ≤ n)) (λ p. (1 ≤ p) × (p ≤ suc n)) (λ p both. let most = both.1 in (both.0, omega (arith, most))) (first_ports n) (up_to n))
     (All-cons (λ p. (1 ≤ p) × (p ≤ suc n)) (suc n) [] (omega arith, omega arith) (All-nil (λ p. (1 ≤ p) × (p ≤ suc n))))
 
--- a number above all that ascend may come after them
-one_behind : (ps : List ℕ) (n : ℕ) → Ascends ps → All (λ p. p < n) ps → Ascends (ps ++ n ∷ [])
-one_behind [] n up below = tt
-one_behind (p ∷ []) n up below = (All-head (λ q. q < n) p [] below, tt)
-one_behind (p ∷ q ∷ ps) n up below = (up.0, one_behind (q ∷ ps) n up.1 (All-tail (λ r. r < n) p (q ∷ ps) below))
-
 -- so the ports ascend
 ports_ascend : (n : ℕ) → Ascends (first_ports n)
 ports_ascend zero = tt
 ports_ascend (suc n) =
-    one_behind (first_ports n) (suc n) (ports_ascend n)
+    ascend_push (first_ports n) (suc n) (ports_ascend n)
     (All-weaker (λ p. (1 ≤ p) × (p ≤ n)) (λ p. p < suc n) (λ p both. let most = both.1 in omega (arith, most)) (first_ports n) (up_to n))
 
 -- there are some

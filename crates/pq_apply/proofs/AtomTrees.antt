@@ -194,20 +194,21 @@ leads_value f n len x fit small fits =
     bits_say f n 0 len x (omega arith) (none_lead f (number_in f x) (number_fits f x fit) ∙ sym (none_lead f n small))
     ∙ ap (λ k. leading f k (number_in f x) == leading f k n) e
 
+-- a condition is the choice that it makes
+pub said_itself : (b : Bool) → (if b then true else false) ≡ b
+said_itself true = refl
+said_itself false = refl
+
 -- the test of a number says whether the field's number is this one
 pub number_value : (f : Field) (n : ℕ) (x : Numbers) → Fit x → n < 2 ^ width_of f → value (number_tree f n) x ≡ (number_in f x == n)
 unfolding number_tree
 number_value f n x fit small = by (is_address f)
   where
-    told : (b : Bool) → (if b then true else false) ≡ b
-    told true = refl
-    told false = refl
-
     by : (b : Bool) → value (if b then bits_tree f n 0 (width_of f) else Fork (Equal f n) (Tip true) (Tip false)) x ≡ (number_in f x == n)
     by true =
         leads_value f n (width_of f) x fit small (omega arith)
         ∙ (λ k. all_lead f (number_in f x) k == all_lead f n k)
-    by false = told (number_in f x == n)
+    by false = said_itself (number_in f x == n)
 
 -- below its prerequisites a tree holds where the packet has the field and the tree holds
 pub present_value : (f : Field) (t : Tree Bool) (x : Numbers) → value (present_tree f t) x ≡ (has_field f x && value t x)

@@ -9,14 +9,14 @@ use Rattle.pq_store.specs.Test.{IsLawful, Precedes, passes}
 use Rattle.pq_store.specs.Tree.{Tree, IsTested, value}
 use Rattle.pq_store.specs.Tree.Tree.{Tip, Fork}
 use Rattle.pq_store.specs.Store.{AreDiagrams, IsJoinable, JoinsAt, Keeps, ShowsBranch}
-use Rattle.pq_lists.proofs.Places.{at_place}
+use Rattle.pq_lists.proofs.Places.{at_place, one_at}
 use Rattle.pq_store.proofs.Order.{precedes_trans}
 use Rattle.pq_store.proofs.RoomLemmas.{room_for}
 use Rattle.pq_apply.specs.Choice.{ChoosesAt, FitAsChoice, FitAsChoiceAt}
 use Rattle.pq_apply.specs.Choosing.{IsChosen, IsChosenAt, IsFirstOfThree}
 use Rattle.pq_apply.specs.Memo.{Remembers, same_triple}
 use Rattle.pq_apply.specs.Split.{HasRootAt, IsAtOrBefore, IsEarlier, LeadsRoot, SplitsAt, root_of}
-use Rattle.pq_apply.proofs.Places.{earlier_lawful, together, SidesAt, lawful_at, no_small, same_tree, sides_at, sides_still, size_at, size_still, yes_small}
+use Rattle.pq_apply.proofs.Places.{earlier_lawful, together, SidesAt, lawful_at, no_small, sides_at, sides_still, size_at, size_still, yes_small}
 use Rattle.pq_apply.proofs.Remembered.{remembers_more, remembers_still, triple_exact}
 use Rattle.pq_apply.proofs.Splits.{AreSides, IsJoined, IsRoot, IsSide, joinable, joined_is, root_tested, side_later, side_other}
 
@@ -191,9 +191,9 @@ module _ {L : Type 0} where
   fit_there : (cs : List (Tree Bool)) (k : ℕ) (ts : List (Tree L)) (i j : ℕ) (c : Tree Bool) (y n : Tree L)
       → slice_get cs k ≡ Some c → slice_get ts i ≡ Some y → slice_get ts j ≡ Some n → FitAsChoice c y n → FitAsChoiceAt cs k ts i j
   fit_there cs k ts i j c y n c_is y_is n_is fit d z m d_is z_is m_is =
-      subst (FitAsChoice d z) (same_tree ts j n m n_is m_is)
-      (subst (λ v. FitAsChoice d v n) (same_tree ts i y z y_is z_is)
-      (subst (λ v. FitAsChoice v y n) (same_tree cs k c d c_is d_is) fit))
+      subst (FitAsChoice d z) (one_at ts j n m n_is m_is)
+      (subst (λ v. FitAsChoice d v n) (one_at ts i y z y_is z_is)
+      (subst (λ v. FitAsChoice v y n) (one_at cs k c d c_is d_is) fit))
 
   module _ {cs : List (Tree Bool)} {k : ℕ} {ts : List (Tree L)} {i j : ℕ} {s : Test} {cy cn ly ln ry rn : ℕ}
       (st : IsChoiceStage cs k ts i j s cy cn ly ln ry rn) where
@@ -235,10 +235,10 @@ module _ {L : Type 0} where
   pub chosen_there : {cs : List (Tree Bool)} {k : ℕ} {ts : List (Tree L)} {i j id : ℕ} {c : Tree Bool} {y n w : Tree L}
       → IsChosenAt cs k ts i j id → slice_get cs k ≡ Some c → slice_get ts i ≡ Some y → slice_get ts j ≡ Some n → slice_get ts id ≡ Some w → IsChosen c y n w
   chosen_there {cs} {k} {ts} {i} {j} {id} {c} {y} {n} {w} made c_is y_is n_is w_is =
-      subst (IsChosen c y n) (same_tree ts id made.chosen w made.is w_is)
-      (subst (λ v. IsChosen c y v made.chosen) (same_tree ts j made.right n made.right_is n_is)
-      (subst (λ v. IsChosen c v made.right made.chosen) (same_tree ts i made.left y made.left_is y_is)
-      (subst (λ v. IsChosen v made.left made.right made.chosen) (same_tree cs k made.condition c made.condition_is c_is) made.chooses)))
+      subst (IsChosen c y n) (one_at ts id made.chosen w made.is w_is)
+      (subst (λ v. IsChosen c y v made.chosen) (one_at ts j made.right n made.right_is n_is)
+      (subst (λ v. IsChosen c v made.right made.chosen) (one_at ts i made.left y made.left_is y_is)
+      (subst (λ v. IsChosen v made.left made.right made.chosen) (one_at cs k made.condition c made.condition_is c_is) made.chooses)))
 
   -- it stays while the store grows
   pub chosen_still : {cs : List (Tree Bool)} {k : ℕ} {ts vs : List (Tree L)} {i j id : ℕ} → Keeps ts vs → IsChosenAt cs k ts i j id → IsChosenAt cs k vs i j id

@@ -9,14 +9,14 @@ use Rattle.pq_store.specs.Test.{IsLawful, passes}
 use Rattle.pq_store.specs.Tree.{Tree, IsTested, value}
 use Rattle.pq_store.specs.Tree.Tree.{Tip, Fork}
 use Rattle.pq_store.specs.Store.{AreDiagrams, IsJoinable, JoinsAt, Keeps, ShowsBranch}
-use Rattle.pq_lists.proofs.Places.{at_place}
+use Rattle.pq_lists.proofs.Places.{at_place, one_at}
 use Rattle.pq_store.proofs.Joins.{leaf_diagram}
 use Rattle.pq_apply.specs.Memo.{Remembers, same_pair}
 use Rattle.pq_store.proofs.RoomLemmas.{room_for}
 use Rattle.pq_apply.specs.Product.{FitTogether, FitTogetherAt, IsProduct}
 use Rattle.pq_apply.specs.Pairing.{IsFirstAt, IsPaired, IsPairedAt}
 use Rattle.pq_apply.specs.Split.{HasRootAt, IsEarlier, LeadsRoot, SplitsAt, root_of}
-use Rattle.pq_apply.proofs.Places.{earlier_lawful, lawful_at, together, SidesAt, no_small, same_tree, sides_at, size_at, yes_small}
+use Rattle.pq_apply.proofs.Places.{earlier_lawful, lawful_at, together, SidesAt, no_small, sides_at, size_at, yes_small}
 use Rattle.pq_apply.proofs.Remembered.{pair_exact, remembers_more, remembers_still}
 use Rattle.pq_apply.proofs.Splits.{AreSides, IsJoined, IsRoot, IsSide, joinable, joined_is, root_tested, side_later, side_other}
 
@@ -85,7 +85,7 @@ module _ {A B : Type 0} where
   pub fit_there : (ls : List (Tree A)) (x : ℕ) (rs : List (Tree B)) (y : ℕ) (t : Tree A) (u : Tree B) → slice_get ls x ≡ Some t
       → slice_get rs y ≡ Some u → FitTogether t u → FitTogetherAt ls x rs y
   fit_there ls x rs y t u t_is u_is fit v w v_is w_is =
-      subst (FitTogether v) (same_tree rs y u w u_is w_is) (subst (λ r. FitTogether r u) (same_tree ls x t v t_is v_is) fit)
+      subst (FitTogether v) (one_at rs y u w u_is w_is) (subst (λ r. FitTogether r u) (one_at ls x t v t_is v_is) fit)
 
   module _ {ls : List (Tree A)} {x : ℕ} {rs : List (Tree B)} {y : ℕ} {s : Test} {xy xn yy yn : ℕ} (st : IsStage ls x rs y s xy xn yy yn) where
     -- the yes sides together are smaller
@@ -119,9 +119,9 @@ module _ {A B C : Type 0} (R : A → B → C → Type 0) where
   pub paired_there : {ls : List (Tree A)} {x : ℕ} {rs : List (Tree B)} {y : ℕ} {us : List (Tree C)} {k : ℕ} {t : Tree A} {u : Tree B} {w : Tree C}
       → IsPairedAt R ls x rs y us k → slice_get ls x ≡ Some t → slice_get rs y ≡ Some u → slice_get us k ≡ Some w → IsPaired R t u w
   paired_there {ls} {x} {rs} {y} {us} {k} {t} {u} {w} made t_is u_is w_is =
-      subst (IsPaired R t u) (same_tree us k made.paired w made.is w_is)
-      (subst (λ v. IsPaired R t v made.paired) (same_tree rs y made.right u made.right_is u_is)
-      (subst (λ v. IsPaired R v made.right made.paired) (same_tree ls x made.left t made.left_is t_is) made.pairs))
+      subst (IsPaired R t u) (one_at us k made.paired w made.is w_is)
+      (subst (λ v. IsPaired R t v made.paired) (one_at rs y made.right u made.right_is u_is)
+      (subst (λ v. IsPaired R v made.right made.paired) (one_at ls x made.left t made.left_is t_is) made.pairs))
 
   -- what is made of two leaves
   pub paired_leaves : {ls : List (Tree A)} {x : ℕ} {rs : List (Tree B)} {y : ℕ} {us : List (Tree C)} {k : ℕ} {a : A} {b : B} {c : C}

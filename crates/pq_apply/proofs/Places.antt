@@ -8,7 +8,7 @@ use Rattle.pq_store.specs.Tree.{Tree, past}
 use Rattle.pq_store.specs.Tree.Tree.{Fork}
 use Rattle.pq_store.specs.Diagram.{IsBefore}
 use Rattle.pq_store.specs.Store.{AreDiagrams, IsPastAt, Keeps, ShowsBranch}
-use Rattle.pq_lists.proofs.Places.{at_place}
+use Rattle.pq_lists.proofs.Places.{at_place, one_at}
 use Rattle.pq_store.proofs.Sides.{size}
 use Rattle.pq_apply.specs.Split.{HasRootAt, IsAtOrBefore, IsEarlier, IsLawfulRoot, LeadsAt, SplitsAt}
 use Rattle.pq_apply.proofs.Splits.{IsRoot, IsSide, root_lawful, split_no, split_yes}
@@ -35,23 +35,19 @@ together {P} {Q} {a} {b} {c} {d} first second = record { small = omega (arith, f
     smaller (inr is) = omega (arith, first.small, second.smaller is)
 
 module _ {L : Type 0} where
-  -- a place has one tree
-  pub same_tree : (ts : List (Tree L)) (k : ℕ) (t u : Tree L) → slice_get ts k ≡ Some t → slice_get ts k ≡ Some u → t ≡ u
-  same_tree ts k t u t_is u_is = cc
-
   -- a node whose root is the test splits into its sides
   pub splits_root : (ts : List (Tree L)) (s r : Test) (k i j : ℕ) → ShowsBranch ts k r i j → LeadsAt s ts k → (Precedes s r → ⊥) → SplitsAt ts s k i j
   splits_root ts s r k i j shows leads not t t_is =
       (shows.yes_tree, shows.no_tree, shows.yes_is, shows.no_is, inl (own (leads (Fork r shows.yes_tree shows.no_tree) shows.is)))
     where
       own : IsAtOrBefore s r → t ≡ Fork s shows.yes_tree shows.no_tree
-      own (inl is) = same_tree ts k t (Fork r shows.yes_tree shows.no_tree) t_is shows.is ∙ ap (λ x. Fork x shows.yes_tree shows.no_tree) (sym is)
+      own (inl is) = one_at ts k t (Fork r shows.yes_tree shows.no_tree) t_is shows.is ∙ ap (λ x. Fork x shows.yes_tree shows.no_tree) (sym is)
       own (inr before) = absurd (not before)
 
   -- a later node splits into what it says past the test, and itself
   pub splits_later : (ts : List (Tree L)) (s : Test) (k p : ℕ) (u : Tree L) → slice_get ts k ≡ Some u → IsBefore s u → IsPastAt ts s k p → SplitsAt ts s k p k
   splits_later ts s k p u u_is before is t t_is =
-      (past s t, t, is t t_is, t_is, inr (subst (IsBefore s) (same_tree ts k u t u_is t_is) before, refl, refl))
+      (past s t, t, is t t_is, t_is, inr (subst (IsBefore s) (one_at ts k u t u_is t_is) before, refl, refl))
 
   -- the root at a place of a store is lawful
   pub lawful_at : (ts : List (Tree L)) (k : ℕ) (r : Option Test) → AreDiagrams ts → k < length ts → HasRootAt ts k r → IsLawfulRoot r

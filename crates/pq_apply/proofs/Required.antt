@@ -23,6 +23,10 @@ more_among n ns ms first later m (suc k, x, within, at, is) = later m (k, x, ome
 one_among : (n : ℕ) (ms : List ℕ) → IsAmong n ms → AreAmong (n ∷ []) ms
 one_among n ms first = more_among n [] ms first (none_among ms)
 
+-- fields without prerequisites need no numbers
+pub port_needs : (ns : Field → List ℕ) → NeedsAmong ns Port
+port_needs ns = record { types = none_among (ns EthType); protocols = none_among (ns IpProto) }
+
 -- with the EtherTypes and protocols of IP the numbers in each field's prerequisites are among some
 module _ (ns : Field → List ℕ) (ipv4 : IsAmong 0x0800 (ns EthType)) (ipv6 : IsAmong 0x86dd (ns EthType)) (tcp : IsAmong 6 (ns IpProto))
     (udp : IsAmong 17 (ns IpProto)) where

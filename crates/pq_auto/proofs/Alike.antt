@@ -4,7 +4,7 @@ use Rattle.std.proofs.Common.{length, map, Some, inl, inr, refl, sym, ap, ap₂,
 use Rattle.std.specs.List.{slice_get, list_any, position_or_len}
 use Rattle.std.proofs.lemmas.List.{get_or-map, map-append, length-map}
 use Rattle.std.proofs.Math.ListN.{get_or}
-use Rattle.std.proofs.lemmas.Option.{slice_get-get_or}
+use Rattle.std.proofs.lemmas.Option.{slice_get-get_or, same_Some}
 use Rattle.indexmap.specs.IndexSet.{insert_key}
 use Rattle.std.specs.contracts.prelude.BoolPartialEq.TheImpl.{ghosts as bools}
 use Rattle.std.specs.Cmp.Lexicographic.{pointwise, same_text}
@@ -119,10 +119,6 @@ letter_rest alphabet letter v signature k next r h is same rest stepped =
     let told : get_or (map (λ v. v.items) alphabet) letter [] ≡ v.items = get_or-map (λ v. v.items) alphabet letter v [] h ∙ ap (λ u. u.items) (sym is) in
     stepped ∙ ap₂ behind rest (same ∙ sym told)
 
--- what is first in equal options
-same_some : {X : Type 0} (o : X) (x y : X) → Some x ≡ Some y → x ≡ y
-same_some o x y h = cc
-
 -- the state that is read at a place
 pub read_at : (keys slice : List (StateValue × Bool)) (place : ℕ) (k : StateValue × Bool) → place < length keys → slice ≡ keys
     → k ≡ get_or slice place k → slice_get keys place ≡ Some k
@@ -131,4 +127,4 @@ read_at keys slice place k h same is = slice_get-get_or keys place k h ∙ ap So
 -- the rest of the state at a place
 pub rest_at : (keys : List (StateValue × Bool)) (place : ℕ) (k : StateValue × Bool) (r : Rest) → slice_get keys place ≡ Some k
     → slice_get (rests keys) place ≡ Some r → rest_of k ≡ r
-rest_at keys place k r at told = same_some r (rest_of k) r (sym (image_place rest_of keys place k at) ∙ told)
+rest_at keys place k r at told = same_Some (rest_of k) r (sym (image_place rest_of keys place k at) ∙ told)

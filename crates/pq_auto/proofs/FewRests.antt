@@ -19,6 +19,7 @@ use Rattle.pq_auto.specs.Met.{met_eq}
 use Rattle.pq_auto.proofs.Alike.{exact_bool}
 use Rattle.pq_auto.proofs.Counted.{one_of_all}
 use Rattle.pq_auto.proofs.Searched.{key_reached}
+use Rattle.pq_auto.proofs.Products.{choice_turned, chosen_itself}
 
 -- the places of the states of one parity, counted from this one
 abbrev places : Bool → ℕ → List (StateValue × Bool) → List ℕ
@@ -103,17 +104,8 @@ placed b (k ∷ ks) i (suc n) r at is =
 -- the parity after a word
 pub even_behind : (alphabet : List (List Bool)) (w : List ℕ) (r : Rest)
     → (run (after alphabet) r w).even ≡ (if r.even then has_even_length w else not (has_even_length w))
-even_behind alphabet [] r = by r.even
-  where
-    by : (b : Bool) → b ≡ (if b then true else false)
-    by true = refl
-    by false = refl
-even_behind alphabet (l ∷ w) r = even_behind alphabet w (after alphabet r l) ∙ by r.even (has_even_length w)
-  where
-    by : (b c : Bool) → (if not b then c else not c) ≡ (if b then not c else not (not c))
-    by true c = refl
-    by false true = refl
-    by false false = refl
+even_behind alphabet [] r = chosen_itself r.even
+even_behind alphabet (l ∷ w) r = even_behind alphabet w (after alphabet r l) ∙ choice_turned r.even (has_even_length w)
 
 -- there are at most this many states of one parity as the expression has rests
 few_at : (e : ExprTree) (keys : List (StateValue × Bool)) → AreAlike keys → AreRestsOf e keys → IsDistinct met_eq keys → IsLawful e

@@ -10,7 +10,7 @@ use Rattle.pq_auto.specs.Search.{IsNumber, IsOnce}
 use Rattle.pq_auto.specs.Tables.{lists}
 
 -- lists that compare as equal are one
-exact : (xs ys : List ℕ) → pointwise nat_eq xs ys ≡ true → xs ≡ ys
+pub exact : (xs ys : List ℕ) → pointwise nat_eq xs ys ≡ true → xs ≡ ys
 exact [] [] h = refl
 exact [] (y ∷ ys) h = absurd cc
 exact (x ∷ xs) [] h = absurd cc

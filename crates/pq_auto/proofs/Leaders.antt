@@ -10,9 +10,9 @@ use Rattle.pq_auto.specs.Machine.{Machine, IsMachine, AreSame}
 use Rattle.pq_auto.specs.Parts.{Parts, IsParted, class_of, first_of}
 use Rattle.pq_auto.specs.Refinement.{IsRound, mark, row_of}
 use Rattle.pq_auto.specs.Leading.{AreLed, AreFirsts, GivesFirst, IsNext, key_in, leader_in, row_in}
-use Rattle.pq_auto.proofs.Numbers.{class_within, one_key}
+use Rattle.pq_auto.proofs.Numbers.{one_key}
 use Rattle.pq_lists.proofs.Places.{kept_places, last_place, older_or_last}
-use Rattle.pq_auto.proofs.Rounds.{next_within, rows_same}
+use Rattle.pq_auto.proofs.Rounds.{next_within, rows_same, class_in}
 
 module _ (m : Machine) (leaders : List ℕ) where
   module _ (seen new : List (List ℕ)) (firsts more : List ℕ) (are : AreFirsts m leaders seen firsts) (s first : ℕ) where
@@ -140,14 +140,11 @@ led_parts m p round = record {
   whole = length-map p.classes (first_of p) ∙ round.whole;
   within = λ s h. rw (at s h) (inside s h);
   coarse = λ s t hs ht same. at s hs ∙ ap (first_of p) (round.coarse s t hs ht same) ∙ sym (at t ht);
-  fine = λ s h. rw (at s h) (round.fine s (first_of p (class_of p s)) h (inside s h) (sym (round.parted.first (class_of p s) (own s h))));
+  fine = λ s h. rw (at s h) (round.fine s (first_of p (class_of p s)) h (inside s h) (sym (round.parted.first (class_of p s) (class_in m p round s h))));
 }
   where
-    own : (s : ℕ) → s < length m.rows → class_of p s < length p.firsts
-    own s h = class_within round.key p round.parted s (omega (arith, round.whole))
-
     inside : (s : ℕ) → s < length m.rows → first_of p (class_of p s) < length m.rows
-    inside s h = let low = round.parted.within (class_of p s) (own s h) in omega (arith, low, round.whole)
+    inside s h = let low = round.parted.within (class_of p s) (class_in m p round s h) in omega (arith, low, round.whole)
 
     at : (s : ℕ) → s < length m.rows → get_or (map (first_of p) p.classes) s 0 ≡ first_of p (class_of p s)
     at s h = get_or-map (first_of p) p.classes s 0 0 (omega (arith, round.whole))

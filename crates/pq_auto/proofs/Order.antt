@@ -1,18 +1,13 @@
 -- The order of words: by length, then by letters.
-use Rattle.std.proofs.Common.{◌≡◌, ℕ, ◌<◌, inl, inr, Ordering, Less, Equal, Greater, List, [], ◌∷◌, ◌++◌, length, refl, sym, ap, subst, ◌∙◌}
+use Rattle.std.proofs.Common.{◌≡◌, ℕ, ◌<◌, inl, inr, Less, Equal, List, [], ◌∷◌, ◌++◌, length, refl, sym, ap, subst, ◌∙◌}
 use Rattle.std.proofs.Common.{arith, length-append}
 use Rattle.std.specs.Ordering.{nat_cmp, ordering_then}
 use Rattle.std.specs.Cmp.{nat_cmp_is, tied_itself}
 use Rattle.std.specs.Cmp.Lexicographic.{slice_cmp}
 use Rattle.std.proofs.lemmas.Cmp.{nat_list_cmp_total}
+use Rattle.pq_lists.proofs.Orderings.{then_grouped}
 use Rattle.pq_auto.specs.Numbering.{IsBefore}
 use Rattle.pq_auto.specs.Searched.{IsAtMost}
-
--- comparisons one after another are grouped in either way
-grouped : (o p q : Ordering) → ordering_then o (ordering_then p q) ≡ ordering_then (ordering_then o p) q
-grouped Less p q = refl
-grouped Equal p q = refl
-grouped Greater p q = refl
 
 -- words of one length compare before what follows them
 compared : (u v x y : List ℕ) → length u ≡ length v → slice_cmp nat_cmp (u ++ x) (v ++ y) ≡ ordering_then (slice_cmp nat_cmp u v) (slice_cmp nat_cmp x y)
@@ -20,7 +15,7 @@ compared [] [] x y same = refl
 compared [] (b ∷ v) x y same = absurd (omega (arith, same))
 compared (a ∷ u) [] x y same = absurd (omega (arith, same))
 compared (a ∷ u) (b ∷ v) x y same = ap (ordering_then (nat_cmp a b)) (compared u v x y (omega (arith, same)))
-    ∙ grouped (nat_cmp a b) (slice_cmp nat_cmp u v) (slice_cmp nat_cmp x y)
+    ∙ then_grouped (nat_cmp a b) (slice_cmp nat_cmp u v) (slice_cmp nat_cmp x y)
 
 pub before_trans : (u v w : List ℕ) → IsBefore u v → IsBefore v w → IsBefore u w
 before_trans u v w (inl h) (inl k) = inl (omega (arith, h, k))

@@ -24,6 +24,17 @@ run_at tables j t at (l ∷ w) k =
     run_at tables j t at w (steps tables k l)
     ∙ ap (λ s. follow t.rows s w) (step_at tables 1 j k l t at ∙ ap (λ n. get_or (get_or t.rows (get_or k n 0) []) l 0) (omega arith))
 
+-- a condition is the choice that it makes
+pub chosen_itself : (b : Bool) → b ≡ (if b then true else false)
+chosen_itself true = refl
+chosen_itself false = refl
+
+-- a choice by the opposite of a condition
+pub choice_turned : (b c : Bool) → (if not b then c else not c) ≡ (if b then not c else not (not c))
+choice_turned true c = refl
+choice_turned false true = refl
+choice_turned false false = refl
+
 -- the parity after a letter
 turned : (n : ℕ) → (other_parity n == 0) ≡ not (n == 0)
 turned n = by (n == 0)
@@ -35,20 +46,11 @@ turned n = by (n == 0)
 -- the parity after a word
 parity_after : (tables : List Machine) (w k : List ℕ)
     → is_even_key (run (steps tables) k w) ≡ (if is_even_key k then has_even_length w else not (has_even_length w))
-parity_after tables [] k = by (is_even_key k)
-  where
-    by : (b : Bool) → b ≡ (if b then true else false)
-    by true = refl
-    by false = refl
+parity_after tables [] k = chosen_itself (is_even_key k)
 parity_after tables (l ∷ w) k =
     parity_after tables w (steps tables k l)
     ∙ ap (λ b. if b then has_even_length w else not (has_even_length w)) (turned (get_or k 0 0))
-    ∙ by (is_even_key k) (has_even_length w)
-  where
-    by : (b c : Bool) → (if not b then c else not c) ≡ (if b then not c else not (not c))
-    by true c = refl
-    by false true = refl
-    by false false = refl
+    ∙ choice_turned (is_even_key k) (has_even_length w)
 
 -- the parity of a word
 pub parity_of : (tables : List Machine) (w : List ℕ) → is_even_key (run (steps tables) (begin tables) w) ≡ has_even_length w

@@ -6,8 +6,7 @@ use Rattle.std.proofs.lemmas.List.{get_or-map, length-map}
 use Rattle.pq_auto.specs.Machine.{Machine, IsMachine, IsLeastMachine, SaySame, AreSame, AllBelow, follow, reached, is_even_at, accepted_at}
 use Rattle.pq_auto.specs.Parts.{Parts, class_of, first_of}
 use Rattle.pq_auto.specs.Refinement.{IsLast, row_of, quotient}
-use Rattle.pq_auto.proofs.Numbers.{class_within}
-use Rattle.pq_auto.proofs.Rounds.{next, next_within, letter_in, follow_within, classes_same, same_parity, same_accepted}
+use Rattle.pq_auto.proofs.Rounds.{next, next_within, letter_in, follow_within, classes_same, same_parity, same_accepted, class_in}
 
 -- numbers below a bound, taken below another
 all_mapped : (n k : ℕ) (f : ℕ → ℕ) (xs : List ℕ) → ((s : ℕ) → s < n → f s < k) → AllBelow n xs → AllBelow k (map f xs)
@@ -15,10 +14,6 @@ all_mapped n k f [] h below = tt
 all_mapped n k f (x ∷ xs) h below = (h x below.0, all_mapped n k f xs h below.1)
 
 module _ (m : Machine) (p : Parts) (machine : IsMachine m) (last : IsLast m p) where
-  -- the class of a state is a class
-  class_in : (s : ℕ) → s < length m.rows → class_of p s < length p.firsts
-  class_in s h = class_within last.round.key p last.round.parted s (omega (arith, last.round.whole))
-
   -- the first state of a class is a state
   pub first_in : (c : ℕ) → c < length p.firsts → first_of p c < length m.rows
   first_in c h = let within = last.round.parted.within c h in omega (arith, within, last.round.whole)
@@ -36,15 +31,15 @@ module _ (m : Machine) (p : Parts) (machine : IsMachine m) (last : IsLast m p) w
   head s = first_of p (class_of p s)
 
   head_in : (s : ℕ) → s < length m.rows → head s < length m.rows
-  head_in s h = first_in (class_of p s) (class_in s h)
+  head_in s h = first_in (class_of p s) (class_in m p last.round s h)
 
   head_class : (s : ℕ) → s < length m.rows → class_of p (head s) ≡ class_of p s
-  head_class s h = last.round.parted.first (class_of p s) (class_in s h)
+  head_class s h = last.round.parted.first (class_of p s) (class_in m p last.round s h)
 
   -- a letter leads from the class of a state to the class of the next one
   step : (s l : ℕ) → s < length m.rows → l < m.letters → get_or (row_of (quotient m p) (class_of p s)) l 0 ≡ class_of p (next m s l)
   step s l h hl =
-      ap (λ row. get_or row l 0) (row_at (class_of p s) (class_in s h))
+      ap (λ row. get_or row l 0) (row_at (class_of p s) (class_in m p last.round s h))
       ∙ get_or-map (class_of p) (row_of m (head s)) l 0 0 (letter_in m machine (head s) l (head_in s h) hl)
       ∙ classes_same m machine p (head s) s l (head_in s h) h hl (last.leads (head s) s (head_in s h) h (head_class s h))
 
@@ -58,12 +53,12 @@ module _ (m : Machine) (p : Parts) (machine : IsMachine m) (last : IsLast m p) w
   -- a class has the parity of its states, and accepts what they do
   even_at : (s : ℕ) → s < length m.rows → is_even_at (quotient m p) (class_of p s) ≡ is_even_at m s
   even_at s h =
-      get_or-map (is_even_at m) p.firsts (class_of p s) 0 true (class_in s h)
+      get_or-map (is_even_at m) p.firsts (class_of p s) 0 true (class_in m p last.round s h)
       ∙ same_parity m machine (head s) s (last.round.fine (head s) s (head_in s h) h (head_class s h))
 
   accepts_at : (s : ℕ) → s < length m.rows → accepted_at (quotient m p) (class_of p s) ≡ accepted_at m s
   accepts_at s h =
-      get_or-map (accepted_at m) p.firsts (class_of p s) 0 [] (class_in s h)
+      get_or-map (accepted_at m) p.firsts (class_of p s) 0 [] (class_in m p last.round s h)
       ∙ same_accepted m machine (head s) s (last.round.fine (head s) s (head_in s h) h (head_class s h))
 
   -- the class of state 0 is 0
@@ -71,7 +66,7 @@ module _ (m : Machine) (p : Parts) (machine : IsMachine m) (last : IsLast m p) w
   class_zero = elim (cases_lt 0 (class_of p 0)) [
     | inl more ↦ absurd (
         let low = last.round.parted.least 0 (omega (arith, machine.some, last.round.whole)) in
-        let up = last.round.parted.ascend 0 (class_of p 0) more (class_in 0 machine.some) in
+        let up = last.round.parted.ascend 0 (class_of p 0) more (class_in m p last.round 0 machine.some) in
         omega (arith, low, up))
     | inr none ↦ omega arith
   ]
@@ -125,7 +120,7 @@ module _ (m : Machine) (p : Parts) (machine : IsMachine m) (last : IsLast m p) w
   -- it is an automaton
   pub is_machine : IsMachine (quotient m p)
   is_machine = record {
-    some = let some = class_in 0 machine.some in omega (arith, some, count_is);
+    some = let some = class_in m p last.round 0 machine.some in omega (arith, some, count_is);
     even = length-map p.firsts (is_even_at m) ∙ sym count_is;
     accepted = length-map p.firsts (accepted_at m) ∙ sym count_is;
     long = λ c h. long c (omega (arith, count_is));
@@ -138,5 +133,5 @@ module _ (m : Machine) (p : Parts) (machine : IsMachine m) (last : IsLast m p) w
       within : (c : ℕ) → c < length p.firsts → AllBelow (length (quotient m p).rows) (row_of (quotient m p) c)
       within c h = rw (row_at c h) (
           all_mapped (length m.rows) (length (quotient m p).rows) (class_of p) (row_of m (first_of p c))
-          (λ s hs. let in_p = class_in s hs in omega (arith, in_p, count_is))
+          (λ s hs. let in_p = class_in m p last.round s hs in omega (arith, in_p, count_is))
           (machine.within (first_of p c) (first_in c h)))

@@ -6,7 +6,7 @@ use Rattle.pq_auto.specs.Machine.{Machine, IsMachine, AreSame, AllBelow, follow,
 use Rattle.pq_auto.proofs.Below.{one_below}
 use Rattle.pq_auto.specs.Parts.{Parts, IsParted, class_of}
 use Rattle.pq_auto.specs.Refinement.{IsRound, IsLast, parity_number, mark, signature, row_of}
-use Rattle.pq_auto.proofs.Numbers.{one_key}
+use Rattle.pq_auto.proofs.Numbers.{one_key, class_within}
 use Rattle.pq_auto.proofs.Settled.{settled}
 
 -- the parities of two marks that are equal
@@ -19,6 +19,10 @@ parity_of false true e = absurd (omega arith)
 -- the state after a letter
 abbrev pub next : Machine → ℕ → ℕ → ℕ
 next m s l = get_or (row_of m s) l 0
+
+-- the class of a state is a class
+pub class_in : (m : Machine) (p : Parts) → IsRound m p → (s : ℕ) → s < length m.rows → class_of p s < length p.firsts
+class_in m p round s h = class_within round.key p round.parted s (omega (arith, round.whole))
 
 module _ (m : Machine) (machine : IsMachine m) where
   -- a letter is in each row

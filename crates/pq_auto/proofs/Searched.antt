@@ -3,7 +3,7 @@ use Rattle.std.proofs.Common.{◌≡◌, ℕ, suc, ◌<◌, ◌≤◌, ◌⊎◌
 use Rattle.std.proofs.Common.{append-nil, append_assoc}
 use Rattle.std.specs.List.{slice_get}
 use Rattle.std.proofs.Math.ListN.{get_or}
-use Rattle.std.proofs.lemmas.Option.{slice_get_within, get_or_from_slice_get}
+use Rattle.std.proofs.lemmas.Option.{slice_get_within, get_or_from_slice_get, same_Some}
 use Rattle.pq_auto.specs.Machine.{Machine, AllBelow, follow, reached}
 use Rattle.pq_auto.specs.Numbering.{IsBefore, IsLeastTo, IsNumbered}
 use Rattle.pq_auto.specs.Search.{run, IsOnce}
@@ -16,10 +16,6 @@ use Rattle.pq_auto.proofs.Searching.{key_of}
 pub each_below : (n : ℕ) (row : List ℕ) → ((l : ℕ) → l < length row → get_or row l 0 < n) → AllBelow n row
 each_below n [] each = tt
 each_below n (x ∷ row) each = (each 0 (omega arith), each_below n row (λ l h. each (suc l) (omega (arith, h))))
-
--- what is first in equal options
-same_some : {X : Type 0} (o : X) (x y : X) → Some x ≡ Some y → x ≡ y
-same_some o x y h = cc
 
 module _ {K : Type 0} (goes : K → ℕ → K) (begin : K) (a : Machine) (keys : List K) (searched : IsSearched goes begin a.letters keys a.rows)
     (all : length keys ≤ length a.rows) where
@@ -34,8 +30,8 @@ module _ {K : Type 0} (goes : K → ℕ → K) (begin : K) (a : Machine) (keys :
       → IsEntry goes begin a.letters keys searched.words k w l (get_or (get_or a.rows s []) l 0)
   entry_at s k w l at at_w h =
       let row = row_at s k at in
-      let same_key : row.key ≡ k = same_some k row.key k (sym row.key_at ∙ at) in
-      let same_word : row.word ≡ w = same_some w row.word w (sym row.word_at ∙ at_w) in
+      let same_key : row.key ≡ k = same_Some row.key k (sym row.key_at ∙ at) in
+      let same_word : row.word ≡ w = same_Some row.word w (sym row.word_at ∙ at_w) in
       subst (λ x. IsEntry goes begin a.letters keys searched.words x w l (get_or (get_or a.rows s []) l 0)) same_key
       (subst (λ x. IsEntry goes begin a.letters keys searched.words row.key x l (get_or (get_or a.rows s []) l 0)) same_word (row.entries l h))
 
@@ -102,7 +98,7 @@ module _ {K : Type 0} (goes : K → ℕ → K) (begin : K) (a : Machine) (keys :
           leads = once (reached a w) s (run goes begin w) (key_reached w below) key;
           least = λ v all_below leads.
               let found = least v [] 0 [] searched.have.first (inl refl) all_below in
-              let same : found.0 ≡ w = same_some w found.0 w (sym found.1 ∙ ap (slice_get searched.words) leads ∙ at) in
+              let same : found.0 ≡ w = same_Some found.0 w (sym found.1 ∙ ap (slice_get searched.words) leads ∙ at) in
               turned v w (subst (λ x. IsAtMost x v) same found.2);
         }
       where

@@ -31,6 +31,7 @@ use Rattle.pq_auto.specs.Exploration.{holding}
 use Rattle.pq_auto.specs.Machine.{AllBelow, Machine, accepted_at}
 use Rattle.pq_store.specs.Room.{HasRoom, IsAmong, IsCounted}
 use Rattle.pq_apply.specs.Predicates.{ArePredsWithin, IsPredWithin, IsTopWithin, NeedsAmong}
+use Rattle.pq_apply.proofs.Required.{port_needs}
 use Rattle.pq_letters.specs.Letters.{LettersValue, IsLettered}
 use Rattle.pq_letters.specs.Words.{letters_of}
 use Rattle.pq_classes.specs.Lowered.{AreLowered, IsAdded, IsLowered}
@@ -102,11 +103,8 @@ list_built ns [] all = tt
 list_built ns (p ∷ ps) all = (all.0.0, within_built ns p.below all.0.1, list_built ns ps all.1)
 
 -- port 0 is tested at every atom
-no_needs : (ns : Field → List ℕ) → NeedsAmong ns Port
-no_needs ns = record { types = λ v among. absurd (omega (arith, among.2)); protocols = λ v among. absurd (omega (arith, among.2)) }
-
 kept_within : (ns : Field → List ℕ) → IsAmong 0 (ns Port) → IsKept (Says ns)
-kept_within ns ported = record { always = tt; never = tt; dropped = ((λ narrow. ported), no_needs ns); every = λ ps some. tt; negated = λ ps some. tt }
+kept_within ns ported = record { always = tt; never = tt; dropped = ((λ narrow. ported), port_needs ns); every = λ ps some. tt; negated = λ ps some. tt }
 
 tested_within : (ns : Field → List ℕ) (gs : List Group) (label : List ℕ) → AllByRecursion (λ g. NeedsAmong ns g.field) gs
     → Along (IsCounted ns) gs label → AreTested (Says ns) gs label

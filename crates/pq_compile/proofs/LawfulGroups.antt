@@ -6,6 +6,7 @@ use Rattle.std.proofs.Common.{arith, refl, ap, sym, subst, ◌∙◌, length-app
 use Rattle.std.proofs.lemmas.List.{map-append}
 use Rattle.std.proofs.lemmas.List.Elements.{All-from_recursion}
 use Rattle.std.proofs.lemmas.Map.Keys.{IsDistinct-push}
+use Rattle.std.proofs.lemmas.Bool.{not-false}
 use Rattle.pq_lists.proofs.Holding.{all_push}
 use Rattle.pq_term.specs.declared.token.Token.{Token}
 use Rattle.pq_tree.specs.Trees.{Forest, nothing, grown}
@@ -99,10 +100,6 @@ module _ (T : Topology) (V : Field → ℕ → Type 0) (over : ReadsOver T V) (b
       let rules = unless_ok t ((is_grouped g earlier, Doubled) ∷ (not stated && not (is_listed g), NotListed) ∷ (is_wide g, NotListed) ∷ []) g f told.2 in
       subst (IsReadField earlier stated) rules.1 (record { new = rules.0.0; listed = rules.0.1.0; narrow = rules.0.1.1.0 })
 
-  kept : (b : Bool) → not b ≡ false → b ≡ true
-  kept true e = refl
-  kept false e = absurd cc
-
   -- a group whose field is new is lawful
   group_read : (earlier : List Group) (t : Token) (below : Forest) (g : Group) → group_at T bytes earlier t below ≡ Ok g
       → IsGroupOver V g × (is_grouped g.field earlier ≡ false)
@@ -110,7 +107,7 @@ module _ (T : Topology) (V : Field → ℕ → Type 0) (over : ReadsOver T V) (b
       let told = next_ok (grouped_at bytes earlier false t) (λ f. Ok (unstated f)) g e in
       let read = field_read earlier false t told.0 told.1 in
       let same : unstated told.0 ≡ g = cc in
-      subst (λ g. IsGroupOver V g × (is_grouped g.field earlier ≡ false)) same ((read.narrow, kept (is_listed told.0) read.listed), read.new)
+      subst (λ g. IsGroupOver V g × (is_grouped g.field earlier ≡ false)) same ((read.narrow, not-false (is_listed told.0) read.listed), read.new)
   group_read earlier t (grown u below rest) g e =
       let told = next_ok (grouped_at bytes earlier true t) (λ f. with_values T bytes f (grown u below rest)) g e in
       let read = field_read earlier true t told.0 told.1 in

@@ -29,18 +29,19 @@ IsRead (Ok d) = Unit {0}
 IsRead (Err f) = ⊥
 
 -- the fault of a text, as one of a document
-abbrev as_document : TermFault → DocumentFault
+abbrev pub as_document : TermFault → DocumentFault
 as_document (LexTerm i) = Lex i
 as_document (SyntaxTerm i) = Syntax i
 as_document MemoryTerm = Memory
 
 -- what is not running out of memory
-abbrev IsText : TermFault → Type 0
+abbrev pub IsText : TermFault → Type 0
 IsText (LexTerm i) = Unit {0}
 IsText (SyntaxTerm i) = Unit {0}
 IsText MemoryTerm = ⊥
 
-not_memory : (f : TermFault) → IsText f → f ≡ MemoryTerm → ⊥
+-- so it is no MemoryTerm
+pub not_memory : (f : TermFault) → IsText f → f ≡ MemoryTerm → ⊥
 not_memory f text h = subst IsText h text
 
 -- two faults of a text are one

@@ -9,6 +9,7 @@ use Rattle.std.specs.FinMap.{contains_key, find, from_entries, get, get-from_ent
 use Rattle.std.specs.Cmp.{nat_cmp_total, unsigned_tied}
 use Rattle.std.proofs.lemmas.Bool.{and_parts}
 use Rattle.std.proofs.lemmas.Bool.Decides.{nat_tests}
+use Rattle.std.proofs.Math.Bool.{and-false}
 use Rattle.pq_model.specs.declared.group_mod.GroupCommand.TheVariants.{Add, Modify, Delete}
 use Rattle.pq_model.specs.declared.message.Message.TheVariants.{Group}
 use Rattle.pq_model.specs.Mods.{GroupValue}
@@ -157,12 +158,8 @@ not_hit groups k (n ∷ ns) some none = by (n == k) refl (not_hit groups k ns so
     by true is rest = absurd (let no : true || list_any (λ m. m == k) ns ≡ false = sym (ap (λ b. b || list_any (λ m. m == k) ns) is) ∙ none in cc)
     by false is rest =
         let apart : (if k == ALL_GROUPS then true else n == k) ≡ false = ap (λ b. if b then true else n == k) some ∙ is in
-        let kept : is_removed groups k n ≡ false = ap (λ b. contains_key groups n && b) apart ∙ and_false (contains_key groups n) in
+        let kept : is_removed groups k n ≡ false = ap (λ b. contains_key groups n && b) apart ∙ and-false (contains_key groups n) in
         ap (λ b. b || list_any (is_removed groups k) ns) kept ∙ rest (sym (ap (λ b. b || list_any (λ m. m == k) ns) is) ∙ none)
-      where
-        and_false : (b : Bool) → b && false ≡ false
-        and_false true = refl
-        and_false false = refl
 
 -- no entry goes with a group that none names
 pub all-not_hit : (groups : Groups) (k : ℕ) (es : List Entry) → (k == ALL_GROUPS) ≡ false

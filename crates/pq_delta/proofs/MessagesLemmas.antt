@@ -15,6 +15,7 @@ use Rattle.pq_model.specs.Mods.{GroupValue}
 use Rattle.pq_model.specs.Spelling.{apply_bytes, flow_body, goto_bytes, group_body, match_bytes, message_bytes, with_header}
 use Rattle.pq_model.specs.SwitchMachine.{Entry}
 use Rattle.pq_model.specs.Topology.{Switch}
+use Rattle.pq_model.proofs.Lengths.{barrier_lawful}
 use Rattle.pq_delta.specs.Added.{Buckets, entries_added, group_by, groups_added}
 use Rattle.pq_delta.specs.Changes.{Changes, Put, adds_from, amount, change_messages, changes, delete_of, deletes_from, group_delete_of}
 use Rattle.pq_delta.specs.Changes.{group_deletes_from, group_mod_of, group_mods_from, puts_from}
@@ -63,10 +64,6 @@ lawful_put x p small apart low high h = record { content = record { xid = small;
 lawful_group_delete : (x number : ℕ) → x < 2 ^ 32 → 1 ≤ number → number ≤ 0xffffff00 → IsLawfulMessage (Group (group_delete_of x number))
 unfolding message_bytes with_header group_body
 lawful_group_delete x number small low high = record { content = record { xid = small; command = (inl (low, high), refl) }; short = omega arith }
-
-lawful_barrier : (x : ℕ) → x < 2 ^ 32 → IsLawfulMessage (Barrier x)
-unfolding message_bytes with_header
-lawful_barrier x small = record { content = small; short = omega arith }
 
 -- Blocks of them.
 
@@ -180,15 +177,15 @@ module _ (old new : List Message) (lawful_old : All IsLawfulMessage old) (lawful
       (all_append IsLawfulMessage (map Flow (deletes_from 1 c.removed)) (map Group (group_deletes_from (suc (length c.removed)) (suc c.kept) c.gone))
       (lawful_deletes 1 c.removed (omega (arith, short, long)) (all_filter IsLawfulEntry _ (entries_added old) (lawful_entries old lawful_old)))
       (lawful_group_deletes (suc (length c.removed)) (suc c.kept) c.gone (omega (arith, short, long)) (omega arith) (omega (arith, few_old, few_new)))) (
-        lawful_barrier (suc (length c.removed) + c.gone) (omega (arith, short, long)),
+        barrier_lawful (suc (length c.removed) + c.gone) (omega (arith, short, long)),
         all_append IsLawfulMessage (map Group (group_mods_from (suc (suc (length c.removed) + c.gone)) c.puts)) _
             (lawful_puts (suc (suc (length c.removed) + c.gone)) 1 (groups_added old) (groups_added new) (omega (arith, short, long))
             (omega arith) (omega (arith, few_new)) (lawful_groups new lawful_new)) (
-              lawful_barrier (suc (suc (length c.removed) + c.gone) + length c.puts) (omega (arith, short, long)),
+              barrier_lawful (suc (suc (length c.removed) + c.gone) + length c.puts) (omega (arith, short, long)),
               all_append IsLawfulMessage (map Flow (adds_from (suc (suc (suc (length c.removed) + c.gone) + length c.puts)) c.added)) _
                   (lawful_adds (suc (suc (suc (length c.removed) + c.gone) + length c.puts)) c.added (omega (arith, short, long))
                   (all_filter IsLawfulEntry _ (entries_added new) (lawful_entries new lawful_new)))
-                  (lawful_barrier (suc (suc (suc (length c.removed) + c.gone) + length c.puts) + length c.added) (omega (arith, short, long)), tt),
+                  (barrier_lawful (suc (suc (suc (length c.removed) + c.gone) + length c.puts) + length c.added) (omega (arith, short, long)), tt),
             ),
       )
 

@@ -1,9 +1,10 @@
 -- Where the same is added, nothing changes.
-use Rattle.std.proofs.Common.{◌≡◌, ℕ, suc, ◌+◌, ◌<◌, Bool, true, false, ◌||◌, List, [], ◌∷◌, ◌++◌, length, take, get_or, refl, sym, ap, ◌∙◌}
+use Rattle.std.proofs.Common.{◌≡◌, ℕ, suc, ◌+◌, ◌<◌, true, List, [], ◌∷◌, ◌++◌, length, take, get_or, refl, sym, ap, ◌∙◌}
 use Rattle.std.proofs.Common.{arith, append_assoc, if◌then◌else◌}
 use Rattle.std.proofs.Math.Seq.{take-suc}
 use Rattle.std.proofs.lemmas.Bool.{eq-eqb}
 use Rattle.std.proofs.lemmas.List.Elements.{filter_map-append}
+use Rattle.std.proofs.Math.Bool.{or-true}
 use Rattle.pq_model.specs.declared.message.Message.{Message}
 use Rattle.pq_model.specs.SwitchMachine.{Entry}
 use Rattle.pq_delta.specs.Added.{Buckets, entries_added, entry_added, group_added, groups_added}
@@ -15,11 +16,7 @@ use Rattle.pq_delta.specs.Exact.{buckets_itself, entry_itself}
 -- an entry of a list is among its entries
 among : (front : List Entry) (e : Entry) (back : List Entry) → is_among e (front ++ e ∷ back) ≡ true
 among [] e back = rw (entry_itself e) refl
-among (d ∷ front) e back = rw (among front e back) (any (same_entry e d))
-  where
-    any : (b : Bool) → (b || true) ≡ true
-    any true = refl
-    any false = refl
+among (d ∷ front) e back = rw (among front e back) (or-true (same_entry e d))
 
 none_other : (front back : List Entry) → others (front ++ back) back ≡ []
 none_other front [] = refl

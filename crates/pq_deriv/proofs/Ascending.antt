@@ -6,6 +6,7 @@ use Rattle.std.specs.Cmp.{IsTotalOrder}
 use Rattle.std.specs.List.{AllByRecursion}
 use Rattle.std.specs.List.Sorted.{IsStrictlySortedBy}
 use Rattle.std.specs.BTreeSet.{insert_key}
+use Rattle.pq_lists.proofs.Holding.{all_weaker}
 use Rattle.pq_deriv.specs.Choices.{IsOneOf, sublists}
 use Rattle.pq_deriv.proofs.Choices.{one_changed, one_before, one_behind}
 
@@ -15,11 +16,7 @@ of_one P [] x all one = absurd one
 of_one P (y ∷ xs) x all (inl is) = subst P is all.0
 of_one P (y ∷ xs) x all (inr one) = of_one P xs x all.1 one
 
--- what follows for each element follows for all
-pub for_all : {X : Type 0} (P Q : X → Type 0) (xs : List X) → ((x : X) → P x → Q x) → AllByRecursion P xs → AllByRecursion Q xs
-for_all P Q [] follows all = all
-for_all P Q (x ∷ xs) follows all = (follows x all.0, for_all P Q xs follows all.1)
-
+-- what follows from two things for each follows for all
 pub for_both : {X : Type 0} (P Q R : X → Type 0) (xs : List X) → ((x : X) → P x → Q x → R x) → AllByRecursion P xs → AllByRecursion Q xs → AllByRecursion R xs
 for_both P Q R [] follows ps qs = ps
 for_both P Q R (x ∷ xs) follows ps qs = (follows x ps.0 qs.0, for_both P Q R xs follows ps.1 qs.1)
@@ -64,7 +61,7 @@ module _ {K : Type 0} (cmp : K → K → Ordering) (total : IsTotalOrder cmp) wh
 
   -- what is above an element is above what is below it
   lower : (x y : K) (ys : List K) → cmp x y ≡ Less → AllByRecursion (λ z. cmp y z ≡ Less) ys → AllByRecursion (λ z. cmp x z ≡ Less) ys
-  lower x y ys below above = for_all (λ z. cmp y z ≡ Less) (λ z. cmp x z ≡ Less) ys (λ z. total.trans x y z below) above
+  lower x y ys below above = all_weaker (λ z. cmp y z ≡ Less) (λ z. cmp x z ≡ Less) (λ z. total.trans x y z below) ys above
 
   -- all elements, with one that is put at its place
   pub all_inserted : (P : K → Type 0) (xs : List K) (k : K) → AllByRecursion P xs → P k → AllByRecursion P (insert_key cmp xs k)

@@ -8,7 +8,7 @@ use Rattle.pq_expr.specs.Expr.{InTurn, expr_trees}
 use Rattle.pq_expr.specs.Language.{in_turn, languages}
 use Rattle.pq_deriv.specs.Parts.{spread, first_set, behind_set}
 use Rattle.pq_deriv.specs.Left.{lefts, turn_left, top_left}
-use Rattle.pq_deriv.proofs.Spread.{behind_none, first_idle, spread_gap}
+use Rattle.pq_deriv.proofs.Spread.{behind_none, first_idle, spread_gap, some_idle, fewer_idle}
 
 -- whether operands accept the empty word, of which the first begins or not, and whose sets are these
 abbrev pub ends_from : Bool → List Expr → List ℕ → Bool
@@ -31,17 +31,9 @@ ends_skipped (suc k) gap left [] few idle = absurd (omega (arith, few))
 ends_skipped (suc k) gap left (e ∷ es) few idle =
     let less : gap - suc k ≡ gap - 1 - k = omega arith in
     let later : ends_from false (drop k es) ((gap - 1 - k) ∷ left) ≡ ends_from false es ((gap - 1) ∷ left) =
-    ends_skipped k (gap - 1) left es (omega (arith, few)) (fewer idle) in
-    let none : first_set (gap ∷ left) ≡ [] = first_idle gap left (some idle) in
-    rw (less, none) (later ∙ sym (ends_behind es gap left (some idle)))
-  where
-    some : (suc k ≤ gap) ⊎ (length left ≡ 0) → (0 < gap) ⊎ (length left ≡ 0)
-    some (inl h) = inl (omega (arith, h))
-    some (inr h) = inr h
-
-    fewer : (suc k ≤ gap) ⊎ (length left ≡ 0) → (k ≤ gap - 1) ⊎ (length left ≡ 0)
-    fewer (inl h) = inl (omega (arith, h))
-    fewer (inr h) = inr h
+    ends_skipped k (gap - 1) left es (omega (arith, few)) (fewer_idle k gap left idle) in
+    let none : first_set (gap ∷ left) ≡ [] = first_idle gap left (some_idle k gap left idle) in
+    rw (less, none) (later ∙ sym (ends_behind es gap left (some_idle k gap left idle)))
 
 -- operands that are passed over, after others
 pub ends_idle : (begins : Bool) (i k gap : ℕ) (left : List ℕ) (es : List Expr) → k ≤ length es - i → (begins ≡ true → k ≡ 0)

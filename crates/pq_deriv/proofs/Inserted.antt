@@ -6,7 +6,7 @@ use Rattle.std.specs.Cmp.{IsTotalOrder}
 use Rattle.std.specs.List.{AllByRecursion}
 use Rattle.std.specs.List.Sorted.{IsStrictlySortedBy, IsNonDecreasingBy, IsPartitionPoint}
 use Rattle.std.proofs.lemmas.List.Sorted.{searchable_from_sorted}
-use Rattle.pq_deriv.proofs.Ascending.{for_all}
+use Rattle.pq_lists.proofs.Holding.{all_weaker}
 
 -- what is true of all elements, and of one that is put in
 pub all_put : {V K : Type 0} (key : V → K) (P : K → Type 0) (vs : List V) (v : V) (i : ℕ) → AllByRecursion P (map key vs) → P (key v)
@@ -38,7 +38,7 @@ module _ {V K : Type 0} (key : V → K) (cmp : K → K → Ordering) (total : Is
   ascends_put [] v (suc i) up within place = absurd (omega (arith, within))
   ascends_put (u ∷ vs) v zero up within place =
       let below : cmp (key v) (key u) ≡ Less = total.antisymm (key v) (key u) ∙ ap ordering_reverse (place.1 0 u (omega arith) (omega arith)) in
-      ((below, for_all (λ z. cmp (key u) z ≡ Less) (λ z. cmp (key v) z ≡ Less) (map key vs) (λ z. total.trans (key v) (key u) z below) up.0), up)
+      ((below, all_weaker (λ z. cmp (key u) z ≡ Less) (λ z. cmp (key v) z ≡ Less) (λ z. total.trans (key v) (key u) z below) (map key vs) up.0), up)
   ascends_put (u ∷ vs) v (suc i) up within place = (
     all_put key (λ z. cmp (key u) z ≡ Less) vs v i up.0 (place.0 0 u (omega arith) (omega arith)),
     ascends_put vs v i up.1 (omega (arith, within)) (

@@ -13,7 +13,7 @@ use Rattle.pq_deriv.specs.Parts.{members, set_of, first_part, behind_part, first
 use Rattle.pq_deriv.specs.Left.{Left, left, lefts, set_left, turn_left, top_left, repeated_left}
 use Rattle.pq_deriv.specs.Stepped.{some_ends, stepped_left, IsSetStepped, AreStepped, AreSetsStepped}
 use Rattle.pq_deriv.proofs.Reading.{parts_front, members_read}
-use Rattle.pq_deriv.proofs.Spread.{first_read, behind_read, spread_gap, first_idle, behind_none, wide_none, widened_wide, wide_wide}
+use Rattle.pq_deriv.proofs.Spread.{first_read, behind_read, spread_gap, first_idle, behind_none, wide_none, widened_wide, wide_wide, some_idle, fewer_idle}
 use Rattle.pq_deriv.proofs.Turns.{one_language, set_cons, set_ends, turn_stepped}
 
 -- a member more
@@ -78,19 +78,11 @@ sets_skipped l (suc k) gap left more [] few idle steps = absurd (omega (arith, f
 sets_skipped l (suc k) gap left more (e ∷ es) few idle steps =
     let less : gap - suc k ≡ gap - 1 - k = omega arith in
     let later : AreSetsStepped l (expr_trees es) false ((gap - 1) ∷ left) (wide k more) =
-    sets_skipped l k (gap - 1) left more es (omega (arith, few)) (fewer idle) (rw less at steps) in
-    let none : first_set (gap ∷ left) ≡ [] = first_idle gap left (some idle) in
+    sets_skipped l k (gap - 1) left more es (omega (arith, few)) (fewer_idle k gap left idle) (rw less at steps) in
+    let none : first_set (gap ∷ left) ≡ [] = first_idle gap left (some_idle k gap left idle) in
     subst (AreSetsStepped l (expr_trees (e ∷ es)) false (gap ∷ left)) (widened_wide k more)
     (turn_more l e es false (gap ∷ left) [] (wide k more) (rw none (λ P w. refl))
-    (rw none (sets_behind l (expr_trees es) gap left (wide k more) (some idle) later)))
-  where
-    some : (suc k ≤ gap) ⊎ (length left ≡ 0) → (0 < gap) ⊎ (length left ≡ 0)
-    some (inl h) = inl (omega (arith, h))
-    some (inr h) = inr h
-
-    fewer : (suc k ≤ gap) ⊎ (length left ≡ 0) → (k ≤ gap - 1) ⊎ (length left ≡ 0)
-    fewer (inl h) = inl (omega (arith, h))
-    fewer (inr h) = inr h
+    (rw none (sets_behind l (expr_trees es) gap left (wide k more) (some_idle k gap left idle) later)))
 
 -- where operands begin, none is passed over
 pub sets_idle : (l : HalfStep) (begins : Bool) (k gap : ℕ) (left more : List ℕ) (es : List Expr) → k ≤ length es → (begins ≡ true → k ≡ 0)

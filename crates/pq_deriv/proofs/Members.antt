@@ -10,14 +10,11 @@ use Rattle.std.specs.Cmp.Lexicographic.{slice_cmp}
 use Rattle.std.proofs.lemmas.List.{take-append-drop}
 use Rattle.std.proofs.lemmas.Slice.Eq.{bytes_eq-Decides}
 use Rattle.std.proofs.lemmas.Map.Text.{is_eq-slice_cmp}
+use Rattle.pq_lists.proofs.Booleans.{or_swapped, or_twice}
 
 -- lists that compare as equal are one
 pub same_lists : (xs ys : List ℕ) → slice_cmp nat_cmp xs ys ≡ Equal → xs ≡ ys
 same_lists xs ys equal = (bytes_eq-Decides xs ys).0 (sym (is_eq-slice_cmp xs ys) ∙ ap is_eq equal)
-
-twice : (a b : Bool) → (a || b) ≡ (a || (a || b))
-twice true b = refl
-twice false b = refl
 
 later : (a b c : Bool) → c ≡ (b || c) → (a || c) ≡ (b || (a || c))
 later true true c h = refl
@@ -29,7 +26,7 @@ pub had : {V : Type 0} (items : V → List ℕ) (t : List ℕ → Bool) (r : Lis
     → ((d : V) → slice_cmp nat_cmp (items (get_or vs i d)) r ≡ Equal) →
     list_any t (map items vs) ≡ (t r || list_any t (map items vs))
 had items t r [] i within equal = absurd (omega (arith, within))
-had items t r (v ∷ vs) zero within equal = let same = same_lists (items v) r (equal v) in rw same (twice (t r) (list_any t (map items vs)))
+had items t r (v ∷ vs) zero within equal = let same = same_lists (items v) r (equal v) in rw same (or_twice (t r) (list_any t (map items vs)))
 had items t r (v ∷ vs) (suc i) within equal = later (t (items v)) (t r) (list_any t (map items vs)) (had items t r vs i (omega (arith, within)) equal)
 
 -- a member that is put in somewhere
@@ -37,11 +34,7 @@ pub put_in : {V : Type 0} (items : V → List ℕ) (t : List ℕ → Bool) (v : 
     list_any t (map items (before ++ (v ∷ behind))) ≡ (t (items v) || list_any t (map items (before ++ behind)))
 put_in items t v [] behind = refl
 put_in items t v (u ∷ before) behind =
-    rw (put_in items t v before behind) (swapped (t (items u)) (t (items v)) (list_any t (map items (before ++ behind)))) where
-      swapped : (a b c : Bool) → (a || (b || c)) ≡ (b || (a || c))
-      swapped true true c = refl
-      swapped true false c = refl
-      swapped false b c = refl
+    rw (put_in items t v before behind) (or_swapped (t (items u)) (t (items v)) (list_any t (map items (before ++ behind))))
 
 pub inserted : {V : Type 0} (items : V → List ℕ) (t : List ℕ → Bool) (v : V) (vs : List V) (i : ℕ) →
     list_any t (map items (take i vs ++ (v ∷ drop i vs))) ≡ (t (items v) || list_any t (map items vs))

@@ -10,6 +10,7 @@ use Rattle.std.proofs.lemmas.List.Sums.{sum_by-cons}
 use Rattle.std.proofs.lemmas.Map.Made.{length-le_from_is_member}
 use Rattle.std.proofs.lemmas.Nat.{mul-le, pow-add}
 use Rattle.std.proofs.Math.Nat.{pow-le-pow_right, pow-succ'}
+use Rattle.pq_lists.proofs.Holding.{all_weaker}
 use Rattle.pq_expr.specs.Expr.{ExprTop, NoWord, EmptyWord, Enters, Leaves, InTurn, Either, Both, Other, Repeated, Exprs, none, put}
 use Rattle.pq_expr.specs.Expr.{ExprTree, HasOperands, AreLawful, IsLawful}
 use Rattle.pq_deriv.specs.Parts.{spelled, set_of, packed}
@@ -18,7 +19,7 @@ use Rattle.pq_deriv.specs.Most.{product, first_number, top_most, mosts, most}
 use Rattle.pq_deriv.specs.Rests.{ascending, AreMembers, sets, first_rests, top_rests, rests, all_rests, IsRest}
 use Rattle.pq_deriv.proofs.Members.{same_lists}
 use Rattle.pq_deriv.proofs.Choices.{one_changed, count_chosen, count_sublists}
-use Rattle.pq_deriv.proofs.Ascending.{for_all, one_sublist, ascends_inserted, count_inserted, one_kept, one_inserted}
+use Rattle.pq_deriv.proofs.Ascending.{one_sublist, ascends_inserted, count_inserted, one_kept, one_inserted}
 
 -- the rests in ascending order
 ascends : (U : List (List ℕ)) → IsStrictlySortedBy (slice_cmp nat_cmp) (ascending U)
@@ -40,7 +41,7 @@ pub one_set : (U set : List (List ℕ)) → AreMembers U set → IsOneOf (sets U
 one_set U set members =
     one_changed set_of (sublists (ascending U)) set
     (one_sublist (slice_cmp nat_cmp) nat_list_cmp_total (ascending U) set (ascends U) members.0
-    (for_all (IsOneOf U) (IsOneOf (ascending U)) set (one_ascending U) members.1))
+    (all_weaker (IsOneOf U) (IsOneOf (ascending U)) (one_ascending U) set members.1))
 
 count_sets : (U : List (List ℕ)) (n : ℕ) → length U ≤ n → length (sets U) ≤ 2 ^ n
 count_sets U n few =

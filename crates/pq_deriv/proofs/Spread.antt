@@ -1,5 +1,5 @@
 -- Sets of operands in turn, of which empty ones take no numbers.
-use Rattle.std.proofs.Common.{◌≡◌, ℕ, zero, suc, ◌+◌, ◌-◌, ◌<◌, ◌⊎◌, inl, inr, List, [], ◌∷◌, ◌++◌, length, refl, ap, arith}
+use Rattle.std.proofs.Common.{◌≡◌, ℕ, zero, suc, ◌+◌, ◌-◌, ◌<◌, ◌⊎◌, inl, inr, List, [], ◌∷◌, ◌++◌, length, refl, ap, arith, ◌≤◌}
 use Rattle.std.proofs.Math.Seq.{take-append_seam, drop-append_seam}
 use Rattle.pq_deriv.specs.Parts.{first_set, behind_set, spread, widened, set_before, wide, first_gap, behind_gap}
 
@@ -11,6 +11,16 @@ none_first (suc gap) r some = refl
 pub behind_none : (gap : ℕ) (r : List ℕ) → 0 < gap → behind_set (gap ∷ r) ≡ ((gap - 1) ∷ r)
 behind_none zero r some = absurd (omega (arith, some))
 behind_none (suc gap) r some = let less : suc gap - 1 ≡ gap = omega arith in rw less refl
+
+-- where more sets than one are empty or no number is left, one set is
+pub some_idle : (k gap : ℕ) (left : List ℕ) → (suc k ≤ gap) ⊎ (length left ≡ 0) → (0 < gap) ⊎ (length left ≡ 0)
+some_idle k gap left (inl h) = inl (omega (arith, h))
+some_idle k gap left (inr h) = inr h
+
+-- and so are those behind it
+pub fewer_idle : (k gap : ℕ) (left : List ℕ) → (suc k ≤ gap) ⊎ (length left ≡ 0) → (k ≤ gap - 1) ⊎ (length left ≡ 0)
+fewer_idle k gap left (inl h) = inl (omega (arith, h))
+fewer_idle k gap left (inr h) = inr h
 
 -- sets are read after the number of empty ones
 pub spread_gap : (n : ℕ) (r : List ℕ) → spread n (first_gap r ∷ behind_gap r) ≡ spread n r

@@ -2,6 +2,7 @@
 use Rattle.std.specs.Prelude.{◌≡◌, ℕ, ◌+◌, ◌<◌, ◌≤◌, Bool, true, false, not, ◌&&◌, if◌then◌else◌, List, [], ◌∷◌, length, nat_le, IsTrue, Some, None, Ok}
 use Rattle.std.proofs.Common.{arith, refl, ap, subst, ◌∙◌, length-append}
 use Rattle.std.proofs.lemmas.Bool.Decides.{nat_tests}
+use Rattle.std.proofs.lemmas.Bool.{not-false}
 use Rattle.pq_term.specs.declared.token.Token.{Token}
 use Rattle.pq_term.specs.Names.{is_name}
 use Rattle.pq_grammar.specs.declared.class.Class.TheVariants.{PartWord, QueryWord, RemoveWord}
@@ -93,14 +94,10 @@ name_is : (kind : NameKind) (names : List (List ℕ)) (t : Token) (text name : L
     → IsTrue (is_among name names)
 name_is kind names t text name e = by (is_name text) e
   where
-    opposite : (b : Bool) → not b ≡ false → b ≡ true
-    opposite true other = refl
-    opposite false other = absurd cc
-
     by : (b : Bool) → removed_name kind names t (if b then Some text else None) ≡ Ok name → IsTrue (is_among name names)
     by true e =
         let told = unless_ok t ((not (is_among text names), kind) ∷ []) text name e in
-        subst (λ name. IsTrue (is_among name names)) told.1 (opposite (is_among text names) told.0.0)
+        subst (λ name. IsTrue (is_among name names)) told.1 (not-false (is_among text names) told.0.0)
     by false e = absurd cc
 
 removed_is : (bytes : List ℕ) (kind : NameKind) (names : List (List ℕ)) (keyword : Token) (below : Forest) (name : List ℕ)

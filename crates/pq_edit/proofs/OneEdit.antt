@@ -2,7 +2,7 @@
 use Rattle.std.specs.Prelude.{◌≡◌, ℕ, List, Ok, Err}
 use Rattle.std.proofs.Common.{refl, sym, ◌∙◌, ap, subst}
 use Rattle.pq_term.specs.declared.division.TermFault.{TermFault}
-use Rattle.pq_term.specs.declared.division.TermFault.TheVariants.{Lex as LexTerm, Syntax as SyntaxTerm, Memory as MemoryTerm}
+use Rattle.pq_term.specs.declared.division.TermFault.TheVariants.{Lex as LexTerm, Syntax as SyntaxTerm}
 use Rattle.pq_grammar.specs.declared.sort.Sort.TheVariants.{Edit as EditSort}
 use Rattle.pq_tree.specs.Trees.{Forest}
 use Rattle.pq_tree.specs.Reading.{IsForestOf, IsTextFault}
@@ -12,6 +12,7 @@ use Rattle.pq_topo.specs.Naming.{Reading}
 use Rattle.pq_compile.specs.declared.fault.DocumentFault.{DocumentFault}
 use Rattle.pq_compile.specs.declared.fault.DocumentFault.TheVariants.{Lex, Syntax, Name as NameFault, Memory}
 use Rattle.pq_compile.specs.Documents.{DocumentTree}
+use Rattle.pq_compile.proofs.OneDocument.{as_document, IsText, not_memory}
 use Rattle.pq_edit.specs.Edits.{EditTree}
 use Rattle.pq_edit.specs.Reading.{SpellsEdit, IsEditNameFault, IsEditFault, edit_of}
 
@@ -30,24 +31,10 @@ abbrev IsRead : Reading EditTree → Type 0
 IsRead (Ok e) = Unit {0}
 IsRead (Err fault) = ⊥
 
--- the fault of a text, as one of an edit
-abbrev as_edit : TermFault → DocumentFault
-as_edit (LexTerm i) = Lex i
-as_edit (SyntaxTerm i) = Syntax i
-as_edit MemoryTerm = Memory
-
--- what is not running out of memory
-abbrev IsText : TermFault → Type 0
-IsText (LexTerm i) = Unit {0}
-IsText (SyntaxTerm i) = Unit {0}
-IsText MemoryTerm = ⊥
-
-not_memory : (f : TermFault) → IsText f → f ≡ MemoryTerm → ⊥
-not_memory f text h = subst IsText h text
-
 -- two faults of a text are one
-same_fault : (bytes : List ℕ) (f g : TermFault) → IsText f → IsText g → IsTextFault EditSort bytes f → IsTextFault EditSort bytes g → as_edit f ≡ as_edit g
-same_fault bytes f g some other first second = ap as_edit (one_text_fault EditSort bytes f g first second (not_memory f some) (not_memory g other))
+same_fault : (bytes : List ℕ) (f g : TermFault) → IsText f → IsText g → IsTextFault EditSort bytes f → IsTextFault EditSort bytes g
+    → as_document f ≡ as_document g
+same_fault bytes f g some other first second = ap as_document (one_text_fault EditSort bytes f g first second (not_memory f some) (not_memory g other))
 
 -- a text with a statement has none
 no_fault : (bytes : List ℕ) (statement : Forest) (f : TermFault) → IsText f → IsForestOf EditSort bytes statement → IsTextFault EditSort bytes f → ⊥

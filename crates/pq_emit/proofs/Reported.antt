@@ -18,6 +18,7 @@ use Rattle.pq_model.specs.Install.{AscendsBy, IsLawfulPair, IsLawfulRow}
 use Rattle.pq_model.specs.Lawful.{Ascends}
 use Rattle.pq_model.specs.TablesMachine.{Row}
 use Rattle.pq_model.proofs.NumberLists.{before_trans}
+use Rattle.pq_model.proofs.Ascending.{ascend_push, rest_ascends}
 use Rattle.pq_emit.specs.Held.{AreHeldBelow, AreInstances, report_to, row_at}
 
 -- The report.
@@ -67,10 +68,6 @@ module _ {A : Type 0} (key : A → List ℕ) where
   first_before x (z ∷ zs) zero y ascend at = subst (λ w. is_before (key x) (key w) ≡ true) (same_Some z y at) ascend.0
   first_before x (z ∷ zs) (suc j) y ascend at = before_trans (key x) (key z) (key y) ascend.0 (first_before z zs j y ascend.1 at)
 
-  rest_ascends : (x : A) (xs : List A) → AscendsBy key (x ∷ xs) → AscendsBy key xs
-  rest_ascends x [] ascend = tt
-  rest_ascends x (y ∷ ys) ascend = ascend.1
-
   before_at : (xs : List A) (i j : ℕ) (x y : A) → AscendsBy key xs → i < j → slice_get xs i ≡ Some x → slice_get xs j ≡ Some y
       → is_before (key x) (key y) ≡ true
   before_at [] i j x y ascend below at_x at_y = absurd (none-some x at_x)
@@ -78,7 +75,7 @@ module _ {A : Type 0} (key : A → List ℕ) where
   before_at (z ∷ zs) zero (suc j) x y ascend below at_x at_y =
       subst (λ w. is_before (key w) (key y) ≡ true) (same_Some z x at_x) (first_before z zs j y ascend at_y)
   before_at (z ∷ zs) (suc i) zero x y ascend below at_x at_y = absurd (omega (arith, below))
-  before_at (z ∷ zs) (suc i) (suc j) x y ascend below at_x at_y = before_at zs i j x y (rest_ascends z zs ascend) (omega (arith, below)) at_x at_y
+  before_at (z ∷ zs) (suc i) (suc j) x y ascend below at_x at_y = before_at zs i j x y (rest_ascends key z zs ascend) (omega (arith, below)) at_x at_y
 
   -- those at ascending places ascend
   ascend_at : (xs : List A) → AscendsBy key xs → (is : List ℕ) → Ascends is → All (λ i. i < length xs) is → AscendsBy key (filter_map (slice_get xs) is)
@@ -158,11 +155,6 @@ module _ (m : Machine) (xs : List Instance) (queries : ℕ) (few : length m.rows
   report_lawful = lawful_rows (length m.rows) (omega arith)
 
 -- Tags ascend.
-
-ascend_push : (ts : List ℕ) (t : ℕ) → Ascends ts → All (λ s. s < t) ts → Ascends (ts ++ t ∷ [])
-ascend_push [] t ascend below = tt
-ascend_push (s ∷ []) t ascend below = (All-head (λ s. s < t) s [] below, tt)
-ascend_push (s ∷ r ∷ ts) t ascend below = (ascend.0, ascend_push (r ∷ ts) t ascend.1 (All-tail (λ s. s < t) s (r ∷ ts) below))
 
 module _ (m : Machine) (xs : List Instance) where
   abbrev TagsTo : ℕ → List ℕ → Type 0

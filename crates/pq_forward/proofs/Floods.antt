@@ -3,8 +3,6 @@ use Rattle.std.proofs.Common.{ℕ, ◌<◌, ◌≡◌, ◌∙◌, Bool, true, fa
 use Rattle.std.proofs.Common.{sym, ap, subst, arith, append_assoc, append-nil}
 use Rattle.std.specs.Prelude.{◌⊎◌, slice_get}
 use Rattle.std.specs.List.{Any, Contains, push}
-use Rattle.std.proofs.lemmas.Bool.{eq-eqb, ne_eqb}
-use Rattle.std.proofs.lemmas.Bool.Decides.{eqb_tells}
 use Rattle.std.proofs.lemmas.List.{length-map}
 use Rattle.std.proofs.lemmas.Option.{slice_get_within}
 use Rattle.pq_policy.proofs.Members.{none_in}
@@ -14,6 +12,7 @@ use Rattle.pq_fields.specs.Packet.{Numbers, Fit, rank}
 use Rattle.pq_fields.specs.Writes.{Written, written_in}
 use Rattle.pq_model.specs.Lawful.{Ascends as Rises}
 use Rattle.pq_model.specs.Topology.{Switch as SwitchValue, Topology, ports_in}
+use Rattle.pq_model.proofs.CommutingFlows.{equal-comm}
 use Rattle.pq_topo.specs.Named.{IsNamedTopology}
 use Rattle.pq_store.specs.declared.test.Test.{Test}
 use Rattle.pq_store.specs.declared.test.Test.TheVariants.{Equal, Bit}
@@ -132,10 +131,7 @@ module _ (s : SwitchValue) (met : List SwitchValue) (y n : Tree (List Written)) 
     -- the joined tree has the value of the side of the packet's switch
     side_value : (x : Numbers) → value r x ≡ (if s.datapath == x.switch then value y x else value n x)
     side_value x = join_value here y n r x join (over.first s.datapath lawful.rise) over.ascends
-        ∙ ap (λ b. if b then value y x else value n x) (turned x.switch s.datapath)
-      where
-        turned : (a b : ℕ) → (a == b) ≡ (b == a)
-        turned a b = elim (eqb_tells a b) [ inl same ↦ same.0 ∙ sym (eq-eqb b a (sym same.1)) | inr other ↦ other.0 ∙ sym (ne_eqb b a (λ e. other.1 (sym e))) ]
+        ∙ ap (λ b. if b then value y x else value n x) (equal-comm x.switch s.datapath)
 
     -- so it gives the packet at each port of its switch but its own
     more_giving : (x : Numbers) → Fit x → IsGiven x (AtOthers (ports_in (s ∷ met) x.switch) x) (value r x)

@@ -6,9 +6,9 @@ use Rattle.std.specs.List.{All, Any, Contains, push}
 use Rattle.std.proofs.lemmas.Bool.{eq-eqb, ne_eqb}
 use Rattle.std.proofs.lemmas.Bool.Decides.{eqb_tells}
 use Rattle.std.proofs.lemmas.List.{length-append}
-use Rattle.std.proofs.lemmas.List.Elements.{All-head, All-weaker}
+use Rattle.std.proofs.lemmas.List.Elements.{All-weaker}
 use Rattle.std.proofs.lemmas.Option.{slice_get_within}
-use Rattle.pq_lists.proofs.Holding.{all_back}
+use Rattle.pq_lists.proofs.Holding.{all_inside}
 use Rattle.pq_fields.specs.declared.field.Field.{Field}
 use Rattle.pq_fields.specs.declared.field.Field.TheVariants.{Port}
 use Rattle.pq_fields.specs.Packet.{Numbers, has_field, is_ipv4, is_tcp, is_udp, number_in}
@@ -28,9 +28,10 @@ use Rattle.pq_apply.proofs.Kept.{sides_join}
 use Rattle.pq_apply.proofs.Choices.{one_of_same}
 use Rattle.pq_rewrite.specs.Rewriting.{ChangesAll, IsGiven, IsToWrite, IsWrittenBy}
 use Rattle.pq_rewrite.proofs.Single.{alone}
-use Rattle.pq_rewrite.proofs.Sets.{any_first, any_none, any_later}
+use Rattle.pq_rewrite.proofs.Sets.{any_first, any_later}
 use Rattle.pq_forward.specs.Flood.{AreFewPorts, IsSpread, at_others, at_port}
 use Rattle.pq_store.proofs.JoinedTrees.{join_ascends, join_first, join_lawful, join_tests, join_value}
+use Rattle.pq_apply.proofs.Required.{port_needs}
 use Rattle.pq_forward.proofs.FewNumbers.{numbers_few, numbers_of}
 use Rattle.pq_forward.proofs.Ports.{all_others, any_of_others, has, last_ascend, others_ascend, others_of, others_of_any, without_second}
 
@@ -138,16 +139,12 @@ module _ (front : List ℕ) (p : ℕ) (ps : List ℕ) (ts : List (Tree (List Wri
   more_rise : Rises (p ∷ behind.met)
   more_rise = last_ascend front (p ∷ behind.met) (subst Rises parts up)
 
-  -- it is the number of a port
-  number_there : All IsPortNumber ps → IsPortNumber p
-  number_there numbers = All-head IsPortNumber p behind.met (all_back IsPortNumber front (p ∷ behind.met) (subst (All IsPortNumber) parts numbers))
-
   -- its test may be before the tree
   pub behind_joins : All IsPortNumber ps → AreFewPorts ps
       → (y n : Tree (List Written)) → slice_get ts i ≡ Some y → slice_get ts k ≡ Some n → IsJoinable (Equal Port p) y n
   behind_joins numbers few =
       sides_join ts (Equal Port p) i k (Tip (at_others p ps)) behind.has.0 leaf behind.has.1
-      (spread_joins p behind.met ps behind.has.0 more_rise behind.has.2 (number_there numbers) (few_there few))
+      (spread_joins p behind.met ps behind.has.0 more_rise behind.has.2 (all_inside IsPortNumber front p behind.met ps parts numbers) (few_there few))
     where
       few_there : AreFewPorts ps → length (p ∷ behind.met) ≤ 4096
       few_there few = omega (arith, few, ap length parts, length-append front (p ∷ behind.met))
@@ -159,7 +156,11 @@ module _ (front : List ℕ) (p : ℕ) (ps : List ℕ) (ts : List (Tree (List Wri
       record {
         met = p ∷ behind.met;
         all = parts;
-        has = (made.0, made.1, spread_more p behind.met ps behind.has.0 more_rise behind.has.2 made.0 (number_there numbers) made.2);
+        has = (
+          made.0,
+          made.1,
+          spread_more p behind.met ps behind.has.0 more_rise behind.has.2 made.0 (all_inside IsPortNumber front p behind.met ps parts numbers) made.2,
+        );
       }
 
 -- What the tree gives once all ports are met.
@@ -217,10 +218,6 @@ others_given ps x up numbers = record {
 
     back : (y : Numbers) → AtOthers ps x y → IsWrittenBy x (at_others x.port ps) y
     back y (p, (k, within, at), other, is) = others_of_any (λ w. y ≡ on w x) x.port ps (k, p, within, at, (other, is ∙ sym (on_port p x)))
-
--- fields without prerequisites need no numbers
-port_needs : (ns : Field → List ℕ) → NeedsAmong ns Port
-port_needs ns = record { types = λ v none. absurd (any_none (λ n. v ≡ n) none); protocols = λ v none. absurd (any_none (λ n. v ≡ n) none) }
 
 -- a number among these is contained
 contained : (ps : List ℕ) (p : ℕ) → IsAmong p ps → Contains ps p

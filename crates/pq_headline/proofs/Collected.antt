@@ -18,11 +18,12 @@ use Rattle.pq_model.specs.Word.{Out, Word}
 use Rattle.pq_model.proofs.Reorderings.{all-reordering, reordering-refl, reordering-sym, reordering-trans}
 use Rattle.pq_model.proofs.Sorted.{Rises, order, sort-rises}
 use Rattle.pq_model.proofs.NumberLists.{same_piece}
+use Rattle.pq_model.proofs.Ascending.{rest_ascends}
 use Rattle.pq_layout.specs.Emission.{instances_at, report_of}
 use Rattle.pq_layout.specs.Tagging.{Tagging, IsTagging, captures, tag_of}
 use Rattle.pq_headline.specs.LaidOut.{IsAccepted}
 use Rattle.pq_headline.proofs.Copied.{caught, caught_of}
-use Rattle.pq_headline.proofs.Keys.{entries_tell, first_ahead, instances_decide, rest_ascends}
+use Rattle.pq_headline.proofs.Keys.{entries_tell, first_ahead, instances_decide}
 use Rattle.pq_headline.proofs.Paths.{left_path}
 use Rattle.pq_headline.proofs.Reordered.{reordering-both, reordering-cons, reordering-turned, reordering-flat_map, reordering-map, sort-reorders}
 use Rattle.pq_headline.proofs.Rows.{instances_of_numbers, none_of_tag, row_of_tag}

@@ -9,10 +9,11 @@ use Rattle.pq_fields.specs.Packet.{Numbers, is_before, numbers}
 use Rattle.pq_fields.specs.Writes.{Written, on}
 use Rattle.pq_model.specs.Install.{AscendsBy}
 use Rattle.pq_model.specs.Orders.{IsReordering}
+use Rattle.pq_model.proofs.Ascending.{rest_ascends}
 use Rattle.pq_rewrite.specs.Rewriting.{IsGiven}
 use Rattle.pq_rewrite.proofs.Diffs.{same_changes}
 use Rattle.pq_rewrite.proofs.Sets.{any_cases, any_first, any_none, never_before, any_later}
-use Rattle.pq_headline.proofs.Keys.{before_itself, first_ahead, rest_ascends}
+use Rattle.pq_headline.proofs.Keys.{before_itself, first_ahead}
 use Rattle.pq_headline.proofs.Members.{StandsIn, AreApart, among_from_contains, contains_from_among, same_members}
 
 module _ {A B : Type 0} (f : A → B) where

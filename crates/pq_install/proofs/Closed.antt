@@ -6,13 +6,14 @@ use Rattle.std.proofs.lemmas.List.Sums.{sum_by-append}
 use Rattle.pq_model.specs.Topology.{Switch}
 use Rattle.pq_model.specs.TablesMachine.{Row}
 use Rattle.pq_model.specs.Install.{IsLawfulLink, IsLawfulRow, ends_of, link_numbers}
+use Rattle.pq_topo.proofs.LinkRules.{one_link}
 use Rattle.pq_install.specs.Links.{AreReadLinks, same_end, unlinked}
 use Rattle.pq_install.specs.Names.{AreReadNames, IsName}
 use Rattle.pq_install.specs.Rows.{AreReadRows}
 use Rattle.pq_install.specs.Switches.{AreReadSwitches, IsReadSwitch}
 use Rattle.pq_install.proofs.Chains.{chain_more, ascending_chain, ascending_by_chain}
 use Rattle.pq_install.proofs.Distinct.{distinct_more}
-use Rattle.pq_install.proofs.LinkLists.{Below, one_link}
+use Rattle.pq_install.proofs.LinkLists.{Below}
 use Rattle.pq_install.proofs.UnitLists.{all_more}
 
 -- rules that a list keeps where it keeps them with one more

@@ -1,15 +1,15 @@
 -- Which link may follow others.
 use Rattle.std.specs.Prelude.{◌≡◌, ℕ, ◌↔◌, Bool, true, false, IsTrue, ◌||◌, ◌==◌, List, [], ◌∷◌, ◌++◌, All}
-use Rattle.std.proofs.Common.{arith, inl, inr, refl, sym, ap, ◌∙◌, append_assoc}
+use Rattle.std.proofs.Common.{arith, inl, inr, refl, sym, ap, ◌∙◌}
 use Rattle.std.specs.List.{IsDistinct, list_any}
 use Rattle.std.proofs.lemmas.Bool.Decides.{nat_tests}
-use Rattle.std.proofs.lemmas.Grind.{flat_map-append}
 use Rattle.std.proofs.lemmas.List.Elements.{All-tail}
 use Rattle.std.proofs.lemmas.Bool.{or_cases}
 use Rattle.pq_fields.specs.Packet.{is_before}
 use Rattle.pq_model.specs.MatchFields.{IsPortNumber}
 use Rattle.pq_model.specs.Topology.{Switch, Link, ports_in}
 use Rattle.pq_model.specs.Install.{IsLawfulLink, end_numbers, ends_of, link_numbers}
+use Rattle.pq_topo.proofs.LinkRules.{one_link}
 use Rattle.pq_install.specs.Following.{AtLast}
 use Rattle.pq_install.specs.Front.{IsU32}
 use Rattle.pq_install.specs.Links.{AreReadLinks, HasEnds, IsEnd, same_end, unlinked}
@@ -25,9 +25,6 @@ Below l m = IsTrue (is_before (link_numbers l) (link_numbers m))
 -- an end that is before another is not the same
 ends_differ : (d e : ℕ × ℕ) → is_before (end_numbers d) (end_numbers e) ≡ true → same_end d e ≡ false
 ends_differ d e below = grind (arith, nat_tests, below)
-
-pub one_link : (before : List Link) (l : Link) → ends_of (before ++ l ∷ []) ≡ (ends_of before ++ l.first ∷ []) ++ l.second ∷ []
-one_link before l = flat_map-append (λ (m : Link). m.first ∷ m.second ∷ []) before (l ∷ []) ∙ sym (append_assoc (ends_of before) (l.first ∷ []) (l.second ∷ []))
 
 list_any_more : {X : Type 0} (p : X → Bool) (xs : List X) (x : X) → p x ≡ false → list_any p (xs ++ x ∷ []) ≡ list_any p xs
 list_any_more p [] x fails = rw fails refl

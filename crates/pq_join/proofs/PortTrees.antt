@@ -5,9 +5,9 @@ use Rattle.std.specs.Prelude.{slice_get}
 use Rattle.std.specs.List.{All, Any, list_any, push}
 use Rattle.std.proofs.lemmas.Bool.{eq-eqb, ne_eqb}
 use Rattle.std.proofs.lemmas.Bool.Decides.{eqb_tells}
-use Rattle.std.proofs.lemmas.List.Elements.{All-get_or, All-head}
+use Rattle.std.proofs.lemmas.List.Elements.{All-get_or}
 use Rattle.std.proofs.lemmas.Option.{slice_get_within}
-use Rattle.pq_lists.proofs.Holding.{all_back}
+use Rattle.pq_lists.proofs.Holding.{all_back, all_inside}
 use Rattle.pq_fields.specs.declared.field.Field.{Field}
 use Rattle.pq_fields.specs.declared.field.Field.TheVariants.{Port}
 use Rattle.pq_fields.specs.Packet.{Numbers}
@@ -143,16 +143,12 @@ module _ (kind : ℕ → PortKind) (front : List ℕ) (p : ℕ) (ps : List ℕ) 
   more_rise : Rises (p ∷ behind.met)
   more_rise = last_rise front (p ∷ behind.met) (subst Rises parts up)
 
-  -- it is the number of a port
-  number_there : All IsPortNumber ps → IsPortNumber p
-  number_there numbers = All-head IsPortNumber p behind.met (all_back IsPortNumber front (p ∷ behind.met) (subst (All IsPortNumber) parts numbers))
-
   -- its test may be before the tree
   pub behind_joins : All IsPortNumber ps → HasRoom (λ ns. All (λ q. IsAmong q (ns Port)) ps)
       → (y n : Tree PortKind) → slice_get ts i ≡ Some y → slice_get ts k ≡ Some n → IsJoinable (Equal Port p) y n
   behind_joins numbers room =
       sides_join ts (Equal Port p) i k (Tip (kind p)) behind.has.0 leaf behind.has.1
-      (over_joins kind p behind.met behind.has.0 more_rise behind.has.2 (number_there numbers) (room_there room))
+      (over_joins kind p behind.met behind.has.0 more_rise behind.has.2 (all_inside IsPortNumber front p behind.met ps parts numbers) (room_there room))
     where
       room_there : HasRoom (λ ns. All (λ q. IsAmong q (ns Port)) ps) → HasRoom (λ ns. All (λ q. IsAmong q (ns Port)) (p ∷ behind.met))
       room_there room = record {
@@ -168,7 +164,11 @@ module _ (kind : ℕ → PortKind) (front : List ℕ) (p : ℕ) (ps : List ℕ) 
       record {
         met = p ∷ behind.met;
         all = parts;
-        has = (made.0, made.1, over_more kind p behind.met behind.has.0 more_rise behind.has.2 made.0 (number_there numbers) made.2);
+        has = (
+          made.0,
+          made.1,
+          over_more kind p behind.met behind.has.0 more_rise behind.has.2 made.0 (all_inside IsPortNumber front p behind.met ps parts numbers) made.2,
+        );
       }
 
 -- with no port left the tree at the place is that over all

@@ -1,5 +1,5 @@
 -- What holds of all elements of lists.
-use Rattle.std.proofs.Common.{◌≡◌, ◌<◌, ◌∙◌, ℕ, Bool, true, false, cond, List, [], ◌∷◌, ◌++◌, length, map, filter, get_or, refl, sym, ap}
+use Rattle.std.proofs.Common.{◌≡◌, ◌<◌, ◌∙◌, ℕ, Bool, true, false, cond, List, [], ◌∷◌, ◌++◌, length, map, filter, get_or, refl, sym, ap, subst}
 use Rattle.std.specs.Prelude.{All}
 use Rattle.std.specs.List.{AllByRecursion}
 use Rattle.std.proofs.lemmas.List.{get_or-map, length-map}
@@ -47,6 +47,10 @@ all_front P (x ∷ xs) ys all = All-cons P x xs (All-head P x (xs ++ ys) all) (a
 pub all_back : {X : Type 0} (P : X → Type 0) (xs ys : List X) → All P (xs ++ ys) → All P ys
 all_back P [] ys all = all
 all_back P (x ∷ xs) ys all = all_back P xs ys (All-tail P x (xs ++ ys) all)
+
+-- and of what stands between them
+pub all_inside : {X : Type 0} (P : X → Type 0) (xs : List X) (y : X) (ys zs : List X) → zs ≡ xs ++ y ∷ ys → All P zs → P y
+all_inside P xs y ys zs parts all = All-head P y ys (all_back P xs (y ∷ ys) (subst (All P) parts all))
 
 -- what holds of all images holds of the image of the element that was read
 pub all_map_read : {V A : Type 0} (vs : List V) (f : V → A) (P : A → Type 0) (i : ℕ) (v : V) → All P (map f vs) → i < length vs → v ≡ get_or vs i v → P (f v)

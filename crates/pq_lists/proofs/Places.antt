@@ -10,6 +10,10 @@ module _ {X : Type 0} where
   kept_places (a ∷ xs) ys zero x h = h
   kept_places (a ∷ xs) ys (suc k) x h = kept_places xs ys k x h
 
+  -- a place has one element
+  pub one_at : (xs : List X) (k : ℕ) (x y : X) → slice_get xs k ≡ Some x → slice_get xs k ≡ Some y → x ≡ y
+  one_at xs k x y is at = same_Some x y (sym is ∙ at)
+
   -- a new element is at the end
   pub last_place : (xs : List X) (y : X) → slice_get (xs ++ y ∷ []) (length xs) ≡ Some y
   last_place [] y = refl

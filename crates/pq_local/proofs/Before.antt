@@ -34,7 +34,8 @@ use Rattle.pq_local.proofs.Small.{none_told, or_nothing}
 
 -- Messages that come from trees.
 module _ (T : Topology) (h : Tagging) (more : Departures) where
-  abbrev Comes : Switch → List Message → Type 0
+  -- messages of filled tables, from trees
+  abbrev pub Comes : Switch → List Message → Type 0
   Comes s ms = (a : AreMessages T h more s.datapath ms) × AreFilled a.first a.second
 
   abbrev trees_in : (ss : List Switch) (all : List (List Message)) → AllZip Comes ss all → List TablesTrees

@@ -17,7 +17,6 @@ use Rattle.pq_store.specs.Tree.{Tree, value}
 use Rattle.pq_layout.specs.Emission.{AreMessages, AreTrees, IsEmission, report_of}
 use Rattle.pq_layout.specs.Leaves.{Departures, departing}
 use Rattle.pq_layout.specs.Tagging.{Tagging}
-use Rattle.pq_lookup.specs.Sent.{AreFilled}
 use Rattle.pq_join.specs.Tags.{tagging_of}
 use Rattle.pq_rules.specs.declared.fault.RulesFault.{RulesFault}
 use Rattle.pq_meaning.specs.Compiled.{IsCompiled, IsFilled}
@@ -32,22 +31,20 @@ use Rattle.pq_compile.specs.Lawful.{names_in}
 use Rattle.pq_compile.specs.Prepared.{AreClassified, ForwardsAt, IsCompilable, parts_in, queries_in}
 use Rattle.pq_compile.proofs.OneFault.{tables_within}
 use Rattle.pq_local.specs.Local.{AreServedAt, IsBefore, IsServed, IsServedAt, with_parts}
-use Rattle.pq_local.proofs.Before.{laid_with, served_before}
+use Rattle.pq_local.proofs.Before.{laid_with, served_before, Comes}
 use Rattle.pq_local.proofs.Small.{nothing_or}
 
 -- Messages that serve switches.
 module _ (T : Topology) (g : Tagging) (writes : Departures) where
-  abbrev IsFrom : Switch → List Message → Type 0
-  IsFrom s ms = (a : AreMessages T g writes s.datapath ms) × AreFilled a.first a.second
-
-  pub all_from : (ss : List Switch) (all : List (List Message)) → AllZip (IsServed T g writes) ss all → AllZip IsFrom ss all
+  pub all_from : (ss : List Switch) (all : List (List Message)) → AllZip (IsServed T g writes) ss all → AllZip (Comes T g writes) ss all
   all_from ss all served =
-      zip_weaker (IsServed T g writes) IsFrom
+      zip_weaker (IsServed T g writes) (Comes T g writes)
       (λ s ms is. (record { first = is.trees.first; second = is.trees.second; trees = is.are; messages = is.made.messages }, is.made.filled)) ss all served
 
   pub all_messages : (ss : List Switch) (all : List (List Message)) → AllZip (IsServed T g writes) ss all
       → AllZip (λ s ms. AreMessages T g writes s.datapath ms) ss all
-  all_messages ss all served = zip_weaker IsFrom (λ s ms. AreMessages T g writes s.datapath ms) (λ s ms from. from.0) ss all (all_from ss all served)
+  all_messages ss all served =
+      zip_weaker (Comes T g writes) (λ s ms. AreMessages T g writes s.datapath ms) (λ s ms from. from.0) ss all (all_from ss all served)
 
   abbrev trees_in : (ss : List Switch) (all : List (List Message)) → AllZip (IsServed T g writes) ss all → List TablesTrees
   trees_in [] [] served = []

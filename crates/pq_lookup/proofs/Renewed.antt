@@ -29,7 +29,7 @@ use Rattle.pq_layout.specs.Messages.{is_untagged, groups_from, groups_of, is_not
 use Rattle.pq_lookup.specs.Sent.{AreFilled, SwitchSends, TreesRenew}
 use Rattle.pq_lookup.proofs.Arriving.{tables-send_in_order}
 use Rattle.pq_lookup.proofs.Copying.{to_eth_src, to_eth_dst, to_ipv4_src, to_ipv4_dst, to_tcp_src, to_tcp_dst, to_udp_src}
-use Rattle.pq_lookup.proofs.Taken.{entry_at}
+use Rattle.pq_lookup.proofs.Taken.{entries_from, entry_at}
 use Rattle.pq_lookup.proofs.Grouped.{IsIn, group-there, in-groups}
 
 -- what holds of each value that is in a list
@@ -57,9 +57,6 @@ groups-numbered xid k (b ∷ gs) = (above k (suc xid) (suc k) gs (omega arith), 
 entries-added : (xid table index : ℕ) (rs : List Rule) → AllByRecursion (λ f. f.command ≡ AddFlow) (adds_from xid table index rs)
 entries-added xid table index [] = tt
 entries-added xid table index (r ∷ rs) = (refl, entries-added (suc xid) table (suc index) rs)
-
-abbrev entries_from : (xid table index : ℕ) → List Rule → List Entry
-entries_from xid table index rs = map entry_of (adds_from xid table index rs)
 
 -- an entry of lower index, and so of higher priority, is apart from those after it
 behind-apart : (e : Entry) (i xid table index : ℕ) (rs : List Rule) → e.priority ≡ 65535 - i → i < index → index + length rs ≤ 65536

@@ -25,6 +25,10 @@ IsBelow p (Some e) = e.priority < p
 abbrev pub entry_at : (table index : ℕ) → Rule → Entry
 entry_at table index r = record { table = table; priority = 65535 - index; matching = r.matching; cookie = 0; actions = r.actions; goto = r.goto }
 
+-- a table's entries as they are added
+abbrev pub entries_from : (xid table index : ℕ) → List Rule → List Entry
+entries_from xid table index rs = map entry_of (adds_from xid table index rs)
+
 stays : (e : Entry) (o : Option Entry) → IsBelow e.priority o → better e o ≡ Some e
 stays e None h = refl
 stays e (Some f) h = ap (λ b. if b then Some f else Some e) (le-ltb e.priority f.priority (omega arith))
@@ -34,10 +38,6 @@ module _ (x : TaggedPacket) where
   abbrev pub found : List Rule → Option Rule
   found [] = None
   found (r ∷ rs) = if covers r.matching x then Some r else found rs
-
-  -- a table's entries as they are added
-  abbrev pub entries_from : (xid table index : ℕ) → List Rule → List Entry
-  entries_from xid table index rs = map entry_of (adds_from xid table index rs)
 
   -- entries of another table don't matter
   taken-other : (n xid table index : ℕ) (rs : List Rule) → table ≢ n → taken (entries_from xid table index rs) n x ≡ None

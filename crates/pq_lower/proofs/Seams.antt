@@ -1,5 +1,6 @@
 -- Words of observations, and where queries join them.
 use Rattle.std.proofs.Common.{◌≡◌, ◌≢◌, Bool, true, false, not, [], ◌∷◌, ◌++◌, refl, sym, ap, subst, ◌∙◌, append-nil, rules}
+use Rattle.std.proofs.lemmas.Bool.{not-false}
 use Rattle.pq_fields.specs.Packet.{Numbers}
 use Rattle.pq_model.specs.Word.{Observation, In, Out, Word, alternates, is_word}
 use Rattle.pq_query.specs.Language.{ends_inward, Linked, Joins}
@@ -62,11 +63,8 @@ seam u (o ∷ v) w word joins = by (ends_inward u) refl joins where
       Over x next.0 next.1 (λ e. cc) whole
   by false ends whole =
       let cut = word_cut u (o ∷ v) w word whole in
-      let even : behind true u ≡ true = flag (behind true u) (sym (word_ends u cut.0) ∙ ends) in
-      AtOnce even (ap (λ z. alternates z (o ∷ v)) (sym even) ∙ cut.1) (λ e. cc) whole where
-        flag : (c : Bool) → not c ≡ false → c ≡ true
-        flag true h = refl
-        flag false h = absurd (search (h, rules))
+      let even : behind true u ≡ true = not-false (behind true u) (sym (word_ends u cut.0) ∙ ends) in
+      AtOnce even (ap (λ z. alternates z (o ∷ v)) (sym even) ∙ cut.1) (λ e. cc) whole
 
 -- a word after an even one
 pub join_at_once : (u v : Word) → is_word u ≡ true → behind true u ≡ true → Joins u v (u ++ v)

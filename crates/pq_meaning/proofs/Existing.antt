@@ -9,6 +9,7 @@ use Rattle.std.proofs.lemmas.List.Folds.{Any-from_list_any, list_any-from_Any}
 use Rattle.std.proofs.lemmas.Slice.Eq.{bytes_eq-Decides}
 use Rattle.pq_fields.specs.Packet.{Numbers, is_before, numbers}
 use Rattle.pq_fields.specs.Writes.{Written, on}
+use Rattle.pq_fields.proofs.Tellings.{numbers_tell}
 use Rattle.pq_model.specs.Buckets.{Instance}
 use Rattle.pq_model.specs.Classes.{IsPath}
 use Rattle.pq_model.specs.Install.{AscendsBy}
@@ -16,6 +17,7 @@ use Rattle.pq_model.specs.Meaning.{Meaning}
 use Rattle.pq_model.specs.Topology.{Topology}
 use Rattle.pq_model.specs.Word.{Word}
 use Rattle.pq_model.proofs.NumberLists.{same_list}
+use Rattle.pq_model.proofs.Ascending.{rest_ascends}
 use Rattle.pq_policy.specs.Policy.{IsInPacketOrder, IsListOf, PolicyTree}
 use Rattle.pq_query.specs.Instances.{instances_of}
 use Rattle.pq_query.specs.Language.{lang}
@@ -24,7 +26,7 @@ use Rattle.pq_rewrite.specs.Rewriting.{IsGiven, IsWrittenBy}
 use Rattle.pq_rewrite.proofs.Sets.{any_cases, any_first, any_none, any_later}
 use Rattle.pq_layout.specs.Leaves.{Departures}
 use Rattle.pq_layout.specs.Tagging.{Tagging, tag_of}
-use Rattle.pq_headline.proofs.Keys.{first_ahead, numbers_tell, rest_ascends}
+use Rattle.pq_headline.proofs.Keys.{first_ahead}
 use Rattle.pq_headline.proofs.Members.{StandsIn, among_from_contains, contains_from_among}
 use Rattle.pq_meaning.specs.Compiled.{IsLaid}
 use Rattle.pq_meaning.specs.Meaning.{IsMeaning, departs}

@@ -113,7 +113,8 @@ removed_by_one : (groups : Groups) (j k n : ℕ) → is_removed groups j n || is
 removed_by_one groups j k n =
     ap (λ o. is_removed groups j n || (is_some o && is_hit k n)) (get-removed groups j n) ∙ one_of_two (is_hit j n) (is_hit k n) (get groups n)
 
-regrouped : (a b c d : Bool) → (a || b) || (c || d) ≡ (a || c) || (b || d)
+-- two disjunctions of two conditions each, grouped anew
+pub regrouped : (a b c d : Bool) → (a || b) || (c || d) ≡ (a || c) || (b || d)
 regrouped true b c d = refl
 regrouped false true true d = refl
 regrouped false true false d = refl

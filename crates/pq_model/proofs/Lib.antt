@@ -1,9 +1,11 @@
+pub mod Ascending
 pub mod CommutingFlows
 pub mod CommutingGroups
 pub mod Examples
 pub mod Filters
 pub mod FreeOfOrder
 pub mod LawfulOrders
+pub mod Lengths
 pub mod NumberLists
 pub mod Pairs
 pub mod Reorderings

@@ -156,6 +156,11 @@ module _ {A : Type 0} (key : A → List ℕ) where
       by true more = (first, more)
       by false more = (here, (first, all))
 
+  -- what holds of all values holds of all that are sorted
+  pub sort-all : (P : A → Type 0) (xs : List A) → AllByRecursion P xs → AllByRecursion P (sort_by key xs)
+  sort-all P [] all = tt
+  sort-all P (x ∷ xs) (here, all) = put-all P x (sort_by key xs) here (sort-all P xs all)
+
   pub all_above : (x y : A) (ys : List A) → below y x ≡ false → AllByRecursion (λ w. below w y ≡ false) ys → AllByRecursion (λ w. below w x ≡ false) ys
   all_above x y [] h all = tt
   all_above x y (w ∷ ys) h (here, all) = (order.chain w y x here h, all_above x y ys h all)

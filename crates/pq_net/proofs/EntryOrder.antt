@@ -3,16 +3,10 @@ use Rattle.std.proofs.Common.{◌≡◌, ℕ, ◌+◌, List, [], ◌∷◌, ◌+
 use Rattle.std.proofs.lemmas.Bool.Decides.{nat_tests}
 use Rattle.std.specs.Cmp.Lexicographic.{slice_cmp}
 use Rattle.std.specs.Ordering.{nat_cmp, ordering_then}
-use Rattle.std.specs.declared.cmp.Ordering.{Ordering}
-use Rattle.std.specs.declared.cmp.Ordering.TheVariants.{Less, Equal, Greater}
+use Rattle.std.specs.declared.cmp.Ordering.TheVariants.{Less, Greater}
+use Rattle.pq_lists.proofs.Orderings.{then_grouped}
 use Rattle.pq_fields.specs.Packet.{numbers}
 use Rattle.pq_model.specs.Buckets.{BucketEntry, entry_numbers}
-
--- the first that differs decides, however comparisons are grouped
-joined : (r s t : Ordering) → ordering_then r (ordering_then s t) ≡ ordering_then (ordering_then r s) t
-joined Less s t = refl
-joined Equal s t = refl
-joined Greater s t = refl
 
 -- the end of a label is below each value
 nil_first : (b : ℕ) → nat_cmp 0 (b + 1) ≡ Less
@@ -33,7 +27,7 @@ labels-decide [] [] us vs = refl
 labels-decide [] (y ∷ ys) us vs = ap (λ r. ordering_then r (slice_cmp nat_cmp us (map (λ v. v + 1) ys ++ 0 ∷ vs))) (nil_first y)
 labels-decide (x ∷ xs) [] us vs = ap (λ r. ordering_then r (slice_cmp nat_cmp (map (λ v. v + 1) xs ++ 0 ∷ us) vs)) (nil_last x)
 labels-decide (x ∷ xs) (y ∷ ys) us vs =
-    (λ i. ordering_then (raised x y i) (labels-decide xs ys us vs i)) ∙ joined (nat_cmp x y) (slice_cmp nat_cmp xs ys) (slice_cmp nat_cmp us vs)
+    (λ i. ordering_then (raised x y i) (labels-decide xs ys us vs i)) ∙ then_grouped (nat_cmp x y) (slice_cmp nat_cmp xs ys) (slice_cmp nat_cmp us vs)
 
 -- the numbers of a label with what follows them
 label_first : (label rest : List ℕ) → (map (λ v. v + 1) label ++ 0 ∷ []) ++ rest ≡ map (λ v. v + 1) label ++ 0 ∷ rest
@@ -48,4 +42,4 @@ entries-compare e f =
     (λ i. ordering_then (nat_cmp e.pair.query f.pair.query)
     (slice_cmp nat_cmp (label_first e.pair.label (numbers e.packet) i) (label_first f.pair.label (numbers f.packet) i)))
     ∙ ap (ordering_then (nat_cmp e.pair.query f.pair.query)) (labels-decide e.pair.label f.pair.label (numbers e.packet) (numbers f.packet))
-    ∙ joined (nat_cmp e.pair.query f.pair.query) (slice_cmp nat_cmp e.pair.label f.pair.label) (slice_cmp nat_cmp (numbers e.packet) (numbers f.packet))
+    ∙ then_grouped (nat_cmp e.pair.query f.pair.query) (slice_cmp nat_cmp e.pair.label f.pair.label) (slice_cmp nat_cmp (numbers e.packet) (numbers f.packet))

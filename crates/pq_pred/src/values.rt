@@ -6,6 +6,7 @@ ghost use Rattle.pq_pred.specs.Values.{field_at, name_in, or_else, switch_value,
 ghost use Rattle.pq_model.specs.declared.reserved.TheConstants.{LAST_PORT};
 
 use pq_fields::{Field, field_named};
+use pq_model::LAST_PORT;
 use pq_term::{Name, Token, ipv4_value, mac_value, number_value};
 use pq_topo::{NameFault, NameKind, Topology};
 use pq_tree::text_in;
@@ -38,11 +39,11 @@ fn within(least: u64, most: u64, number: Option<u64>) -> Result<u64, NameKind>
     }
 }
 
-/// The number of a port, from 1 to 4294967040.
+/// The number of a port, from 1 to 0xffffff00.
 pub fn port_value(text: &[u8]) -> Result<u32, NameKind>
     ensures { result ≡ within 1 LAST_PORT (number_of text.now) }
 {
-    match within(1, 4_294_967_040, number_value(text)) {
+    match within(1, u64::from(LAST_PORT), number_value(text)) {
         Ok(port) => Ok(port as u32),
         Err(kind) => Err(kind),
     }

@@ -8,6 +8,7 @@ use Rattle.std.specs.Ordering.{match_ordering, MatchOrdering}
 use Rattle.std.proofs.lemmas.Bool.Decides.{nat_tests}
 use Rattle.std.proofs.lemmas.List.{drop_more}
 use Rattle.std.proofs.lemmas.Map.Keys.{IsDistinct-head, IsDistinct-tail}
+use Rattle.pq_lists.proofs.Booleans.{or_swapped, or_twice}
 use Rattle.pq_model.specs.Lawful.{Ascends}
 use Rattle.pq_query.specs.Counts.{put_last_first}
 use Rattle.pq_query.specs.Labels.{ascending}
@@ -15,16 +16,6 @@ use Rattle.pq_query.specs.Labels.{ascending}
 -- the number is one of these
 abbrev pub has : List ℕ → ℕ → Bool
 has ks n = list_any (λ k. k == n) ks
-
-turned : (a b c : Bool) → (a || (b || c)) ≡ (b || (a || c))
-turned true true c = refl
-turned true false c = refl
-turned false true c = refl
-turned false false c = refl
-
-again : (a c : Bool) → (a || c) ≡ (a || (a || c))
-again true c = refl
-again false c = refl
 
 -- a number that is put among others is there, and the others stay
 has_put : (ks : List ℕ) (n m : ℕ) → has (insert_key nat_cmp ks n) m ≡ ((n == m) || has ks m)
@@ -34,8 +25,8 @@ has_put (k ∷ ks) n m = by (nat_cmp n k) (ranks n k) (has_put ks n m)
     by : (r : Ordering) → MatchOrdering r (n < k) (n ≡ k) (k < n) → has (insert_key nat_cmp ks n) m ≡ ((n == m) || has ks m)
         → has (match_ordering r (n ∷ k ∷ ks) (k ∷ ks) (k ∷ insert_key nat_cmp ks n)) m ≡ ((n == m) || has (k ∷ ks) m)
     by Less below later = refl
-    by Equal same later = rw same (again (k == m) (has ks m))
-    by Greater above later = rw later (turned (k == m) (n == m) (has ks m))
+    by Equal same later = rw same (or_twice (k == m) (has ks m))
+    by Greater above later = rw later (or_swapped (k == m) (n == m) (has ks m))
 
 pub has_ascending : (ns : List ℕ) (m : ℕ) → has (ascending ns) m ≡ has ns m
 has_ascending [] m = refl

@@ -16,7 +16,7 @@ use Rattle.pq_lists.proofs.Places.{at_place}
 use Rattle.pq_store.specs.Room.{Within}
 use Rattle.pq_store.proofs.RoomLemmas.{fork_within, room_for, roomy, tip_within}
 use Rattle.pq_apply.specs.Restricting.{decides}
-use Rattle.pq_apply.proofs.AtomTrees.{counts_one}
+use Rattle.pq_apply.proofs.AtomTrees.{counts_one, said_itself}
 use Rattle.pq_rewrite.specs.Choices.{ChoosesByAt, FitByAt, field_needs, passes_after, test_needs}
 use Rattle.pq_rewrite.proofs.Choosing.{IsCondition, chooses_same}
 use Rattle.pq_rewrite.proofs.Numbers.{passes_unwritten, passes_written}
@@ -51,14 +51,10 @@ passing_condition w t cs k is = (
   test_tree t,
   is,
   record {
-    tells = λ x fit. same (passes t x);
+    tells = λ x fit. said_itself (passes t x);
     tests = λ ns needs. fork_within ns t (Tip true) (Tip false) needs.0 (tip_within ns true) (tip_within ns false);
   },
 )
-  where
-    same : (b : Bool) → (if b then true else false) ≡ b
-    same true = refl
-    same false = refl
 
 module _ {L : Type 0} where
   -- the tree at the place of one of two sides

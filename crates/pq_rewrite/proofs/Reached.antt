@@ -1,6 +1,6 @@
 -- Each leaf of a diagram is reached by a packet, so what is known of a tree's values is known of its leaves.
-use Rattle.std.proofs.Common.{◌≡◌, ◌∙◌, ℕ, Bool, true, false, List, [], refl, sym, ap, subst, inl, inr, pow_pos}
-use Rattle.std.specs.Prelude.{if◌then◌else◌, slice_index_or}
+use Rattle.std.proofs.Common.{◌≡◌, ◌∙◌, ℕ, Bool, true, false, List, [], refl, sym, subst, inl, inr, pow_pos}
+use Rattle.std.specs.Prelude.{slice_index_or}
 use Rattle.std.specs.List.{All}
 use Rattle.std.proofs.lemmas.List.Elements.{All-contains_itself}
 use Rattle.pq_fields.specs.declared.field.Field.{Field}
@@ -15,6 +15,7 @@ use Rattle.pq_store.proofs.Points.{IsTurned, no_point, says_same, yes_point, yes
 use Rattle.pq_store.proofs.Packets.{packet_of, packet_fits, value_packet_of}
 use Rattle.pq_store.proofs.Past.{Misses, free_number, hit, miss, past_skips, room}
 use Rattle.pq_store.proofs.Sides.{yes_diagram, no_diagram, past_diagram, past_before}
+use Rattle.pq_store.proofs.Unique.{side}
 use Rattle.pq_rewrite.specs.Rewriting.{IsIdleFree, Covers, CoversWrites}
 use Rattle.pq_rewrite.specs.Sequence.{CoversLeaves}
 
@@ -29,10 +30,6 @@ module _ {L : Type 0} where
     in_range : InRange point
     reaches : leaf_at t point ≡ l
 
-  -- a point's answer leads to a side
-  to_side : (s : Test) (y n : Tree L) (p : Point) (b : Bool) → answer s p ≡ b → leaf_at (Fork s y n) p ≡ (if b then leaf_at y p else leaf_at n p)
-  to_side s y n p b is = ap (λ c. if c then leaf_at y p else leaf_at n p) is
-
   -- the one leaf of a tip
   tip_reached : (l m : L) → Tip l ≡ Tip m → IsReached (Tip m) l
   tip_reached l m is = record { point = zero_point; in_range = λ f number. pow_pos (width_of f); reaches = cc }
@@ -46,7 +43,7 @@ module _ {L : Type 0} where
       record {
         point = q;
         in_range = turned.in_range;
-        reaches = to_side s y n q true turned.answers ∙ sym (says_same s y p q turned.alike d.ascends.0 d.ascends.2 d.asks_once.0) ∙ r.reaches;
+        reaches = side s y n q true turned.answers ∙ sym (says_same s y p q turned.alike d.ascends.0 d.ascends.2 d.asks_once.0) ∙ r.reaches;
       }
 
   -- what a point that passes the test reaches in the no side, one that doesn't pass it reaches there too
@@ -61,7 +58,7 @@ module _ {L : Type 0} where
       record {
         point = q;
         in_range = missed.turned.in_range;
-        reaches = to_side s y n q false missed.turned.answers ∙ missed.left ∙ sym same ∙ sym (hit s n p passed d.ascends.1 own.ascends);
+        reaches = side s y n q false missed.turned.answers ∙ missed.left ∙ sym same ∙ sym (hit s n p passed d.ascends.1 own.ascends);
       }
 
   -- what a point reaches in the no side, a point reaches in the whole
@@ -69,7 +66,7 @@ module _ {L : Type 0} where
   no_reached s y n l d r = by (answer s r.point) refl
     where
       by : (b : Bool) → answer s r.point ≡ b → IsReached (Fork s y n) l
-      by false is = record { point = r.point; in_range = r.in_range; reaches = to_side s y n r.point false is ∙ r.reaches }
+      by false is = record { point = r.point; in_range = r.in_range; reaches = side s y n r.point false is ∙ r.reaches }
       by true is =
           let turned : IsReached (Fork s y n) (leaf_at n r.point) = no_turned s y n r.point d r.in_range is in
           record { point = turned.point; in_range = turned.in_range; reaches = turned.reaches ∙ r.reaches }

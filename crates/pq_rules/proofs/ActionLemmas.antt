@@ -6,7 +6,7 @@ use Rattle.std.specs.List.{AllByRecursion}
 use Rattle.std.specs.declared.option.Option.{Option}
 use Rattle.std.proofs.lemmas.List.{length-append}
 use Rattle.std.proofs.lemmas.List.Elements.{All-from_recursion}
-use Rattle.pq_lists.proofs.Holding.{all_append}
+use Rattle.pq_lists.proofs.Holding.{all_append, all_weaker}
 use Rattle.pq_fields.specs.declared.field.Field.{Field}
 use Rattle.pq_fields.specs.declared.field.Field.TheVariants.{EthSrc, EthDst, Ipv4Src, Ipv4Dst, TcpSrc, TcpDst, UdpSrc, UdpDst}
 use Rattle.pq_fields.specs.Packet.{rank, width_of}
@@ -31,10 +31,6 @@ pub record AreOrdered (low high most : ℕ) (as_ : List Action) : Type 0 where
   pub below : AllByRecursion (λ a. bucket_place a < high) as_
   pub few : length as_ ≤ most
 
-pub all_weaker : {A : Type 0} (P Q : A → Type 0) (xs : List A) → ((a : A) → P a → Q a) → AllByRecursion P xs → AllByRecursion Q xs
-all_weaker P Q [] less all = tt
-all_weaker P Q (x ∷ xs) less all = (less x all.0, all_weaker P Q xs less all.1)
-
 ascends_both : (k : ℕ) (as_ bs : List Action) → Ascends (map bucket_place as_) → Ascends (map bucket_place bs)
     → AllByRecursion (λ a. bucket_place a < k) as_ → AllByRecursion
     (λ a. k ≤ bucket_place a) bs
@@ -51,9 +47,9 @@ both_ordered low middle high m n as_ bs l h first second = record {
   lawful = all_append IsLawfulAction as_ bs first.lawful second.lawful;
   ascends = ascends_both middle as_ bs first.ascends second.ascends first.below second.above;
   above = all_append (λ a. low ≤ bucket_place a) as_ bs first.above
-      (all_weaker (λ a. middle ≤ bucket_place a) (λ a. low ≤ bucket_place a) bs (λ a p. omega (arith, p, l)) second.above);
+      (all_weaker (λ a. middle ≤ bucket_place a) (λ a. low ≤ bucket_place a) (λ a p. omega (arith, p, l)) bs second.above);
   below = all_append (λ a. bucket_place a < high) as_ bs
-      (all_weaker (λ a. bucket_place a < middle) (λ a. bucket_place a < high) as_ (λ a p. omega (arith, p, h)) first.below) second.below;
+      (all_weaker (λ a. bucket_place a < middle) (λ a. bucket_place a < high) (λ a p. omega (arith, p, h)) as_ first.below) second.below;
   few = omega (arith, length-append as_ bs, first.few, second.few);
 }
 

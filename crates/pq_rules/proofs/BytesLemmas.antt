@@ -1,7 +1,7 @@
 -- How long the bytes of messages are at the most.
-use Rattle.std.proofs.Common.{◌≡◌, ℕ, ◌+◌, ◌*◌, ◌-◌, ◌%◌, ◌^◌, ◌<◌, ◌≤◌, Bool, true, false, cond, eqb, List, [], ◌∷◌, ◌++◌, length}
-use Rattle.std.proofs.Common.{replicate, Option, None, Some, refl, arith}
-use Rattle.std.specs.Int.{w16, w32, w128, to_be_bytes}
+use Rattle.std.proofs.Common.{ℕ, ◌+◌, ◌*◌, ◌-◌, ◌%◌, ◌^◌, ◌<◌, ◌≤◌, List, [], ◌∷◌, ◌++◌, length}
+use Rattle.std.proofs.Common.{replicate, Option, None, Some, arith}
+use Rattle.std.specs.Int.{w16, to_be_bytes}
 use Rattle.std.specs.List.{AllByRecursion, flat_map}
 use Rattle.std.proofs.Math.Nat.{mod-lt}
 use Rattle.std.proofs.lemmas.List.{length-append, length-replicate}
@@ -10,12 +10,13 @@ use Rattle.pq_fields.specs.declared.field.Field.TheVariants.{Switch, Port, EthTy
 use Rattle.pq_fields.specs.declared.field.Field.TheVariants.{TcpDst, UdpSrc, UdpDst, Ipv6Src, Ipv6Dst}
 use Rattle.pq_model.specs.declared.action.Action.{Action}
 use Rattle.pq_model.specs.declared.action.Action.TheVariants.{Output, PushVlan, PopVlan, Group, SetVlan, SetField}
-use Rattle.pq_model.specs.declared.message.Message.TheVariants.{Flow, Group as Grouping, Barrier}
+use Rattle.pq_model.specs.declared.message.Message.TheVariants.{Flow, Group as Grouping}
 use Rattle.pq_model.specs.MatchFields.{MatchFields}
 use Rattle.pq_model.specs.Mods.{FlowValue, GroupValue}
-use Rattle.pq_model.specs.Spelling.{action_bytes, actions_bytes, apply_bytes, bucket_bytes, byte, flow_body, goto_bytes, group_body}
-use Rattle.pq_model.specs.Spelling.{mac_bytes, match_bytes, match_oxms}
-use Rattle.pq_model.specs.Spelling.{message_bytes, ones32, ones128, oxm, oxm_masked, padding, stated, stated_masked, with_header}
+use Rattle.pq_model.specs.Spelling.{action_bytes, actions_bytes, apply_bytes, bucket_bytes, flow_body, goto_bytes, group_body}
+use Rattle.pq_model.specs.Spelling.{match_bytes, match_oxms}
+use Rattle.pq_model.specs.Spelling.{message_bytes, padding, with_header}
+use Rattle.pq_model.proofs.Lengths.{oxms_short}
 use Rattle.pq_layout.specs.Messages.{delete_entries, delete_groups}
 
 -- An action takes 16 bytes at the most.
@@ -54,44 +55,6 @@ actions_long (a ∷ as_) = omega (arith, length-append (action_bytes a) (actions
 
 padding_short : (n : ℕ) → padding n ≤ 7
 padding_short n = let some : 0 < 8 = omega arith in omega (arith, mod-lt (8 - n % 8) some)
-
-stated_short : (field size : ℕ) (bytes : ℕ → List ℕ) → ((n : ℕ) → length (bytes n) ≡ size) → (x : Option ℕ) → length (stated field bytes x) ≤ 4 + size
-stated_short field size bytes long None = omega arith
-stated_short field size bytes long (Some n) = omega (arith, long n)
-
-masked_short : (field size : ℕ) (bytes : ℕ → List ℕ) → ((n : ℕ) → length (bytes n) ≡ size) → (ones : ℕ) (x : Option (ℕ × ℕ))
-    → length (stated_masked field bytes ones x) ≤ 4 + size + size
-masked_short field size bytes long ones None = omega arith
-masked_short field size bytes long ones (Some a) = by (eqb a.1 ones)
-  where
-    by : (b : Bool) → length (cond b (oxm field (bytes a.0)) (oxm_masked field (bytes a.0) (bytes a.1))) ≤ 4 + size + size
-    by true = omega (arith, long a.0)
-    by false = omega (arith, long a.0, long a.1, length-append (bytes a.0) (bytes a.1))
-
-joined_short : (a b : List ℕ) (m n : ℕ) → length a ≤ m → length b ≤ n → length (a ++ b) ≤ m + n
-joined_short a b m n p q = omega (arith, p, q, length-append a b)
-
-oxms_short : (m : MatchFields) → length (match_oxms m) ≤ 165
-unfolding match_oxms
-oxms_short m =
-    let to_in_port = stated_short 0 4 (to_be_bytes w32) (λ n. refl) m.in_port in
-    let to_vlan = joined_short _ (stated 6 (to_be_bytes w16) m.vlan) 8 6 to_in_port (stated_short 6 2 (to_be_bytes w16) (λ n. refl) m.vlan) in
-    let to_eth_type = joined_short _ (stated 5 (to_be_bytes w16) m.eth_type) 14 6 to_vlan (stated_short 5 2 (to_be_bytes w16) (λ n. refl) m.eth_type) in
-    let to_ip_proto = joined_short _ (stated 10 byte m.ip_proto) 20 5 to_eth_type (stated_short 10 1 byte (λ n. refl) m.ip_proto) in
-    let to_eth_src = joined_short _ (stated 4 mac_bytes m.eth_src) 25 10 to_ip_proto (stated_short 4 6 mac_bytes (λ n. refl) m.eth_src) in
-    let to_eth_dst = joined_short _ (stated 3 mac_bytes m.eth_dst) 35 10 to_eth_src (stated_short 3 6 mac_bytes (λ n. refl) m.eth_dst) in
-    let to_ipv4_src = joined_short _ (stated_masked 11 (to_be_bytes w32) ones32 m.ipv4_src) 45 12 to_eth_dst
-    (masked_short 11 4 (to_be_bytes w32) (λ n. refl) ones32 m.ipv4_src) in
-    let to_ipv4_dst = joined_short _ (stated_masked 12 (to_be_bytes w32) ones32 m.ipv4_dst) 57 12 to_ipv4_src
-    (masked_short 12 4 (to_be_bytes w32) (λ n. refl) ones32 m.ipv4_dst) in
-    let to_tcp_src = joined_short _ (stated 13 (to_be_bytes w16) m.tcp_src) 69 6 to_ipv4_dst (stated_short 13 2 (to_be_bytes w16) (λ n. refl) m.tcp_src) in
-    let to_tcp_dst = joined_short _ (stated 14 (to_be_bytes w16) m.tcp_dst) 75 6 to_tcp_src (stated_short 14 2 (to_be_bytes w16) (λ n. refl) m.tcp_dst) in
-    let to_udp_src = joined_short _ (stated 15 (to_be_bytes w16) m.udp_src) 81 6 to_tcp_dst (stated_short 15 2 (to_be_bytes w16) (λ n. refl) m.udp_src) in
-    let to_udp_dst = joined_short _ (stated 16 (to_be_bytes w16) m.udp_dst) 87 6 to_udp_src (stated_short 16 2 (to_be_bytes w16) (λ n. refl) m.udp_dst) in
-    let to_ipv6_src = joined_short _ (stated_masked 26 (to_be_bytes w128) ones128 m.ipv6_src) 93 36 to_udp_dst
-    (masked_short 26 16 (to_be_bytes w128) (λ n. refl) ones128 m.ipv6_src) in
-    joined_short _ (stated_masked 27 (to_be_bytes w128) ones128 m.ipv6_dst) 129 36 to_ipv6_src
-    (masked_short 27 16 (to_be_bytes w128) (λ n. refl) ones128 m.ipv6_dst)
 
 match_short : (m : MatchFields) → length (match_bytes m) ≤ 176
 unfolding match_bytes
@@ -143,10 +106,6 @@ buckets_short (b ∷ bs) few = omega (arith, length-append (bucket_bytes b) (fla
 pub group_short : (g : GroupValue) → AllByRecursion (λ b. length b ≤ 10) g.buckets → length g.buckets ≤ 256 → length (message_bytes (Grouping g)) < 2 ^ 16
 unfolding message_bytes with_header group_body
 group_short g few small = omega (arith, small, buckets_short g.buckets few)
-
-pub barrier_short : (xid : ℕ) → length (message_bytes (Barrier xid)) < 2 ^ 16
-unfolding message_bytes with_header
-barrier_short xid = omega arith
 
 pub entries_away_short : length (message_bytes (Flow delete_entries)) < 2 ^ 16
 entries_away_short = flow_short delete_entries (omega arith)

@@ -7,10 +7,11 @@ use Rattle.std.specs.declared.option.Option.{Option}
 use Rattle.std.proofs.lemmas.Bool.Decides.{leb_tells}
 use Rattle.std.proofs.lemmas.List.{length-append, length-map, map-append}
 use Rattle.std.proofs.lemmas.List.Elements.{All-from_recursion, recursion_from_All}
-use Rattle.pq_lists.proofs.Holding.{all_append}
+use Rattle.pq_lists.proofs.Holding.{all_append, all_weaker}
 use Rattle.pq_model.specs.declared.message.Message.TheVariants.{Flow, Group as Grouping, Barrier}
 use Rattle.pq_model.specs.Lawful.{IsLawfulAction, IsLawfulBucket, IsLawfulGoto, IsLawfulMessage}
 use Rattle.pq_model.specs.MatchFields.{MatchFields, IsLawfulMatch}
+use Rattle.pq_model.proofs.Lengths.{barrier_lawful}
 use Rattle.pq_rewrite.specs.declared.outgoing.Outgoing.{Outgoing}
 use Rattle.pq_rewrite.specs.declared.trees.Arrive.{Arrive}
 use Rattle.pq_store.specs.Tree.{Tree}
@@ -25,8 +26,8 @@ use Rattle.pq_rules.specs.Found.{IsKeyWord}
 use Rattle.pq_rules.specs.Grouping.{group_copies, in_bucket, with_groups}
 use Rattle.pq_rules.specs.Paths.{StaysLawful}
 use Rattle.pq_rules.specs.Refusals.{FitRules, many_copies}
-use Rattle.pq_rules.proofs.ActionLemmas.{all_weaker, arrival_lawful, buckets_few, buckets_lawful, copy_ordered}
-use Rattle.pq_rules.proofs.BytesLemmas.{barrier_short, entries_away_short, flow_short, group_short, groups_away_short}
+use Rattle.pq_rules.proofs.ActionLemmas.{arrival_lawful, buckets_few, buckets_lawful, copy_ordered}
+use Rattle.pq_rules.proofs.BytesLemmas.{entries_away_short, flow_short, group_short, groups_away_short}
 use Rattle.pq_rules.proofs.GroupsLemmas.{IsShown, SoundEntries, groups_all, groups_few, groups_made, groups_shown}
 use Rattle.pq_rules.proofs.PathsLemmas.{stays_lawful, word_lawful}
 use Rattle.pq_rules.proofs.RenewingLemmas.{length_adds, length_groups}
@@ -55,15 +56,15 @@ module _ {L : Type 0} where
 arriving_lawful : (firsts : ArrivingTrees) → AreSoundArriving firsts → AllByRecursion (λ e. IsLawfulMatch e.0) (table_of is_nothing firsts)
 arriving_lawful firsts sound =
     table_lawful is_nothing firsts
-    (all_weaker (λ p. IsSoundArriving p.0 p.1) (λ p. IsKeyWord p.0 × StaysLawful (vlan_match p.0) p.1) firsts
-    (λ p h. (h.vlan, stays_lawful p.0 p.1 h.vlan h.matchable))
+    (all_weaker (λ p. IsSoundArriving p.0 p.1) (λ p. IsKeyWord p.0 × StaysLawful (vlan_match p.0) p.1)
+    (λ p h. (h.vlan, stays_lawful p.0 p.1 h.vlan h.matchable)) firsts
     (recursion_from_All (λ p. IsSoundArriving p.0 p.1) firsts sound.each))
 
 leaving_lawful : (seconds : LeavingTrees) → AreSoundLeaving seconds → AllByRecursion (λ e. IsLawfulMatch e.0) (leaving_entries seconds)
 leaving_lawful seconds sound =
     table_lawful is_without seconds
-    (all_weaker (λ p. IsSoundLeaving p.0 p.1) (λ p. IsKeyWord p.0 × StaysLawful (vlan_match p.0) p.1) seconds
-    (λ p h. (inr h.vlan, stays_lawful p.0 p.1 (inr h.vlan) h.matchable))
+    (all_weaker (λ p. IsSoundLeaving p.0 p.1) (λ p. IsKeyWord p.0 × StaysLawful (vlan_match p.0) p.1)
+    (λ p h. (inr h.vlan, stays_lawful p.0 p.1 (inr h.vlan) h.matchable)) seconds
     (recursion_from_All (λ p. IsSoundLeaving p.0 p.1) seconds sound.each))
 
 -- Rules.
@@ -157,9 +158,6 @@ groups_lawful (b ∷ bs) xid number some less few all =
       groups_lawful bs (suc xid) (suc number) (omega arith) (omega (arith, less)) (omega (arith, few)) all.1,
     )
 
-barrier_lawful : (xid : ℕ) → xid < 2 ^ 32 → IsLawfulMessage (Barrier xid)
-barrier_lawful xid few = record { content = few; short = barrier_short xid }
-
 away_lawful : IsLawfulMessage (Flow delete_entries)
 away_lawful = record {
   content = record {
@@ -235,14 +233,14 @@ made_all f P Q such [] all = tt
 made_all f P Q such (x ∷ xs) all = (such x all.0, made_all f P Q such xs all.1)
 
 sound_entries : (seconds : LeavingTrees) → AreSoundLeaving seconds → SoundEntries (leaving_entries seconds)
-sound_entries seconds sound = all_weaker (λ e. All IsSoundCopy e.1) (λ e. AllByRecursion IsSoundCopy e.1) (leaving_entries seconds)
-    (λ e h. recursion_from_All IsSoundCopy e.1 h)
+sound_entries seconds sound = all_weaker (λ e. All IsSoundCopy e.1) (λ e. AllByRecursion IsSoundCopy e.1)
+    (λ e h. recursion_from_All IsSoundCopy e.1 h) (leaving_entries seconds)
     (leaving_leaves seconds sound)
 
 groups_of_lawful : (es : List (MatchFields × List Outgoing)) → SoundEntries es → many_copies es ≡ None → AllByRecursion AreLawfulBuckets (groups_of es)
 groups_of_lawful es sound few =
     let groups = groups_all IsGroup es (all_weaker (λ e. length e.1 ≤ 256) (λ e. (g : List Outgoing) → group_copies e.1 ≡ Some g
-    → IsGroup g) es (λ e small g is. group_such e.1 g small is)
+    → IsGroup g) (λ e small g is. group_such e.1 g small is) es
     (few_each es few)) in
     subst (AllByRecursion AreLawfulBuckets) (sym (groups_made es sound))
     (made_all buckets_of (λ g. IsShown g × IsGroup g) AreLawfulBuckets (λ g h. group_buckets g h.0 h.1) (with_groups [] es)

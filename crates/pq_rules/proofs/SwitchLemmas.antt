@@ -17,7 +17,7 @@ use Rattle.pq_store.specs.Tree.{Tree}
 use Rattle.pq_store.specs.Tree.Tree.{Tip, Fork}
 use Rattle.pq_store.specs.Store.{HasAt}
 use Rattle.pq_lists.proofs.Places.{at_place}
-use Rattle.pq_lists.proofs.Holding.{all_append}
+use Rattle.pq_lists.proofs.Holding.{all_append, all_weaker}
 use Rattle.pq_layout.specs.Actions.{buckets_of, key_word, tag_word}
 use Rattle.pq_layout.specs.Entries.{entries_of, failing, is_blank, matches_below, passing, table_of, vlan_match}
 use Rattle.pq_layout.specs.Messages.{ArrivingTrees, LeavingTrees, first_rule, groups_of, is_nothing, is_without, leaving_entries, second_rule}
@@ -109,20 +109,16 @@ module _ {L : Type 0} (P : L → Type 0) where
       by true = tt
       by false = below_all p.1 (vlan_match p.0) all.0
 
-weaker : {A : Type 0} (P Q : A → Type 0) (xs : List A) → ((a : A) → P a → Q a) → AllByRecursion P xs → AllByRecursion Q xs
-weaker P Q [] less all = tt
-weaker P Q (x ∷ xs) less all = (less x all.0, weaker P Q xs less all.1)
-
 pub arriving_leaves : (firsts : ArrivingTrees) → AreSoundArriving firsts → AllByRecursion (λ e. IsSoundArrival e.1) (table_of is_nothing firsts)
 arriving_leaves firsts sound =
     table_all IsSoundArrival is_nothing firsts
-    (weaker (λ p. IsSoundArriving p.0 p.1) (λ p. AllLeaves IsSoundArrival p.1) firsts (λ p h. h.leaves)
+    (all_weaker (λ p. IsSoundArriving p.0 p.1) (λ p. AllLeaves IsSoundArrival p.1) (λ p h. h.leaves) firsts
     (recursion_from_All (λ p. IsSoundArriving p.0 p.1) firsts sound.each))
 
 pub leaving_leaves : (seconds : LeavingTrees) → AreSoundLeaving seconds → AllByRecursion (λ e. All IsSoundCopy e.1) (leaving_entries seconds)
 leaving_leaves seconds sound =
     table_all (All IsSoundCopy) is_without seconds
-    (weaker (λ p. IsSoundLeaving p.0 p.1) (λ p. AllLeaves (All IsSoundCopy) p.1) seconds (λ p h. h.leaves)
+    (all_weaker (λ p. IsSoundLeaving p.0 p.1) (λ p. AllLeaves (All IsSoundCopy) p.1) (λ p h. h.leaves) seconds
     (recursion_from_All (λ p. IsSoundLeaving p.0 p.1) seconds sound.each))
 
 -- Limits.

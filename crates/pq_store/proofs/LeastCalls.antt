@@ -9,6 +9,7 @@ use Rattle.std.proofs.lemmas.Bool.{or_parts}
 use Rattle.std.proofs.lemmas.Bool.Decides.{eqb_tells}
 use Rattle.std.proofs.lemmas.Nat.{pow_pos}
 use Rattle.std.proofs.lemmas.Option.{slice_get_within, slice_get_cases, slice_get-get_or}
+use Rattle.pq_lists.proofs.Places.{one_at}
 use Rattle.pq_fields.specs.declared.field.Field.{Field}
 use Rattle.pq_fields.specs.Packet.{Numbers, Fit, number_in, rank, is_wide, width_of, with_number}
 use Rattle.pq_fields.specs.Pred.{is_prefixed}
@@ -47,13 +48,6 @@ seen_here seen k j b c place within is own = same_bool (sym (slice_get-get_or se
     same_bool h = cc
 
 module _ {L : Type 0} where
-  one_some : {a b : Tree L} → Some a ≡ Some b → a ≡ b
-  one_some h = cc
-
-  -- each tree at the place is the one there
-  only : (ts : List (Tree L)) (k : ℕ) (t u : Tree L) → slice_get ts k ≡ Some t → slice_get ts k ≡ Some u → t ≡ u
-  only ts k t u is at = one_some (sym is ∙ at)
-
   -- a tree is at each place
   pub tree_there : (ts : List (Tree L)) (k : ℕ) → k < length ts → (t : Tree L) × (slice_get ts k ≡ Some t)
   tree_there ts k within = elim (slice_get_cases ts k).1 [ inl h ↦ (h.0, h.2) | inr h ↦ absurd (omega arith) ]
@@ -103,7 +97,7 @@ module _ {L : Type 0} where
 
     -- the packet is the first at the no side
     pub bit_no_first : IsFirstAt ts j p
-    bit_no_first t at = subst (λ u. IsFirst u p) (only ts j shows.no_tree t shows.no_is at)
+    bit_no_first t at = subst (λ u. IsFirst u p) (one_at ts j shows.no_tree t shows.no_is at)
         (first_inside f (2 ^ (width_of f - 1 - b)) shows.no_tree p
         (side_of_bit f b shows.no_tree bit_diagram.lawful.0 bit_diagram.lawful.2 bit_diagram.ascends.1)
         (clear_first f b p bit_within bit_begins))
@@ -112,7 +106,7 @@ module _ {L : Type 0} where
     pub bit_yes_first : (q : Numbers) → q ≡ with_number f (number_in f p + 2 ^ (width_of f - 1 - b)) p → IsFirstAt ts i q
     bit_yes_first q is t at =
         subst (λ x. IsFirst t x) (sym is)
-        (subst (λ u. IsFirst u (bit_set f b p bit_within bit_begins)) (only ts i shows.yes_tree t shows.yes_is at)
+        (subst (λ u. IsFirst u (bit_set f b p bit_within bit_begins)) (one_at ts i shows.yes_tree t shows.yes_is at)
         (first_inside f (2 ^ (width_of f - 1 - b)) shows.yes_tree (bit_set f b p bit_within bit_begins)
         (side_of_bit f b shows.yes_tree bit_diagram.lawful.0 bit_diagram.lawful.1 bit_diagram.ascends.0)
         (set_first f b p bit_within bit_begins)))
@@ -124,7 +118,7 @@ module _ {L : Type 0} where
         → ((t : Tree L) → slice_get ts i ≡ Some t → Visits ts t q mid middle new after) → (t : Tree L) → slice_get ts k ≡ Some t
         → Visits ts t p old before new (set after l true)
     bit_visited q is l place old mid new before middle after long visit_no visit_yes t at root sound ready leads =
-        let own : Fork (Bit f b) shows.yes_tree shows.no_tree ≡ t = only ts k (Fork (Bit f b) shows.yes_tree shows.no_tree) t shows.is at in
+        let own : Fork (Bit f b) shows.yes_tree shows.no_tree ≡ t = one_at ts k (Fork (Bit f b) shows.yes_tree shows.no_tree) t shows.is at in
         subst (λ m. IsSearched ts root t (λ x. Reaching t x p) old new (set after m true)) (sym place)
         (subst (λ u. IsSearched ts root u (λ x. Reaching u x p) old new (set after k true)) own
         (bit_searched ts root f b shows.yes_tree shows.no_tree p k old mid new before middle after shows.is
@@ -139,7 +133,7 @@ module _ {L : Type 0} where
 
     -- the tree at the place is this fork
     same_number : (t : Tree L) → slice_get ts k ≡ Some t → Fork (Equal f v) shows.yes_tree shows.no_tree ≡ t
-    same_number t at = only ts k (Fork (Equal f v) shows.yes_tree shows.no_tree) t shows.is at
+    same_number t at = one_at ts k (Fork (Equal f v) shows.yes_tree shows.no_tree) t shows.is at
 
     -- the number is lawful
     pub number_narrow : is_address f ≡ false
@@ -183,7 +177,7 @@ module _ {L : Type 0} where
 
     -- it is so at the yes side
     pub value_first : (p : Numbers) → IsClear f p → (q : Numbers) → q ≡ with_number f v p → IsFirstAt ts i q
-    value_first p clear q is t at = subst (λ x. IsFirst t x) (sym is) (subst (λ u. IsFirst u (with_number f v p)) (only ts i shows.yes_tree t shows.yes_is at)
+    value_first p clear q is t at = subst (λ x. IsFirst t x) (sym is) (subst (λ u. IsFirst u (with_number f v p)) (one_at ts i shows.yes_tree t shows.yes_is at)
         (first_inside f 1 shows.yes_tree (with_number f v p)
         (yes_of_number f v shows.yes_tree number_diagram.lawful.0 number_diagram.lawful.1 number_diagram.ascends.0
         number_diagram.asks_once.0) (whole_begins p clear v)))
@@ -193,7 +187,7 @@ module _ {L : Type 0} where
     rest_first p clear free r past q is t at =
         subst (λ x. IsFirst t x) (sym is)
         (subst (λ u. IsFirst u (with_number f free p))
-        (only ts r (rest f (Fork (Equal f v) shows.yes_tree shows.no_tree)) t
+        (one_at ts r (rest f (Fork (Equal f v) shows.yes_tree shows.no_tree)) t
         (past (Fork (Equal f v) shows.yes_tree shows.no_tree) shows.is) at)
         (first_inside f 1 (rest f (Fork (Equal f v) shows.yes_tree shows.no_tree)) (with_number f free p)
         (rest_inside f v (Fork (Equal f v) shows.yes_tree shows.no_tree)
@@ -201,7 +195,7 @@ module _ {L : Type 0} where
 
     -- the field's numbers go on after this one
     pub none_goes_on : (t : Tree L) → slice_get ts j ≡ Some t → GoesOn f None t
-    none_goes_on t at = subst (λ u. GoesOn f None u) (only ts j shows.no_tree t shows.no_is at) (record {
+    none_goes_on t at = subst (λ u. GoesOn f None u) (one_at ts j shows.no_tree t shows.no_is at) (record {
       asks = asks_less f 0 (suc v) shows.no_tree (omega arith)
           (no_of_number f v shows.no_tree number_diagram.lawful.0 number_diagram.lawful.2 number_diagram.ascends.1);
       room = tt;
@@ -217,7 +211,7 @@ module _ {L : Type 0} where
     next_goes_on None goes_on t at = none_goes_on t at
     next_goes_on (Some free) goes_on t at =
         let own : GoesOn f (Some free) (Fork (Equal f v) shows.yes_tree shows.no_tree) = goes_on (Fork (Equal f v) shows.yes_tree shows.no_tree) shows.is in
-        subst (λ u. GoesOn f (Some (free + 1)) u) (only ts j shows.no_tree t shows.no_is at) (record {
+        subst (λ u. GoesOn f (Some (free + 1)) u) (one_at ts j shows.no_tree t shows.no_is at) (record {
           asks = asks_less f 0 (suc v) shows.no_tree (omega arith)
               (no_of_number f v shows.no_tree number_diagram.lawful.0 number_diagram.lawful.2 number_diagram.ascends.1);
           room = omega (arith, own.room, most_here);
@@ -347,6 +341,6 @@ module _ {L : Type 0} where
   leaf_visited ts k l p is canonical fit j place old new before long fresh grown t at =
       subst (λ m. Visits ts t p old before new (set before m true)) (sym place)
       (subst (λ found. Visits ts t p old before found (set before k true)) (sym grown)
-      (subst (λ u. Visits ts u p old before (old ++ record { packet = p; leaf = k } ∷ []) (set before k true)) (only ts k (Tip l) t is at)
+      (subst (λ u. Visits ts u p old before (old ++ record { packet = p; leaf = k } ∷ []) (set before k true)) (one_at ts k (Tip l) t is at)
       (λ root sound ready leads. leaf_searched ts root old before k l p (subst (λ m. k < m) (sym long) (slice_get_within ts k (Tip l) is))
       is (one_tip ts canonical) fresh fit sound ready leads)))

@@ -8,6 +8,7 @@ use Rattle.std.proofs.lemmas.Bool.{cases_eq, cases_Bool}
 use Rattle.std.proofs.lemmas.List.{get_or-set_same, get_or-set_other}
 use Rattle.std.proofs.lemmas.List.Elements.{All-weaker, All-push, All-nil}
 use Rattle.std.proofs.lemmas.List.Quantifiers.{Any-push, all_pairs_push}
+use Rattle.std.proofs.lemmas.Option.{same_Some}
 use Rattle.pq_fields.specs.Packet.{Numbers, Fit}
 use Rattle.pq_store.specs.declared.test.Test.{Test}
 use Rattle.pq_store.specs.declared.least.Least.{Least}
@@ -57,14 +58,11 @@ module _ {L : Type 0} where
     each = sound.each;
     ascending = sound.ascending;
     settled = λ j u seen_j at. elim (cases_eq j k) [
-      | inl same ↦ subst (λ v. AreFound ts found v) (one_some (sym is ∙ ap (slice_get ts) (sym same) ∙ at)) all
+      | inl same ↦ subst (λ v. AreFound ts found v) (same_Some t u (sym is ∙ ap (slice_get ts) (sym same) ∙ at)) all
       | inr other ↦ sound.settled j u (sym (get_or-set_other seen k j true false other) ∙ seen_j) at
     ];
     marked = All-weaker (λ e. IsSeen seen e.leaf) (λ e. IsSeen (set seen k true) e.leaf) (λ e. seen_set seen k e.leaf within) found sound.marked;
   }
-    where
-      one_some : {a b : Tree L} → Some a ≡ Some b → a ≡ b
-      one_some h = cc
 
   -- a leaf that isn't marked is found by the packet before which all is found
   pub leaf_searched : (ts : List (Tree L)) (root : Tree L) (found : List Least) (seen : List Bool) (k : ℕ) (l : L) (p : Numbers)
@@ -80,7 +78,7 @@ module _ {L : Type 0} where
       each = All-push (IsLeastIn ts root) found entry sound.each least;
       ascending = all_pairs_push (λ d e. precedes d.packet e.packet ≡ true) found entry sound.ascending ready.behind;
       settled = λ j u seen_j at. elim (cases_eq j k) [
-        | inl same ↦ subst (λ v. AreFound ts (found ++ entry ∷ []) v) (one_some (sym is ∙ ap (slice_get ts) (sym same) ∙ at)) all
+        | inl same ↦ subst (λ v. AreFound ts (found ++ entry ∷ []) v) (same_Some (Tip l) u (sym is ∙ ap (slice_get ts) (sym same) ∙ at)) all
         | inr other ↦ λ x x_fit. found_more ts found (entry ∷ []) u x (sound.settled j u (sym (get_or-set_other seen k j true false other) ∙ seen_j) at x x_fit)
       ];
       marked = All-push (λ e. IsSeen (set seen k true) e.leaf) found entry
@@ -91,9 +89,6 @@ module _ {L : Type 0} where
     where
       entry : Least
       entry = record { packet = p; leaf = k }
-
-      one_some : {a b : Tree L} → Some a ≡ Some b → a ≡ b
-      one_some h = cc
 
       all : AreFound ts (found ++ entry ∷ []) (Tip l)
       all x x_fit = Any-push (λ e. Hits ts (Tip l) x e.leaf) found entry is

@@ -11,6 +11,7 @@ use Rattle.std.specs.List.{AllByRecursion, filter}
 use Rattle.std.specs.List.Sorted.{IsStrictlySortedBy}
 use Rattle.std.specs.Map.{keys_of, values_of}
 use Rattle.std.specs.Ordering.{bool_cmp, is_le, nat_cmp, ordering_then}
+use Rattle.std.proofs.Math.Bool.{and-false}
 use Rattle.pq_model.specs.Tagged.{TaggedPacket}
 use Rattle.pq_switch.specs.Added.{IsKept, place_in}
 use Rattle.pq_switch.specs.Choice.{best_of, comes_before, counts, is_beaten}
@@ -105,12 +106,8 @@ module _ (n : ℕ) (x : TaggedPacket) where
   beaten [] best all = refl
   beaten (s ∷ slots) best (here, all) =
       let behind : comes_before s best ≡ false = grind (arith, nat_tests) in
-      let stays : counts n x s && comes_before s best ≡ false = ap (λ b. counts n x s && b) behind ∙ never (counts n x s) in
+      let stays : counts n x s && comes_before s best ≡ false = ap (λ b. counts n x s && b) behind ∙ and-false (counts n x s) in
       ap (best_of n x slots) (ap (λ b. cond b (Some s) (Some best)) stays) ∙ beaten slots best all
-    where
-      never : (b : Bool) → b && false ≡ false
-      never true = refl
-      never false = refl
 
   lower_all : (s best : Slot) → s.entry.priority < best.entry.priority → (slots : List Slot)
       → AllByRecursion (λ t. t.entry.priority ≤ s.entry.priority) slots → AllByRecursion (λ t. t.entry.priority < best.entry.priority) slots

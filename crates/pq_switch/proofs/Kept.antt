@@ -14,13 +14,14 @@ use Rattle.pq_lists.proofs.Holding.{all_filter, all_weaker, all_push}
 use Rattle.pq_fields.specs.Packet.{is_before}
 use Rattle.pq_model.specs.Mods.{FlowValue}
 use Rattle.pq_model.specs.SwitchMachine.{Entry, entry_of, is_placed}
+use Rattle.pq_model.proofs.Sorted.{sort-all}
 use Rattle.pq_switch.specs.Added.{AreKept, Climbs, IsKept, entries_of, in_turn, place_in, turn}
 use Rattle.pq_switch.specs.Places.{place_cmp, place_of}
 use Rattle.pq_switch.specs.declared.entry.Slot.{Slot}
 use Rattle.pq_switch.specs.declared.place.Place.{Place}
 use Rattle.pq_switch.proofs.Places.{place_cmp_total, placed-equal}
 use Rattle.pq_switch.proofs.Rows.{Tells, all-insert, all-remove, parts, removed, values-filter}
-use Rattle.pq_switch.proofs.SortedParts.{sort-all, sort-filter, sort-greatest}
+use Rattle.pq_switch.proofs.SortedParts.{sort-filter, sort-greatest}
 
 climbs-filter : (p : Slot → Bool) (slots : List Slot) → Climbs slots → Climbs (filter p slots)
 climbs-filter p [] climb = tt

@@ -19,11 +19,13 @@ use Rattle.std.specs.Map.{keys_of, lookup, remove_entry}
 use Rattle.std.specs.Ordering.{eq_by_cmp, is_eq, is_gt, is_le, nat_cmp, ordering_then}
 use Rattle.std.specs.Set.{is_member}
 use Rattle.std.proofs.lemmas.List.{drop_more}
+use Rattle.std.proofs.Math.Bool.{and-false}
 use Rattle.pq_lists.proofs.Holding.{all_filter, all_weaker}
 use Rattle.pq_model.specs.SwitchMachine.{Entry, Groups, group_named, groups_named, is_removed}
 use Rattle.pq_model.specs.declared.reserved.TheConstants.{ALL_GROUPS}
 use Rattle.pq_model.proofs.Filters.{filter-filter}
 use Rattle.pq_model.specs.declared.action.Action.{Action}
+use Rattle.pq_model.proofs.CommutingGroups.{regrouped}
 use Rattle.pq_switch.specs.Namings.{AreIndexed, AreNoted, Grows, is_naming, is_noted, names, names_any, naming, naming_cmp}
 use Rattle.pq_switch.specs.Places.{place_cmp}
 use Rattle.pq_switch.specs.declared.entry.Slot.{Slot}
@@ -31,10 +33,6 @@ use Rattle.pq_switch.specs.declared.naming.Naming.{Naming}
 use Rattle.pq_switch.specs.declared.place.Place.{Place}
 use Rattle.pq_switch.proofs.Places.{both_equal, lowest, lowest-first, not_gt, place-exact, place_cmp_total, same_numbers}
 use Rattle.pq_switch.proofs.Rows.{all-insert, all-remove, some_is_no_none}
-
-and-false : (b : Bool) → b && false ≡ false
-and-false true = refl
-and-false false = refl
 
 -- the other way round
 unlike : (g h : ℕ) → (h == g) ≡ false → (g == h) ≡ false
@@ -99,9 +97,6 @@ module _ {K X : Type 0} (R : K → K → Ordering) (o : IsTotalOrder R) (k : K) 
   all-apart [] all = tt
   all-apart (e ∷ es) (here, all) = (away (t e.1) (R k e.0) (ap is_eq here), all-apart es all)
 
-  beyond : (q : K) (ps : List K) → ((z : K) → R q z ≡ Less → R k z ≡ Less) → AllByRecursion (λ z. R q z ≡ Less) ps → AllByRecursion (λ z. R k z ≡ Less) ps
-  beyond q ps h all = all_weaker (λ z. R q z ≡ Less) (λ z. R k z ≡ Less) h ps all
-
   -- where there is none
   none-there : (es : List (K × X)) → lookup (is_at (R k)) es ≡ None → AllByRecursion (λ r. apart r ≡ true) es
   none-there [] none = tt
@@ -123,7 +118,8 @@ module _ {K X : Type 0} (R : K → K → Ordering) (o : IsTotalOrder R) (k : K) 
   one_taken v (e ∷ es) (later, sorted) found = by (R k e.0) refl found (one_taken v es sorted)
     where
       rest : R k e.0 ≡ Equal → filter apart es ≡ es
-      rest is = filter-all apart es (all-apart es (beyond e.0 (keys_of es) (λ z less. o.congr k e.0 z is ∙ less) later))
+      rest is =
+          filter-all apart es (all-apart es (all_weaker (λ z. R e.0 z ≡ Less) (λ z. R k z ≡ Less) (λ z less. o.congr k e.0 z is ∙ less) (keys_of es) later))
 
       kept : (r : Ordering) → is_eq r ≡ false → R k e.0 ≡ r → filter apart (e ∷ es) ≡ e ∷ filter apart es
       kept r h is = ap (λ b. cond b (e ∷ filter apart es) (filter apart es)) (away (t e.1) (R k e.0) (ap is_eq is ∙ h))
@@ -372,13 +368,7 @@ one_place g p es sorted = by (lookup (is_at (place_cmp p)) es) refl
 
 any-either : {A : Type 0} (p q r : A → Bool) → ((x : A) → r x ≡ p x || q x) → (xs : List A) → list_any r xs ≡ list_any p xs || list_any q xs
 any-either p q r is [] = refl
-any-either p q r is (x ∷ xs) = (λ i. is x i || any-either p q r is xs i) ∙ by (p x) (q x) (list_any p xs) (list_any q xs)
-  where
-    by : (a b c d : Bool) → (a || b) || (c || d) ≡ (a || c) || (b || d)
-    by true b c d = refl
-    by false true true d = refl
-    by false true false d = refl
-    by false false c d = refl
+any-either p q r is (x ∷ xs) = (λ i. is x i || any-either p q r is xs i) ∙ regrouped (p x) (q x) (list_any p xs) (list_any q xs)
 
 not-or : (a b : Bool) → not (a || b) ≡ not a && not b
 not-or true b = refl

@@ -1,5 +1,5 @@
 -- Each row is found on its shelf, so the best of four shelves is the best of all.
-use Rattle.std.proofs.Common.{◌≡◌, ◌≢◌, ◌⊎◌, map, ℕ, zero, suc, ◌+◌, ◌<◌, Bool, true, false, ◌==◌, List, [], ◌∷◌, ◌++◌, length, refl, sym}
+use Rattle.std.proofs.Common.{◌≡◌, ◌≢◌, map, ℕ, zero, suc, ◌+◌, ◌<◌, Bool, true, false, ◌==◌, List, [], ◌∷◌, ◌++◌, length, refl, sym}
 use Rattle.std.proofs.Common.{ap, subst, ◌∙◌, arith, inl, inr}
 use Rattle.std.specs.Prelude.{slice_get, slice_set}
 use Rattle.std.proofs.lemmas.Bool.Decides.{nat_tests}
@@ -8,17 +8,17 @@ use Rattle.std.specs.declared.option.Option.{Option}
 use Rattle.std.specs.declared.option.Option.TheVariants.{None, Some}
 use Rattle.std.specs.Cmp.{first_so, second_so}
 use Rattle.std.specs.Option.{option_map}
+use Rattle.std.proofs.lemmas.Bool.{eqb-true}
 use Rattle.pq_model.specs.MatchFields.{covers, vlan_word}
 use Rattle.pq_model.specs.SwitchMachine.{taken}
 use Rattle.pq_model.specs.Tagged.{TaggedPacket}
 use Rattle.pq_switch.specs.Added.{entries_of, in_turn}
 use Rattle.pq_switch.specs.Choice.{IsBest, IsIn, best_of, counts}
-use Rattle.pq_switch.specs.Patterns.{seen}
 use Rattle.pq_switch.specs.Shelves.{AreRows, LieBelow, found, picked, shelf_at, shelf_for, shelf_of}
 use Rattle.pq_switch.specs.declared.entry.Slot.{Slot}
 use Rattle.pq_switch.specs.declared.pattern.Pattern.{Pattern}
 use Rattle.pq_switch.proofs.Choice.{best-all, best-among, best-is_taken, in-either, in-left, in-right}
-use Rattle.pq_switch.proofs.Patterns.{covered}
+use Rattle.pq_switch.proofs.Patterns.{covered, stated}
 
 -- a row with its number
 record IsAt (rows : List Slot) (t : Slot) : Type 0 where
@@ -133,13 +133,6 @@ module _ (n : ℕ) (x : TaggedPacket) (rows : List Slot) (shelves : List (List �
     | inr h ↦ on-in None None t h
   ]
 
-  stated : (o : Option ℕ) (k : ℕ) → o ≡ seen o k → (o ≡ None) ⊎ (o ≡ Some k)
-  stated None k h = inl refl
-  stated (Some v) k h = inr h
-
-  equal : (a b : ℕ) → (a == b) ≡ true → a ≡ b
-  equal a b e = grind (arith, nat_tests)
-
   lies : (t : Slot) → IsIn t rows → (p v : Option ℕ) → t.entry.table ≡ n → t.entry.matching.in_port ≡ p → t.entry.matching.vlan ≡ v → IsIn t (on p v)
   lies t i p v table port_is vlan_is =
       let at = numbered rows t i in
@@ -155,7 +148,7 @@ module _ (n : ℕ) (x : TaggedPacket) (rows : List Slot) (shelves : List (List �
   all : (t : Slot) → IsIn t rows → counts n x t ≡ true → IsIn t some
   all t i counted =
       let m = t.entry.matching in
-      let table : t.entry.table ≡ n = equal t.entry.table n (first_so (t.entry.table == n) (covers m x) counted) in
+      let table : t.entry.table ≡ n = eqb-true t.entry.table n (first_so (t.entry.table == n) (covers m x) counted) in
       let shows = covered m x (second_so (t.entry.table == n) (covers m x) counted) in
       elim (stated m.in_port x.packet.port (ap (λ (p : Pattern). p.in_port) shows)) [
         | inl no_port ↦ elim (stated m.vlan (vlan_word x.vlan) (ap (λ (p : Pattern). p.vlan) shows)) [

@@ -1,5 +1,5 @@
 -- What covers a packet states what the packet shows under its shape.
-use Rattle.std.proofs.Common.{◌≡◌, ℕ, Bool, true, ◌==◌, ◌&&◌, List, [], ◌∷◌, bit_and, arith, refl, ap}
+use Rattle.std.proofs.Common.{◌≡◌, ℕ, Bool, true, ◌==◌, ◌&&◌, List, [], ◌∷◌, bit_and, arith, refl, ap, ◌⊎◌, inl, inr}
 use Rattle.std.proofs.lemmas.Bool.Decides.{nat_tests}
 use Rattle.std.specs.declared.option.Option.{Option}
 use Rattle.std.specs.declared.option.Option.TheVariants.{None, Some}
@@ -10,6 +10,11 @@ use Rattle.pq_model.specs.Tagged.{TaggedPacket}
 use Rattle.pq_switch.specs.Patterns.{mask_of, pattern_of, projected, seen, seen_masked, shape_of}
 use Rattle.pq_switch.specs.declared.pattern.Pattern.{Pattern}
 use Rattle.pq_switch.proofs.Places.{joined}
+
+-- what shows something states nothing or this
+pub stated : (o : Option ℕ) (k : ℕ) → o ≡ seen o k → (o ≡ None) ⊎ (o ≡ Some k)
+stated None k h = inl refl
+stated (Some v) k h = inr h
 
 joined-all : (b : Bool) (cs : List Bool) → joined b cs ≡ true → (b ≡ true) × AllByRecursion (λ c. c ≡ true) cs
 joined-all b [] h = (h, tt)

@@ -11,6 +11,7 @@ use Rattle.std.proofs.lemmas.Bool.{true≢false}
 use Rattle.std.specs.Map.{keys_of, lookup, remove_entry, values_of}
 use Rattle.std.specs.BTreeMap.{insert_entry, is_at}
 use Rattle.std.specs.Ordering.{is_eq, match_ordering}
+use Rattle.pq_lists.proofs.Holding.{all_weaker}
 
 pub some_is_no_none : {A B : Type 0} (x : A) → Some x ≡ None → B
 some_is_no_none x e = absurd (true≢false (ap is_some e))
@@ -87,10 +88,6 @@ module _ {K X : Type 0} where
         pub is : values_of new ≡ front ++ v ∷ back
         pub rest : filter p (values_of es) ≡ front ++ back
 
-      after : (q : K) (ps : List K) → ((z : K) → R q z ≡ Less → R k z ≡ Less) → AllByRecursion (λ z. R q z ≡ Less) ps → AllByRecursion (λ z. R k z ≡ Less) ps
-      after q [] h all = tt
-      after q (z ∷ ps) h (here, all) = (h z here, after q ps h all)
-
       pub parts : IsTotalOrder R → (v : X) (es : List (K × X)) → Tells p es → IsStrictlySortedBy R (keys_of es) → Parts es (insert_entry R es k v) v
       unfolding IsStrictlySortedBy
       parts o v [] tells sorted = record { front = []; back = []; is = refl; rest = refl }
@@ -103,14 +100,14 @@ module _ {K X : Type 0} where
             back = e.1 ∷ values_of es;
             is = refl;
             rest = ap (λ b. cond b (e.1 ∷ filter p (values_of es)) (filter p (values_of es))) (here ∙ ap (λ r. not (is_eq r)) is)
-                ∙ ap (λ l. e.1 ∷ l) (later_stay es tells (after e.0 (keys_of es) (λ z. o.trans k e.0 z is) later));
+                ∙ ap (λ l. e.1 ∷ l) (later_stay es tells (all_weaker (λ z. R e.0 z ≡ Less) (λ z. R k z ≡ Less) (λ z. o.trans k e.0 z is) (keys_of es) later));
           }
           by Equal is more = record {
             front = [];
             back = values_of es;
             is = refl;
             rest = ap (λ b. cond b (e.1 ∷ filter p (values_of es)) (filter p (values_of es))) (here ∙ ap (λ r. not (is_eq r)) is)
-                ∙ later_stay es tells (after e.0 (keys_of es) (λ z less. o.congr k e.0 z is ∙ less) later);
+                ∙ later_stay es tells (all_weaker (λ z. R e.0 z ≡ Less) (λ z. R k z ≡ Less) (λ z less. o.congr k e.0 z is ∙ less) (keys_of es) later);
           }
           by Greater is more = record {
             front = e.1 ∷ more.front;

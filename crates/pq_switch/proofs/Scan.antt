@@ -1,7 +1,7 @@
 -- The shapes of a table are found one after another, and the best of all covering entries with them.
 use Rattle.std.proofs.Common.{◌≡◌, ◌⊎◌, ℕ, ◌+◌, ◌-◌, ◌<◌, ◌≤◌, Bool, true, false, cond, if◌then◌else◌, ◌==◌, ◌&&◌, List, [], ◌∷◌, ◌++◌}
 use Rattle.std.proofs.Common.{length, refl, sym, ap, subst, ◌∙◌, arith, inl, inr}
-use Rattle.std.proofs.lemmas.Bool.{true≢false}
+use Rattle.std.proofs.lemmas.Bool.{true≢false, eqb-true}
 use Rattle.std.proofs.lemmas.Bool.Decides.{nat_tests}
 use Rattle.std.specs.declared.cmp.Ordering.{Ordering}
 use Rattle.std.specs.declared.cmp.Ordering.TheVariants.{Less, Equal, Greater}
@@ -18,7 +18,7 @@ use Rattle.pq_model.specs.SwitchMachine.{taken}
 use Rattle.pq_model.specs.Tagged.{TaggedPacket}
 use Rattle.pq_switch.specs.Added.{AreKept, IsKept, entries_of, in_turn, place_in}
 use Rattle.pq_switch.specs.Choice.{IsBest, IsBestOfMore, IsBestWith, IsIn, best_of, best_of_few, counts, preferred}
-use Rattle.pq_switch.specs.Patterns.{pattern_of, projected, seen, shape_of}
+use Rattle.pq_switch.specs.Patterns.{pattern_of, projected, shape_of}
 use Rattle.pq_switch.specs.Places.{block_at, block_cmp, first_of, past, pattern_cmp, place_cmp}
 use Rattle.pq_switch.specs.Ranges.{onward, range_of}
 use Rattle.pq_switch.specs.declared.entry.Slot.{Slot}
@@ -27,7 +27,7 @@ use Rattle.pq_switch.specs.declared.place.Block.{Block}
 use Rattle.pq_switch.specs.declared.place.Place.{Place}
 use Rattle.pq_switch.proofs.Choice.{best-all, best-among, best-is_taken, in-either, in-left, in-right}
 use Rattle.pq_switch.proofs.Falling.{squeezed}
-use Rattle.pq_switch.proofs.Patterns.{covered, shape-decides}
+use Rattle.pq_switch.proofs.Patterns.{covered, shape-decides, stated}
 use Rattle.pq_switch.proofs.Places.{block-exact, block_total, first_of-first, pattern-exact, pattern_total, place-exact, place_cmp_total}
 use Rattle.pq_switch.proofs.Ranges.{from_range, in_range}
 
@@ -405,10 +405,6 @@ module _ (n : ℕ) (x : TaggedPacket) (es : List (Place × Slot)) (next : ℕ) (
   abbrev word : Option ℕ
   word = Some (vlan_word x.vlan)
 
-  stated : (o : Option ℕ) (k : ℕ) → o ≡ seen o k → (o ≡ None) ⊎ (o ≡ Some k)
-  stated None k h = inl refl
-  stated (Some v) k h = inr h
-
   -- the best with the entries of four blocks is the best of all
   pub best_of_blocks : (one two three four : Option Slot) → IsBestWith n x es (block_at n port word) None one
       → IsBestWith n x es (block_at n port None) one two →
@@ -439,7 +435,7 @@ module _ (n : ℕ) (x : TaggedPacket) (es : List (Place × Slot)) (next : ℕ) (
       found t i counted =
           let at = under t es i in
           let m = t.entry.matching in
-          let table : t.entry.table ≡ n = equal t.entry.table n (first_so (t.entry.table == n) (covers m x) counted) in
+          let table : t.entry.table ≡ n = eqb-true t.entry.table n (first_so (t.entry.table == n) (covers m x) counted) in
           let shows = covered m x (second_so (t.entry.table == n) (covers m x) counted) in
           elim (stated m.in_port x.packet.port (ap (λ (p : Pattern). p.in_port) shows)) [
             | inl no_port ↦ elim (stated m.vlan (vlan_word x.vlan) (ap (λ (p : Pattern). p.vlan) shows)) [
@@ -451,6 +447,3 @@ module _ (n : ℕ) (x : TaggedPacket) (es : List (Place × Slot)) (next : ℕ) (
               | inr a_word ↦ d.has t (c.has t (b.has t (a.all (at.at, t) at.among (block_of (at.at, t) at.among port word table a_port a_word) counted)))
             ]
           ]
-        where
-          equal : (a b : ℕ) → (a == b) ≡ true → a ≡ b
-          equal a b e = grind (arith, nat_tests)

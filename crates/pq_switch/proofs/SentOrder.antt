@@ -2,11 +2,11 @@
 use Rattle.std.proofs.Common.{◌≡◌, ℕ, Bool, true, false, if◌then◌else◌, arith, List, [], ◌∷◌, ◌++◌, map, length, refl, sym, ap, ◌∙◌}
 use Rattle.std.specs.Cmp.Lexicographic.{slice_cmp}
 use Rattle.std.specs.Ordering.{nat_cmp, ordering_then}
-use Rattle.std.specs.declared.cmp.Ordering.{Ordering}
-use Rattle.std.specs.declared.cmp.Ordering.TheVariants.{Less, Equal, Greater}
+use Rattle.pq_lists.proofs.Orderings.{then_grouped}
 use Rattle.pq_model.specs.declared.tagged.Sent.{Sent}
 use Rattle.pq_model.specs.declared.tagged.Sent.TheVariants.{Port, Controller}
 use Rattle.pq_fields.specs.Packet.{is_before}
+use Rattle.pq_fields.proofs.Places.{then_equal}
 use Rattle.pq_model.specs.Sorting.{put_by, sort_by}
 use Rattle.pq_model.specs.SwitchMachine.{in_order, to_ports, to_controller}
 use Rattle.pq_model.specs.Tagged.{TaggedPacket, tagged_numbers}
@@ -57,18 +57,8 @@ sorted_in_order (Controller x ∷ sent) =
 -- equal numbers before the last leave the decision to the last
 pub last-decides : (xs ys : List ℕ) (a b : ℕ) → length xs ≡ length ys
     → slice_cmp nat_cmp (xs ++ a ∷ []) (ys ++ b ∷ []) ≡ ordering_then (slice_cmp nat_cmp xs ys) (nat_cmp a b)
-last-decides [] [] a b e = whole (nat_cmp a b)
-  where
-    whole : (r : Ordering) → ordering_then r Equal ≡ r
-    whole Less = refl
-    whole Equal = refl
-    whole Greater = refl
+last-decides [] [] a b e = then_equal (nat_cmp a b)
 last-decides [] (y ∷ ys) a b e = absurd (omega arith)
 last-decides (x ∷ xs) [] a b e = absurd (omega arith)
 last-decides (x ∷ xs) (y ∷ ys) a b e = ap (ordering_then (nat_cmp x y)) (last-decides xs ys a b (omega arith))
-    ∙ joined (nat_cmp x y) (slice_cmp nat_cmp xs ys) (nat_cmp a b)
-  where
-    joined : (r s t : Ordering) → ordering_then r (ordering_then s t) ≡ ordering_then (ordering_then r s) t
-    joined Less s t = refl
-    joined Equal s t = refl
-    joined Greater s t = refl
+    ∙ then_grouped (nat_cmp x y) (slice_cmp nat_cmp xs ys) (nat_cmp a b)

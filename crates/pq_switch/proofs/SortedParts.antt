@@ -4,7 +4,7 @@ use Rattle.std.specs.List.{AllByRecursion, filter}
 use Rattle.pq_lists.proofs.Holding.{all_filter}
 use Rattle.pq_fields.specs.Packet.{is_before}
 use Rattle.pq_model.specs.Sorting.{put_by, sort_by}
-use Rattle.pq_model.proofs.Sorted.{Rises, all_above, filter-choice, order, put-all, sort-rises}
+use Rattle.pq_model.proofs.Sorted.{Rises, all_above, filter-choice, order, sort-all, sort-rises}
 
 module _ {A : Type 0} (key : A → List ℕ) where
   abbrev below : A → A → Bool
@@ -55,13 +55,9 @@ module _ {A : Type 0} (key : A → List ℕ) where
       by true = refl
       by false = refl
 
-  pub sort-all : (P : A → Type 0) (xs : List A) → AllByRecursion P xs → AllByRecursion P (sort_by key xs)
-  sort-all P [] all = tt
-  sort-all P (x ∷ xs) (here, all) = put-all key P x (sort_by key xs) here (sort-all P xs all)
-
   -- the greatest of a list is last, wherever it was
   pub sort-greatest : (front : List A) (x : A) (back : List A) → AllByRecursion (λ y. below y x ≡ true) (front ++ back)
       → sort_by key (front ++ x ∷ back) ≡ sort_by key (front ++ back) ++ x ∷ []
-  sort-greatest [] x back all = put-last x (sort_by key back) (sort-all (λ y. below y x ≡ true) back all)
+  sort-greatest [] x back all = put-last x (sort_by key back) (sort-all key (λ y. below y x ≡ true) back all)
   sort-greatest (y ∷ front) x back (here, all) =
       ap (put_by key y) (sort-greatest front x back all) ∙ put-before y x (sort_by key (front ++ back)) ((order key).one_way y x here)

@@ -16,13 +16,14 @@ use Rattle.pq_tree.specs.Trees.{Forest, nothing, grown}
 use Rattle.pq_model.specs.Sorting.{put_by, sort_by}
 use Rattle.pq_model.specs.Topology.{Switch, Link, Topology, is_port, is_end}
 use Rattle.pq_model.specs.Install.{IsLawfulLink, end_numbers, link_numbers, ends_of}
+use Rattle.pq_model.proofs.Sorted.{sort-all}
 use Rattle.pq_grammar.specs.declared.class.Class.TheVariants.{LinkWord}
 use Rattle.pq_topo.specs.declared.fault.NameKind.TheVariants.{UnknownPort, Doubled}
 use Rattle.pq_topo.specs.Named.{IsNamedTopology}
 use Rattle.pq_topo.specs.Naming.{next}
 use Rattle.pq_topo.specs.Statements.{number_in, switch_at, end_of, link_of, begins_with, links_after, ordered, in_order}
 use Rattle.pq_topo.proofs.Readings.{next_ok, unless_ok}
-use Rattle.pq_topo.proofs.Ordered.{sort_ascends, all_sorted, same_key, one_is_before}
+use Rattle.pq_topo.proofs.Ordered.{sort_ascends, same_key, one_is_before}
 
 -- the same end
 abbrev pub same_end : ℕ × ℕ → ℕ × ℕ → Bool
@@ -40,6 +41,10 @@ end_equiv = record {
 }
 
 -- Links as they are read.
+
+-- the ends of one link more
+pub one_link : (ls : List Link) (l : Link) → ends_of (ls ++ l ∷ []) ≡ (ends_of ls ++ l.first ∷ []) ++ l.second ∷ []
+one_link ls l = flat_map-append (λ (m : Link). m.first ∷ m.second ∷ []) ls (l ∷ []) ∙ sym (append_assoc (ends_of ls) (l.first ∷ []) (l.second ∷ []))
 
 module _ (switches : List Switch) where
   abbrev network : Topology
@@ -70,9 +75,6 @@ module _ (switches : List Switch) where
       is_true : (b : Bool) → not b ≡ false → IsTrue b
       is_true true e = refl
       is_true false e = absurd cc
-
-  ends_more : (ls : List Link) (l : Link) → ends_of (ls ++ l ∷ []) ≡ (ends_of ls ++ l.first ∷ []) ++ l.second ∷ []
-  ends_more ls l = flat_map-append (λ l. l.first ∷ l.second ∷ []) ls (l ∷ []) ∙ sym (append_assoc (ends_of ls) (l.first ∷ []) (l.second ∷ []))
 
   any_last : (p : ℕ × ℕ → Bool) (es : List (ℕ × ℕ)) (e : ℕ × ℕ) → list_any p (es ++ e ∷ []) ≡ false → p e ≡ false
   any_last p [] e h = by (p e) h
@@ -105,7 +107,7 @@ module _ (switches : List Switch) where
       let more = IsDistinct-push end_equiv (ends ++ d ∷ []) c (IsDistinct-push end_equiv ends d are.distinct first.1) second.1 in
       subst (λ k. AreReadLinks (earlier ++ k ∷ [])) is (record {
         each = all_push IsReadLink earlier (record { first = d; second = c }) are.each (first.0, second.0, apart);
-        distinct = subst (IsDistinct same_end) (sym (ends_more earlier (record { first = d; second = c }))) more;
+        distinct = subst (IsDistinct same_end) (sym (one_link earlier (record { first = d; second = c }))) more;
       })
 
   -- all links that are read keep the rules
@@ -214,7 +216,7 @@ module _ (ss : List Switch) (ls : List Link) where
           switches = named.lawful.switches;
           ascending = named.lawful.ascending;
           links = All-from_recursion (IsLawfulLink (record { switches = ss; links = in_order ls })) (in_order ls)
-              (all_sorted link_numbers (IsLawfulLink (record { switches = ss; links = in_order ls })) flat (all_ordered ls are.each));
+              (sort-all link_numbers (IsLawfulLink (record { switches = ss; links = in_order ls })) flat (all_ordered ls are.each));
           linked_once = IsDistinct-IsPermutation same_end end_equiv.symm (ends_of flat) (ends_of (in_order ls)) (ends_sorted flat) apart;
           links_ascend = sort_ascends link_numbers flat (numbers_differ flat apart);
         };

@@ -8,6 +8,8 @@ use Rattle.pq_fields.specs.Packet.{is_before}
 use Rattle.pq_model.specs.Sorting.{put_by, sort_by}
 use Rattle.pq_model.specs.Lawful.{Ascends}
 use Rattle.pq_model.specs.Install.{AscendsBy}
+use Rattle.pq_model.proofs.Ascending.{rest_ascends}
+use Rattle.pq_model.proofs.Sorted.{sort-all}
 
 -- of two different lists of numbers one is before the other
 pub one_is_before : (ks ls : List ℕ) → is_before ks ls ≡ false → bytes_eq ls ks ≡ false → is_before ls ks ≡ true
@@ -44,18 +46,6 @@ module _ {A : Type 0} (key : A → List ℕ) where
   sort_shuffles (x ∷ xs) = IsPermutation-trans (x ∷ xs) (x ∷ sort_by key xs) (put_by key x (sort_by key xs))
       (IsPermutation-cons x xs (sort_by key xs) (sort_shuffles xs)) (put_shuffles x (sort_by key xs))
 
-  all_put : (P : A → Type 0) (x : A) (ys : List A) → P x → AllByRecursion P ys → AllByRecursion P (put_by key x ys)
-  all_put P x [] here all = (here, tt)
-  all_put P x (y ∷ ys) here (first, all) = by (is_before (key y) (key x)) (all_put P x ys here all)
-    where
-      by : (b : Bool) → AllByRecursion P (put_by key x ys) → AllByRecursion P (if b then y ∷ put_by key x ys else x ∷ y ∷ ys)
-      by true more = (first, more)
-      by false more = (here, (first, all))
-
-  pub all_sorted : (P : A → Type 0) (xs : List A) → AllByRecursion P xs → AllByRecursion P (sort_by key xs)
-  all_sorted P [] all = tt
-  all_sorted P (x ∷ xs) all = all_put P x (sort_by key xs) all.0 (all_sorted P xs all.1)
-
   above : (y x : A) (zs : List A) → is_before (key y) (key x) ≡ true → AscendsBy key (y ∷ zs) → AscendsBy key (put_by key x zs)
       → AscendsBy key (y ∷ put_by key x zs)
   above y x [] h up rest = (h, tt)
@@ -65,13 +55,9 @@ module _ {A : Type 0} (key : A → List ℕ) where
       by true rest = (up.0, rest)
       by false rest = (h, rest)
 
-  rest_ascends : (y : A) (ys : List A) → AscendsBy key (y ∷ ys) → AscendsBy key ys
-  rest_ascends y [] up = tt
-  rest_ascends y (z ∷ zs) up = up.1
-
   put_ascends : (x : A) (ys : List A) → AscendsBy key ys → AllByRecursion (λ y. same_key x y ≡ false) ys → AscendsBy key (put_by key x ys)
   put_ascends x [] up apart = tt
-  put_ascends x (y ∷ ys) up apart = by (is_before (key y) (key x)) refl (put_ascends x ys (rest_ascends y ys up) apart.1)
+  put_ascends x (y ∷ ys) up apart = by (is_before (key y) (key x)) refl (put_ascends x ys (rest_ascends key y ys up) apart.1)
     where
       by : (b : Bool) → is_before (key y) (key x) ≡ b → AscendsBy key (put_by key x ys) → AscendsBy key (if b then y ∷ put_by key x ys else x ∷ y ∷ ys)
       by true e more = above y x ys e up more
@@ -81,4 +67,4 @@ module _ {A : Type 0} (key : A → List ℕ) where
   pub sort_ascends : (xs : List A) → IsDistinct same_key xs → AscendsBy key (sort_by key xs)
   unfolding IsDistinct
   sort_ascends [] apart = tt
-  sort_ascends (x ∷ xs) apart = put_ascends x (sort_by key xs) (sort_ascends xs apart.1) (all_sorted (λ y. same_key x y ≡ false) xs apart.0)
+  sort_ascends (x ∷ xs) apart = put_ascends x (sort_by key xs) (sort_ascends xs apart.1) (sort-all key (λ y. same_key x y ≡ false) xs apart.0)

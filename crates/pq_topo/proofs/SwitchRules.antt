@@ -25,6 +25,7 @@ use Rattle.pq_model.specs.MatchFields.{IsPortNumber}
 use Rattle.pq_model.specs.Sorting.{sort_by}
 use Rattle.pq_model.specs.Topology.{Switch}
 use Rattle.pq_model.specs.Install.{IsLawfulSwitch, port_count}
+use Rattle.pq_model.proofs.Sorted.{sort-all}
 use Rattle.pq_grammar.specs.declared.class.Class.TheVariants.{SwitchWord}
 use Rattle.pq_topo.specs.declared.fault.NameKind.TheVariants.{Many, Doubled, BadValue}
 use Rattle.pq_topo.specs.Named.{IsNamedTopology}
@@ -32,7 +33,7 @@ use Rattle.pq_topo.specs.Naming.{next}
 use Rattle.pq_topo.specs.Statements.{number_in, may_be_port, port_of, ports_after, room_after, seen, limit_in, name_of, datapath_of}
 use Rattle.pq_topo.specs.Statements.{switch_with, switch_begins, switch_from, switch_of, begins_with, switches_after, by_datapath}
 use Rattle.pq_topo.proofs.Readings.{next_ok, unless_ok}
-use Rattle.pq_topo.proofs.Ordered.{ascends_from, sort_shuffles, sort_ascends, all_sorted, same_key}
+use Rattle.pq_topo.proofs.Ordered.{ascends_from, sort_shuffles, sort_ascends, same_key}
 
 -- what is spelled is below 2 ^ 64
 small : (bs : List ℕ) → unwrap_or (number_of bs) 0 < 2 ^ 64
@@ -130,7 +131,7 @@ ports_sorted room ps are some =
     let up = ascends_from (λ p. p) sorted (sort_ascends (λ (p : ℕ). p ∷ []) ps (one_key ps are.distinct)) in (
       (λ none. let zero : length sorted ≡ 0 = ap length none in omega (arith, zero, long, some)),
       subst Ascends (map-id sorted) up,
-      All-from_recursion IsPortNumber sorted (all_sorted (λ (p : ℕ). p ∷ []) IsPortNumber ps are.numbers),
+      All-from_recursion IsPortNumber sorted (sort-all (λ (p : ℕ). p ∷ []) IsPortNumber ps are.numbers),
       omega (arith, long, are.few),
     )
 
@@ -221,7 +222,7 @@ named ss are =
     let shuffled = sort_shuffles (λ (s : Switch). s.datapath ∷ []) ss in
     let long : length sorted ≡ length ss = length_permutation ss sorted shuffled in
     let sum : port_count sorted ≡ port_count ss = sum_by-IsPermutation (λ s. length s.ports) ss sorted shuffled in
-    let each = all_sorted (λ (s : Switch). s.datapath ∷ []) IsReadSwitch ss are.each in
+    let each = sort-all (λ (s : Switch). s.datapath ∷ []) IsReadSwitch ss are.each in
     record {
       lawful = record {
         few_switches = omega (arith, long, are.few);

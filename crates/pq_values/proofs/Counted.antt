@@ -5,6 +5,7 @@ use Rattle.std.specs.List.{filter, list_any}
 use Rattle.std.proofs.lemmas.Bool.Decides.{eqb_tells, nat_tests}
 use Rattle.std.proofs.lemmas.List.{length-append, map-append}
 use Rattle.std.proofs.lemmas.List.Elements.{filter-append}
+use Rattle.std.proofs.Math.Bool.{or-true}
 use Rattle.pq_model.proofs.CommutingFlows.{equal-comm}
 use Rattle.pq_fields.specs.declared.field.Field.{Field}
 use Rattle.pq_fields.specs.Packet.{rank}
@@ -83,12 +84,8 @@ all_counted (n ∷ ns) ks all = all_counted ns (with_number n ks) (number_counts
   where
     by : (b : Bool) → has ks n ≡ b → length (ascending (ns ++ (if b then ks else ks ++ n ∷ []))) ≡ length (ascending (n ∷ (ns ++ ks)))
     by true known =
-        let among : has (ns ++ ks) n ≡ true = either_has ns ks n ∙ (ap (λ b. has ns n || b) known ∙ either (has ns n)) in
+        let among : has (ns ++ ks) n ≡ true = either_has ns ks n ∙ (ap (λ b. has ns n || b) known ∙ or-true (has ns n)) in
         sym (length_ascending n (ns ++ ks) ∙ ap (λ b. one_more b (length (ascending (ns ++ ks)))) among)
-      where
-        either : (b : Bool) → (b || true) ≡ true
-        either true = refl
-        either false = refl
     by false new = ap (λ ms. length (ascending ms)) (sym (append_assoc ns ks (n ∷ []))) ∙ last_first (ns ++ ks) n
 
 -- Numbers of a field.

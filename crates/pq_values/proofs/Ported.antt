@@ -5,6 +5,7 @@ use Rattle.std.specs.List.{Contains, filter}
 use Rattle.std.proofs.lemmas.Bool.{true≢false, and_parts}
 use Rattle.std.proofs.lemmas.Bool.Decides.{eqb_tells, nat_tests}
 use Rattle.std.proofs.lemmas.List.Elements.{All-contains_itself, All-weaker}
+use Rattle.std.proofs.Math.Bool.{or-true}
 use Rattle.pq_fields.specs.declared.field.Field.{Field}
 use Rattle.pq_fields.specs.declared.field.Field.TheVariants.{Switch, Port, EthType, IpProto, EthSrc, EthDst, Ipv4Src, Ipv4Dst, TcpSrc}
 use Rattle.pq_fields.specs.declared.field.Field.TheVariants.{TcpDst, UdpSrc, UdpDst, Ipv6Src, Ipv6Dst}
@@ -163,11 +164,7 @@ port_or_none n is = elim (eqb_tells n 0) [
 ]
 
 port_kept_too : (n : ℕ) → IsPortNumber n → is_port_or_none n ≡ true
-port_kept_too n port = ap (λ b. (n == 0) || b) (port_kept_as n port) ∙ by (n == 0)
-  where
-    by : (b : Bool) → (b || true) ≡ true
-    by true = refl
-    by false = refl
+port_kept_too n port = ap (λ b. (n == 0) || b) (port_kept_as n port) ∙ or-true (n == 0)
 
 -- a diagram that tests and writes only what policies state has only numbers of ports
 pub has_ports : (T : Topology) (ps : List PolicyTree) → AreOver T ps [] → (t : Tree (List Written))
