@@ -115,7 +115,8 @@ pub fn complement(alloc: Global) -> Result<Query, AllocError>
 
 /// `in_group(true, [switch of (1, 2)]) ^ out_atom(port=3)`.
 pub fn labels(alloc: Global) -> Result<Query, AllocError>
-    ensures { IfOk result (λ q. query_tree q ≡ in_turn (leaf (Enters anything (record { field = Switch; values = Some (1 ∷ 2 ∷ []) } ∷ [])) ∷ leaving (port_is 3) ∷ [])) }
+    ensures { IfOk result (λ q. query_tree q ≡ in_turn
+        (leaf (Enters anything (record { field = Switch; values = Some (1 ∷ 2 ∷ []) } ∷ [])) ∷ leaving (port_is 3) ∷ [])) }
 {
     let values = vec![in alloc; 1, 2]?;
     let mut groups = Vec::new(alloc);

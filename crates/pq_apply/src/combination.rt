@@ -44,9 +44,11 @@ fn combined<L: Leaf, F: Fn(&L, &L) -> Result<L, AllocError>>(
     requires y { y < length store.old }
     requires fit { FitTogetherAt store.old x store.old y }
     requires join { F.IsAlwaysCallable join.now }
-    requires done { Remembers same_pair (λ key id. IsPairedAt (λ a b c. Gives (F.post join.now) a b (Ok c)) store.old key.0 store.old key.1 store.old id) done.old }
+    requires done { Remembers same_pair (λ key id. IsPairedAt
+        (λ a b c. Gives (F.post join.now) a b (Ok c)) store.old key.0 store.old key.1 store.old id) done.old }
     ensures paired { IfOk result (λ id. IsPairedAt (λ a b c. Gives (F.post join.now) a b (Ok c)) store.new x store.new y store.new id) }
-    ensures done { OnOk result (Remembers same_pair (λ key id. IsPairedAt (λ a b c. Gives (F.post join.now) a b (Ok c)) store.new key.0 store.new key.1 store.new id) done.new) }
+    ensures done { OnOk result (Remembers same_pair
+        (λ key id. IsPairedAt (λ a b c. Gives (F.post join.now) a b (Ok c)) store.new key.0 store.new key.1 store.new id) done.new) }
     ensures keeps { Keeps store.old store.new }
 {
     if let Some(id) = recall(done, &(x, y)) {

@@ -48,7 +48,8 @@ fn joined(
     requires x { x < length store.old }
     requires y { y < length store.old }
     requires fits { (t u : Tree Bool) → slice_get store.old x ≡ Some t → slice_get store.old y ≡ Some u → FitTogetherAll (t ∷ u ∷ []) }
-    ensures joins { IfOk result (λ id. (t u : Tree Bool) → slice_get store.old x ≡ Some t → slice_get store.old y ≡ Some u → JunctionAt every (t ∷ u ∷ []) store.new id) }
+    ensures joins { IfOk result (λ id. (t u : Tree Bool) → slice_get store.old x ≡ Some t → slice_get store.old y ≡ Some u
+        → JunctionAt every (t ∷ u ∷ []) store.new id) }
     ensures keeps { Keeps store.old store.new }
     ensures scratch { Keeps scratch.old scratch.new }
 {

@@ -78,9 +78,11 @@ fn paired<A: Leaf, B: Leaf, C: Leaf, F: Fn(&A, &B) -> Result<C, AllocError>>(
     requires y { y < length right.now }
     requires fit { FitTogetherAt left.now x right.now y }
     requires join { F.IsAlwaysCallable join.now }
-    requires done { Remembers same_pair (λ key id. IsPairedAt (λ a b c. Gives (F.post join.now) a b (Ok c)) left.now key.0 right.now key.1 into.old id) done.old }
+    requires done { Remembers same_pair (λ key id. IsPairedAt
+        (λ a b c. Gives (F.post join.now) a b (Ok c)) left.now key.0 right.now key.1 into.old id) done.old }
     ensures paired { IfOk result (λ id. IsPairedAt (λ a b c. Gives (F.post join.now) a b (Ok c)) left.now x right.now y into.new id) }
-    ensures done { OnOk result (Remembers same_pair (λ key id. IsPairedAt (λ a b c. Gives (F.post join.now) a b (Ok c)) left.now key.0 right.now key.1 into.new id) done.new) }
+    ensures done { OnOk result (Remembers same_pair
+        (λ key id. IsPairedAt (λ a b c. Gives (F.post join.now) a b (Ok c)) left.now key.0 right.now key.1 into.new id) done.new) }
     ensures keeps { Keeps into.old into.new }
 {
     if let Some(id) = recall(done, &(x, y)) {

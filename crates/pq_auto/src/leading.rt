@@ -35,7 +35,8 @@ fn first_with(
     state: u64,
 ) -> Result<u64, AllocError>
     requires { length firsts.old.items ≡ length seen.old.keys }
-    ensures { IfOk result (λ first. GivesFirst (map (λ k. k.items) seen.old.keys) firsts.old.items key.items state first (map (λ k. k.items) seen.new.keys) firsts.new.items) }
+    ensures { IfOk result (λ first. GivesFirst (map (λ k. k.items) seen.old.keys) firsts.old.items key.items state first
+        (map (λ k. k.items) seen.new.keys) firsts.new.items) }
 {
     let place = number(seen, key)?;
     if place == firsts.len() as u64 {
@@ -60,7 +61,8 @@ fn next_leader(
     requires firsts { AreFirsts table.now leaders.now (map (λ k. k.items) seen.old.keys) firsts.old.items }
     ensures next { IfOk result (λ next. IsNext table.now leaders.now (map (λ k. k.items) seen.new.keys) firsts.new.items state next) }
     ensures firsts { IfOk result (λ next. AreFirsts table.now leaders.now (map (λ k. k.items) seen.new.keys) firsts.new.items) }
-    ensures stays { IfOk result (λ next. (s n : ℕ) → IsNext table.now leaders.now (map (λ k. k.items) seen.old.keys) firsts.old.items s n → IsNext table.now leaders.now (map (λ k. k.items) seen.new.keys) firsts.new.items s n) }
+    ensures stays { IfOk result (λ next. (s n : ℕ) → IsNext table.now leaders.now (map (λ k. k.items) seen.old.keys) firsts.old.items s n
+        → IsNext table.now leaders.now (map (λ k. k.items) seen.new.keys) firsts.new.items s n) }
 {
     table.is_lawful();
     let leader = number_at(leaders, state as usize);

@@ -146,7 +146,8 @@ pub(crate) fn product(
     requires { length tables.now < 2 ^ 32 }
     ensures letters { IfOk result (λ a. a.letters ≡ letters) }
     ensures even { IfOk result (λ a. (w : List ℕ) → AllBelow letters w → is_even_at a (reached a w) ≡ has_even_length w) }
-    ensures accepted { IfOk result (λ a. (w : List ℕ) → AllBelow letters w → accepted_at a (reached a w) ≡ accepting tables.now (run (steps tables.now) (begin tables.now) w)) }
+    ensures accepted { IfOk result (λ a. (w : List ℕ) → AllBelow letters w
+        → accepted_at a (reached a w) ≡ accepting tables.now (run (steps tables.now) (begin tables.now) w)) }
     ensures few { IfOk result (λ a. (ms : List ℕ) → HaveFew letters tables.now ms → length a.rows ≤ 2 * product ms) }
 {
     let (rows, states) = search(alloc, tables, letters)?;

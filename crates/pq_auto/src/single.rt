@@ -51,7 +51,9 @@ fn expand<L: Ledger>(
     requires place { place < length states.old.keys }
     requires alike { AreAlike states.old.keys }
     ensures counted { OnOk result (steps.new ≡ steps.old + length alphabet.now) }
-    ensures row { IfOk result (λ row. (r : Rest) → slice_get (rests states.old.keys) place ≡ Some r → AreNumbers (rests states.old.keys) (targets (after (map (λ v. v.items) alphabet.now)) r 0 (length alphabet.now)) row.items (rests states.new.keys)) }
+    ensures row { IfOk result (λ row. (r : Rest) → slice_get (rests states.old.keys) place ≡ Some r
+        → AreNumbers (rests states.old.keys) (targets (after (map (λ v. v.items) alphabet.now)) r 0 (length alphabet.now)) row.items
+        (rests states.new.keys)) }
     ensures alike { OnOk result (AreAlike states.new.keys) }
     ensures rests { OnOk result ((e : ExprTree) → AreRestsOf e states.old.keys → AreRestsOf e states.new.keys) }
 {
@@ -123,7 +125,8 @@ fn search<L: Ledger>(
     alphabet: &[Vec<bool>],
     steps: &mut Steps<L>,
 ) -> Result<(Vec<Vec<u64>>, IndexSet<Met>), AllocError>
-    ensures searched { IfOk result (λ r. IsSearched (after (map (λ v. v.items) alphabet.now)) (whole (expr_tree expr.now)) (length alphabet.now) (rests r.1.keys) (lists r.0.items)) }
+    ensures searched { IfOk result (λ r. IsSearched (after (map (λ v. v.items) alphabet.now)) (whole (expr_tree expr.now))
+        (length alphabet.now) (rests r.1.keys) (lists r.0.items)) }
     ensures all { IfOk result (λ r. length r.1.keys ≤ length r.0.items) }
     ensures alike { IfOk result (λ r. AreAlike r.1.keys) }
     ensures rests { IfOk result (λ r. AreRestsOf (expr_tree expr.now) r.1.keys) }

@@ -33,7 +33,8 @@ fn lowered_one(
     requires atoms { All (λ q. query_atoms q < 2 ^ 19) (named_trees queries.now) }
     requires room { length preds.old.items < 2 ^ 31 }
     ensures lowered { IfOk result (λ e. IsLowered (named_trees queries.now) (map pred_tree preds.new.items) instance.now (expr_tree e)) }
-    ensures added { OnOk result ((q : QueryTree) → slice_get (named_trees queries.now) instance.now.query ≡ Some q → map pred_tree preds.new.items ≡ map pred_tree preds.old.items ++ added_preds q instance.now.label) }
+    ensures added { OnOk result ((q : QueryTree) → slice_get (named_trees queries.now) instance.now.query ≡ Some q
+        → map pred_tree preds.new.items ≡ map pred_tree preds.old.items ++ added_preds q instance.now.label) }
     ensures few { OnOk result (length preds.new.items ≤ length preds.old.items + 2 ^ 20) }
 {
     let query = &queries[instance.query as usize].1;

@@ -102,7 +102,8 @@ fn answer_generated<K: Sink>(alloc: Global, output: Output, number: u32, sink: &
     requires least { 2 ≤ number }
     requires most { number ≤ 64 }
     requires limit { (task_of output).limit ≡ document_limit }
-    ensures answer { (left rest : Option (List ℕ)) → IsAnswerOn (task_of output) (generated_text number) result (streams left rest (K.put sink.old) (K.put sink.new)) }
+    ensures answer { (left rest : Option (List ℕ))
+        → IsAnswerOn (task_of output) (generated_text number) result (streams left rest (K.put sink.old) (K.put sink.new)) }
     ensures read_faults { (faults : ℕ) → HasReadFaults result faults faults }
     ensures write_faults { HasWriteFaults result (K.faults sink.old) (K.faults sink.new) }
     ensures refusal { OnRefusal result (sink.new ≡ sink.old) }

@@ -31,11 +31,14 @@ pub fn run<S: Source, K: Sink>(
 ) -> Outcome
     ensures words { (result ≡ Outcome.Words) ↔ (command_of (map string_bytes words.now) ≡ None) }
     ensures untouched { OnUnread (command_of (map string_bytes words.now)) (source.new ≡ source.old) }
-    ensures answers { (command : Command) → command_of (map string_bytes words.now) ≡ Some command → IsAnswerTo command result (streams (S.left source.old) (S.left source.new) (K.put sink.old) (K.put sink.new)) }
+    ensures answers { (command : Command) → command_of (map string_bytes words.now) ≡ Some command
+        → IsAnswerTo command result (streams (S.left source.old) (S.left source.new) (K.put sink.old) (K.put sink.new)) }
     ensures read_faults { HasReadFaults result (S.faults source.old) (S.faults source.new) }
     ensures write_faults { HasWriteFaults result (K.faults sink.old) (K.faults sink.new) }
     ensures refusal { OnRefusalTo (command_of (map string_bytes words.now)) result (sink.new ≡ sink.old) }
-    ensures completes { (command : Command) → command_of (map string_bytes words.now) ≡ Some command → HasNoFault (S.faults source.old) (S.faults source.new) → HasNoFault (K.faults sink.old) (K.faults sink.new) → CompletesAs command (S.left source.old) result }
+    ensures completes { (command : Command) → command_of (map string_bytes words.now) ≡ Some command
+        → HasNoFault (S.faults source.old) (S.faults source.new) → HasNoFault (K.faults sink.old) (K.faults sink.new)
+        → CompletesAs command (S.left source.old) result }
 {
     match Command::of_words(words) {
         Some(command) => answer(alloc, command, source, sink),

@@ -30,7 +30,8 @@ fn part_from(
     topology: &Topology,
     names: &mut IndexSet<Name>,
 ) -> Result<(Name, Policy), NameFault>
-    ensures part { IsAnswer part_tree result (named_from bytes.now 1024 (policy_of topology.now bytes.now) names.old.keys keyword.now name.now (tree body.now)) }
+    ensures part { IsAnswer part_tree result (named_from bytes.now 1024
+        (policy_of topology.now bytes.now) names.old.keys keyword.now name.now (tree body.now)) }
     ensures kept { IfOk result (λ p. names.new.keys ≡ names.old.keys ++ p.0 ∷ []) }
 {
     keyword_at(MOST_PARTS, names.len(), keyword)?;

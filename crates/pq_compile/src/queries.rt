@@ -30,7 +30,8 @@ fn query_from(
     topology: &Topology,
     names: &mut IndexSet<Name>,
 ) -> Result<(Name, Query), NameFault>
-    ensures query { IsAnswer named_query_tree result (named_from bytes.now 256 (query_of topology.now bytes.now) names.old.keys keyword.now name.now (tree body.now)) }
+    ensures query { IsAnswer named_query_tree result
+        (named_from bytes.now 256 (query_of topology.now bytes.now) names.old.keys keyword.now name.now (tree body.now)) }
     ensures kept { IfOk result (λ q. names.new.keys ≡ names.old.keys ++ q.0 ∷ []) }
 {
     keyword_at(MOST_QUERIES, names.len(), keyword)?;
@@ -49,7 +50,8 @@ fn query_of(
     topology: &Topology,
     names: &mut IndexSet<Name>,
 ) -> Result<(Name, Query), NameFault>
-    ensures query { IsAnswer named_query_tree result (named_of bytes.now 256 (query_of topology.now bytes.now) names.old.keys keyword.now (trees children.now)) }
+    ensures query { IsAnswer named_query_tree result
+        (named_of bytes.now 256 (query_of topology.now bytes.now) names.old.keys keyword.now (trees children.now)) }
     ensures kept { IfOk result (λ q. names.new.keys ≡ names.old.keys ++ q.0 ∷ []) }
 {
     match children {

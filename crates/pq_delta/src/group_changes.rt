@@ -17,7 +17,8 @@ pub(crate) fn push_group_deletes(
     kept: u32,
     groups: u32,
 ) -> Result<(), AllocError>
-    ensures { OnOk result (messages.new.items ≡ messages.old.items ++ map Group (group_deletes_from (length messages.old.items + 1) (suc kept) (groups - kept))) }
+    ensures { OnOk result (messages.new.items
+        ≡ messages.old.items ++ map Group (group_deletes_from (length messages.old.items + 1) (suc kept) (groups - kept))) }
 {
     let mut number = kept;
     while number < groups {
@@ -35,7 +36,9 @@ pub(crate) fn push_groups(
     new: &[Message],
 ) -> Result<(), AllocError>
     requires { length new.now < 2 ^ 32 }
-    ensures { OnOk result (messages.new.items ≡ messages.old.items ++ map Group (group_mods_from (length messages.old.items + 1) (puts_from 1 (groups_added old.now) (groups_added new.now)))) }
+    ensures { OnOk result (messages.new.items
+        ≡ messages.old.items ++ map Group (group_mods_from (length messages.old.items + 1)
+        (puts_from 1 (groups_added old.now) (groups_added new.now)))) }
 {
     let mut number: u32 = 0;
     let mut olds = old;
@@ -57,7 +60,9 @@ fn put_group<'a>(
     olds: &'a [Message],
     group: &GroupMod,
 ) -> Result<&'a [Message], AllocError>
-    ensures { IfOk result (λ rest. (bs : List Buckets) → messages.new.items ++ map Group (group_mods_from (length messages.new.items + 1) (puts_from (suc number) (groups_added rest.now) bs))
+    ensures { IfOk result (λ rest. (bs : List Buckets)
+        → messages.new.items ++ map Group (group_mods_from (length messages.new.items + 1)
+        (puts_from (suc number) (groups_added rest.now) bs))
         ≡ messages.old.items ++ map Group (group_mods_from (length messages.old.items + 1) (puts_from number (groups_added olds.now) (group.now.buckets ∷ bs)))) }
 {
     let Some((before, rest)) = next_group(olds) else {

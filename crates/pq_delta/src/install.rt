@@ -41,7 +41,8 @@ fn deltas(
     requires new_listed { length news.now ≡ length switches.now }
     requires olds { All IsLawfulList (map (λ ms. ms.items) olds.now) }
     requires news { All IsLawfulList (map (λ ms. ms.items) news.now) }
-    ensures changed { IfOk result (λ changed. map (λ p. (p.0, p.1.items)) changed.items ≡ deltas switches.now (map (λ ms. ms.items) olds.now) (map (λ ms. ms.items) news.now)) }
+    ensures changed { IfOk result (λ changed. map (λ p. (p.0, p.1.items)) changed.items
+        ≡ deltas switches.now (map (λ ms. ms.items) olds.now) (map (λ ms. ms.items) news.now)) }
     ensures few { IfOk result (λ changed. AreShort (map (λ p. (p.0, p.1.items)) changed.items)) }
 {
     let mut changed = Vec::new(alloc);
@@ -59,7 +60,8 @@ fn push_switch(
     datapath: u64,
     messages: Vec<Message>,
 ) -> Result<(), AllocError>
-    ensures { OnOk result (map (λ p. (p.0, p.1.items)) changed.new.items ≡ map (λ p. (p.0, p.1.items)) changed.old.items ++ with_switch datapath messages.items []) }
+    ensures { OnOk result (map (λ p. (p.0, p.1.items)) changed.new.items
+        ≡ map (λ p. (p.0, p.1.items)) changed.old.items ++ with_switch datapath messages.items []) }
 {
     if messages.is_empty() {
         return Ok(());

@@ -17,7 +17,8 @@ pub fn deltas_turn_tables()
     ensures turned { (old new : Renewal) → IsNumberedRenewal old → IsNumberedRenewal new → (t : Tables) (order : List Message)
         → AreSame (renewed old) t → IsLawfulOrder (switch_delta (renewal_messages old) (renewal_messages new)) order
         → AreSame (renewed new) (applies_all t order) }
-    ensures fit { (old new : Renewal) → IsNumberedRenewal old → IsNumberedRenewal new → AllFit (renewed old) (switch_delta (renewal_messages old) (renewal_messages new)) }
+    ensures fit { (old new : Renewal) → IsNumberedRenewal old → IsNumberedRenewal new
+        → AllFit (renewed old) (switch_delta (renewal_messages old) (renewal_messages new)) }
 {}
 
 /// Law: the messages of a delta of lawful installs are lawful, if there are no more groups than numbers of groups, and no more

@@ -74,7 +74,8 @@ fn push_removed<'a>(
     old: &'a [Message],
     known: &IndexSet<Key<'a>>,
 ) -> Result<(), AllocError>
-    ensures { OnOk result (messages.new.items ≡ messages.old.items ++ map Flow (deletes_from (length messages.old.items + 1) (others known.now.keys (entries_added old.now)))) }
+    ensures { OnOk result (messages.new.items
+        ≡ messages.old.items ++ map Flow (deletes_from (length messages.old.items + 1) (others known.now.keys (entries_added old.now)))) }
 {
     for message in old {
         remove(alloc, messages, message, known)?;
@@ -89,7 +90,9 @@ fn remove<'a>(
     message: &'a Message,
     known: &IndexSet<Key<'a>>,
 ) -> Result<(), AllocError>
-    ensures { OnOk result (messages.new.items ≡ messages.old.items ++ map Flow (deletes_from (length messages.old.items + 1) (others known.now.keys (entries_added (message.now ∷ []))))) }
+    ensures { OnOk result (messages.new.items
+        ≡ messages.old.items ++ map Flow (deletes_from (length messages.old.items + 1)
+        (others known.now.keys (entries_added (message.now ∷ []))))) }
 {
     let Some(flow) = added_entry(message) else {
         return Ok(());
@@ -107,7 +110,8 @@ fn push_added<'a>(
     new: &'a [Message],
     known: &IndexSet<Key<'a>>,
 ) -> Result<(), AllocError>
-    ensures { OnOk result (messages.new.items ≡ messages.old.items ++ map Flow (adds_from (length messages.old.items + 1) (others known.now.keys (entries_added new.now)))) }
+    ensures { OnOk result (messages.new.items
+        ≡ messages.old.items ++ map Flow (adds_from (length messages.old.items + 1) (others known.now.keys (entries_added new.now)))) }
 {
     for message in new {
         add(alloc, messages, message, known)?;
@@ -122,7 +126,9 @@ fn add<'a>(
     message: &'a Message,
     known: &IndexSet<Key<'a>>,
 ) -> Result<(), AllocError>
-    ensures { OnOk result (messages.new.items ≡ messages.old.items ++ map Flow (adds_from (length messages.old.items + 1) (others known.now.keys (entries_added (message.now ∷ []))))) }
+    ensures { OnOk result (messages.new.items
+        ≡ messages.old.items ++ map Flow (adds_from (length messages.old.items + 1)
+        (others known.now.keys (entries_added (message.now ∷ []))))) }
 {
     let Some(flow) = added_entry(message) else {
         return Ok(());

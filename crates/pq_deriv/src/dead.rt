@@ -42,7 +42,8 @@ fn turn_is_dead(exprs: &[Expr], rest: &[u64]) -> bool
 /// Whether each of the rests is dead.
 #[cycle(dead)]
 fn all_are_dead(exprs: &[Expr], rest: &[u64]) -> bool
-    ensures { result ≡ true → (w : Word) → list_any (λ b. b) (each_left (lefts (expr_trees exprs.now)) (parts (length (lefts (expr_trees exprs.now))) rest.now) w) ≡ false }
+    ensures { result ≡ true → (w : Word) → list_any (λ b. b)
+        (each_left (lefts (expr_trees exprs.now)) (parts (length (lefts (expr_trees exprs.now))) rest.now) w) ≡ false }
 {
     let mut left = rest;
     for expr in exprs {
@@ -58,7 +59,8 @@ fn all_are_dead(exprs: &[Expr], rest: &[u64]) -> bool
 /// Whether one of the rests is dead.
 #[cycle(dead)]
 fn one_is_dead(exprs: &[Expr], rest: &[u64]) -> bool
-    ensures { result ≡ true → (w : Word) → list_all (λ b. b) (each_left (lefts (expr_trees exprs.now)) (parts (length (lefts (expr_trees exprs.now))) rest.now) w) ≡ false }
+    ensures { result ≡ true → (w : Word) → list_all (λ b. b)
+        (each_left (lefts (expr_trees exprs.now)) (parts (length (lefts (expr_trees exprs.now))) rest.now) w) ≡ false }
 {
     let mut left = rest;
     for expr in exprs {

@@ -13,7 +13,8 @@ ghost use Rattle.pq_deriv.specs.Order.{state_eq};
 /// same words.
 pub fn equal_states_of_one_expression_are_one()
     ensures one { (a b : StateValue) → a.expr ≡ b.expr → state_eq a b ≡ true → a ≡ b }
-    ensures words { (a b : StateValue) → expr_tree a.expr ≡ expr_tree b.expr → state_eq a b ≡ true → (a.rest ≡ b.rest) × ((w : Word) → accepted a w ≡ accepted b w) }
+    ensures words { (a b : StateValue) → expr_tree a.expr ≡ expr_tree b.expr → state_eq a b ≡ true → (a.rest ≡ b.rest)
+        × ((w : Word) → accepted a w ≡ accepted b w) }
 {}
 
 /// A lawful expression, none of whose lists of operands is empty, has at most `most` rests: this many are in the list of
@@ -21,5 +22,6 @@ pub fn equal_states_of_one_expression_are_one()
 /// them, so an expression has at most this many states.
 pub fn rests_are_few()
     ensures all { (e : ExprTree) → IsLawful e → length (all_rests e) ≤ most e }
-    ensures distinct { (e : ExprTree) → IsLawful e → (rs : List (List ℕ)) → IsDistinct (pointwise nat_eq) rs → AllByRecursion (IsRest e) rs → length rs ≤ most e }
+    ensures distinct { (e : ExprTree) → IsLawful e → (rs : List (List ℕ)) → IsDistinct (pointwise nat_eq) rs → AllByRecursion (IsRest e) rs
+        → length rs ≤ most e }
 {}

@@ -16,8 +16,12 @@ use std::alloc::{AllocError, Global};
 
 /// Puts the rest into the set, unless it is dead. No rest is put twice.
 pub(crate) fn put(expr: &Expr, set: &mut Vec<Vec<u64>>, rest: Vec<u64>) -> Result<(), AllocError>
-    ensures left { OnOk result ((P : Language) (w : Word) → set_left (left (expr_tree expr.now)) P (map (λ r. r.items) set.new.items) w ≡ (joined (left (expr_tree expr.now) rest.items) P w || set_left (left (expr_tree expr.now)) P (map (λ r. r.items) set.old.items) w)) }
-    ensures members { OnOk result ((U : List (List ℕ)) → IsOneOf U rest.items → AreMembers U (map (λ r. r.items) set.old.items) → AreMembers U (map (λ r. r.items) set.new.items)) }
+    ensures left { OnOk result ((P : Language) (w : Word)
+        → set_left (left (expr_tree expr.now)) P (map (λ r. r.items) set.new.items) w
+        ≡ (joined (left (expr_tree expr.now) rest.items) P w
+        || set_left (left (expr_tree expr.now)) P (map (λ r. r.items) set.old.items) w)) }
+    ensures members { OnOk result ((U : List (List ℕ)) → IsOneOf U rest.items → AreMembers U (map (λ r. r.items) set.old.items)
+        → AreMembers U (map (λ r. r.items) set.new.items)) }
 {
     if is_dead(expr, &rest) {
         return Ok(());
@@ -27,8 +31,10 @@ pub(crate) fn put(expr: &Expr, set: &mut Vec<Vec<u64>>, rest: Vec<u64>) -> Resul
 
 /// Inserts the rest at its place by order, unless the set has it.
 fn insert(set: &mut Vec<Vec<u64>>, rest: Vec<u64>) -> Result<(), AllocError>
-    ensures tests { OnOk result ((t : List ℕ → Bool) → list_any t (map (λ r. r.items) set.new.items) ≡ (t rest.items || list_any t (map (λ r. r.items) set.old.items))) }
-    ensures members { OnOk result ((U : List (List ℕ)) → IsOneOf U rest.items → AreMembers U (map (λ r. r.items) set.old.items) → AreMembers U (map (λ r. r.items) set.new.items)) }
+    ensures tests { OnOk result ((t : List ℕ → Bool)
+        → list_any t (map (λ r. r.items) set.new.items) ≡ (t rest.items || list_any t (map (λ r. r.items) set.old.items))) }
+    ensures members { OnOk result ((U : List (List ℕ)) → IsOneOf U rest.items → AreMembers U (map (λ r. r.items) set.old.items)
+        → AreMembers U (map (λ r. r.items) set.new.items)) }
 {
     let place = match set.binary_search(&rest) {
         Ok(_) => return Ok(()),

@@ -34,7 +34,9 @@ pub(crate) fn start_rest(alloc: Global, expr: &Expr) -> Result<Vec<u64>, AllocEr
 /// The rest of operands in turn that accepts their words: the first operand is begun.
 #[cycle(starts)]
 fn start_turn(alloc: Global, exprs: &[Expr]) -> Result<Vec<u64>, AllocError>
-    ensures left { IfOk result (λ r. (w : Word) → top_left InTurn (languages (expr_trees exprs.now)) (lefts (expr_trees exprs.now)) r.items w ≡ in_turn (languages (expr_trees exprs.now)) w) }
+    ensures left { IfOk result (λ r. (w : Word)
+        → top_left InTurn (languages (expr_trees exprs.now)) (lefts (expr_trees exprs.now)) r.items w
+        ≡ in_turn (languages (expr_trees exprs.now)) w) }
     ensures rest { IfOk result (λ r. IsOneOf (top_rests InTurn (rests (expr_trees exprs.now))) r.items) }
 {
     let [first, ..] = exprs else {

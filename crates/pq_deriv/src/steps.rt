@@ -26,7 +26,8 @@ pub(crate) fn step_rest(
     side: Side,
     signature: &[bool],
 ) -> Result<Vec<u64>, AllocError>
-    ensures left { IfOk result (λ r. (w : Word) → left (expr_tree expr.now) r.items w ≡ left (expr_tree expr.now) rest.now (record { side = side; truth = signature.now } ∷ w)) }
+    ensures left { IfOk result (λ r. (w : Word)
+        → left (expr_tree expr.now) r.items w ≡ left (expr_tree expr.now) rest.now (record { side = side; truth = signature.now } ∷ w)) }
     ensures rest { IfOk result (λ r. IsRest (expr_tree expr.now) r.items) }
 {
     match expr {
@@ -74,7 +75,10 @@ fn step_turn(
     side: Side,
     signature: &[bool],
 ) -> Result<Vec<u64>, AllocError>
-    ensures left { IfOk result (λ r. (w : Word) → top_left InTurn (languages (expr_trees exprs.now)) (lefts (expr_trees exprs.now)) r.items w ≡ top_left InTurn (languages (expr_trees exprs.now)) (lefts (expr_trees exprs.now)) rest.now (record { side = side; truth = signature.now } ∷ w)) }
+    ensures left { IfOk result (λ r. (w : Word)
+        → top_left InTurn (languages (expr_trees exprs.now)) (lefts (expr_trees exprs.now)) r.items w
+        ≡ top_left InTurn (languages (expr_trees exprs.now)) (lefts (expr_trees exprs.now)) rest.now
+        (record { side = side; truth = signature.now } ∷ w)) }
     ensures rest { IfOk result (λ r. IsOneOf (top_rests InTurn (rests (expr_trees exprs.now))) r.items) }
 {
     if exprs.is_empty() {
@@ -128,7 +132,10 @@ fn step_repetition(
     side: Side,
     signature: &[bool],
 ) -> Result<Vec<u64>, AllocError>
-    ensures left { IfOk result (λ r. (w : Word) → repeated_left (holds (expr_tree expr.now)) (left (expr_tree expr.now)) r.items w ≡ repeated_left (holds (expr_tree expr.now)) (left (expr_tree expr.now)) rest.now (record { side = side; truth = signature.now } ∷ w)) }
+    ensures left { IfOk result (λ r. (w : Word)
+        → repeated_left (holds (expr_tree expr.now)) (left (expr_tree expr.now)) r.items w
+        ≡ repeated_left (holds (expr_tree expr.now)) (left (expr_tree expr.now)) rest.now
+        (record { side = side; truth = signature.now } ∷ w)) }
     ensures rest { IfOk result (λ r. IsOneOf (top_rests Repeated (all_rests (expr_tree expr.now) ∷ [])) r.items) }
 {
     let begins = repetition_ends(expr, rest);
@@ -151,7 +158,8 @@ fn step_set(
     side: Side,
     signature: &[bool],
 ) -> Result<Vec<u64>, AllocError>
-    ensures left { IfOk result (λ r. IsSetStepped (record { side = side; truth = signature.now }) (expr_tree expr.now) begins (members set.now) (members r.items)) }
+    ensures left { IfOk result (λ r. IsSetStepped (record { side = side; truth = signature.now }) (expr_tree expr.now) begins
+        (members set.now) (members r.items)) }
     ensures set { IfOk result (λ r. IsOneOf (sets (all_rests (expr_tree expr.now))) r.items) }
 {
     let mut stepped = step_members(alloc, expr, set, side, signature)?;
@@ -173,7 +181,9 @@ fn step_members(
     side: Side,
     signature: &[bool],
 ) -> Result<Vec<Vec<u64>>, AllocError>
-    ensures left { IfOk result (λ s. (P : Language) (w : Word) → set_left (left (expr_tree expr.now)) P (map (λ r. r.items) s.items) w ≡ stepped_left (record { side = side; truth = signature.now }) (left (expr_tree expr.now)) P (members set.now) w) }
+    ensures left { IfOk result (λ s. (P : Language) (w : Word)
+        → set_left (left (expr_tree expr.now)) P (map (λ r. r.items) s.items) w
+        ≡ stepped_left (record { side = side; truth = signature.now }) (left (expr_tree expr.now)) P (members set.now) w) }
     ensures members { IfOk result (λ s. AreMembers (all_rests (expr_tree expr.now)) (map (λ r. r.items) s.items)) }
 {
     let mut stepped = Vec::new(alloc);

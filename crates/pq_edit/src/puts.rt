@@ -52,7 +52,8 @@ fn part_under(
     bytes: &[u8],
     document: &Document,
 ) -> Result<(Name, Policy), NameFault>
-    ensures { IsAnswer part_tree result (put_under 1024 (policy_of document.now.topology bytes.now) (names_in (document_tree document.now).parts) keyword.now token.now
+    ensures { IsAnswer part_tree result (put_under 1024 (policy_of document.now.topology bytes.now)
+        (names_in (document_tree document.now).parts) keyword.now token.now
         (tree body.now) (name_in (text_in bytes.now token.now))) }
 {
     let Some(name) = Name::of(text_in(bytes, token)) else {
@@ -73,7 +74,8 @@ fn query_under(
     bytes: &[u8],
     document: &Document,
 ) -> Result<(Name, Query), NameFault>
-    ensures { IsAnswer named_query_tree result (put_under 256 (query_of document.now.topology bytes.now) (names_in (document_tree document.now).queries) keyword.now token.now
+    ensures { IsAnswer named_query_tree result
+        (put_under 256 (query_of document.now.topology bytes.now) (names_in (document_tree document.now).queries) keyword.now token.now
         (tree body.now) (name_in (text_in bytes.now token.now))) }
 {
     let Some(name) = Name::of(text_in(bytes, token)) else {
@@ -93,7 +95,8 @@ fn part_of(
     bytes: &[u8],
     document: &Document,
 ) -> Result<(Name, Policy), NameFault>
-    ensures { IsAnswer part_tree result (put_of bytes.now 1024 (policy_of document.now.topology bytes.now) (names_in (document_tree document.now).parts) keyword.now
+    ensures { IsAnswer part_tree result (put_of bytes.now 1024 (policy_of document.now.topology bytes.now)
+        (names_in (document_tree document.now).parts) keyword.now
         (trees children.now)) }
 {
     match children {
@@ -111,7 +114,8 @@ fn query_of(
     bytes: &[u8],
     document: &Document,
 ) -> Result<(Name, Query), NameFault>
-    ensures { IsAnswer named_query_tree result (put_of bytes.now 256 (query_of document.now.topology bytes.now) (names_in (document_tree document.now).queries) keyword.now
+    ensures { IsAnswer named_query_tree result
+        (put_of bytes.now 256 (query_of document.now.topology bytes.now) (names_in (document_tree document.now).queries) keyword.now
         (trees children.now)) }
 {
     match children {

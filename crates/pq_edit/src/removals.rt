@@ -21,14 +21,16 @@ use pq_tree::{Term, class_in_text};
 
 /// The name of a part that is removed.
 fn removed_part(token: &Token, bytes: &[u8], document: &Document) -> Result<Name, NameFault>
-    ensures { IsAnswer (λ n. n) result (removed_name UnknownPart (names_in (document_tree document.now).parts) token.now (name_in (text_in bytes.now token.now))) }
+    ensures { IsAnswer (λ n. n) result (removed_name UnknownPart (names_in (document_tree document.now).parts) token.now
+        (name_in (text_in bytes.now token.now))) }
 {
     removed_name(NameKind::UnknownPart, &document.parts, token, bytes)
 }
 
 /// The name of a query that is removed.
 fn removed_query(token: &Token, bytes: &[u8], document: &Document) -> Result<Name, NameFault>
-    ensures { IsAnswer (λ n. n) result (removed_name UnknownQuery (names_in (document_tree document.now).queries) token.now (name_in (text_in bytes.now token.now))) }
+    ensures { IsAnswer (λ n. n) result (removed_name UnknownQuery (names_in (document_tree document.now).queries) token.now
+        (name_in (text_in bytes.now token.now))) }
 {
     removed_name(NameKind::UnknownQuery, &document.queries, token, bytes)
 }

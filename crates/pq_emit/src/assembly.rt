@@ -45,11 +45,13 @@ pub fn assembled(
     requires held { AreHeldBelow (length instances.now) classes.now }
     requires listed { length trees.now ≡ length topology.now.switches }
     requires sound { All (IsSoundAt first.now second.now) trees.now }
-    ensures ok { IfOk result (λ i. IfTreesAt topology.now classes.now first.now second.now trees.now (λ g writes. IsEmission topology.now names.now writes g instances.now i)) }
+    ensures ok { IfOk result (λ i. IfTreesAt topology.now classes.now first.now second.now trees.now
+        (λ g writes. IsEmission topology.now names.now writes g instances.now i)) }
     ensures filled { IfOk result (λ i. IfTreesAt topology.now classes.now first.now second.now trees.now (λ g writes. IsFilled topology.now g writes i)) }
     ensures lawful { IfOk result IsLawfulInstall }
     ensures complete { OnOk result (IfTreesAt topology.now classes.now first.now second.now trees.now (HasNoFault topology.now)) }
-    ensures cause { IfErr result (λ fault. IfTreesAt topology.now classes.now first.now second.now trees.now (λ g writes. IsEmitFault topology.now g writes fault)) }
+    ensures cause { IfErr result (λ fault. IfTreesAt topology.now classes.now first.now second.now trees.now
+        (λ g writes. IsEmitFault topology.now g writes fault)) }
 {
     let messages = match all_messages(topology, first, second, trees) {
         Ok(messages) => messages,

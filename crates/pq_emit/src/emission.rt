@@ -57,11 +57,13 @@ pub fn emit(
     requires letters_ignore { (t : Tree ℕ) → slice_get letters.now.trees letters.now.root ≡ Some t → IgnoresLacking t }
     requires policy_ports { (p : Tree (List Written)) → slice_get forward.now policy ≡ Some p → TestsPorts p }
     requires letter_ports { TestPortsAt letters.now.trees letters.now.root }
-    ensures ok { IfOk result (λ i. IfPolicy topology.now forward.now policy letters.now classes.now (λ g writes. IsEmission topology.now names.now writes g instances.now i)) }
+    ensures ok { IfOk result (λ i. IfPolicy topology.now forward.now policy letters.now classes.now
+        (λ g writes. IsEmission topology.now names.now writes g instances.now i)) }
     ensures filled { IfOk result (λ i. IfPolicy topology.now forward.now policy letters.now classes.now (λ g writes. IsFilled topology.now g writes i)) }
     ensures lawful { IfOk result IsLawfulInstall }
     ensures complete { OnOk result (IfPolicy topology.now forward.now policy letters.now classes.now (HasNoFault topology.now)) }
-    ensures cause { IfErr result (λ fault. IfPolicy topology.now forward.now policy letters.now classes.now (λ g writes. IsEmitFault topology.now g writes fault)) }
+    ensures cause { IfErr result (λ fault. IfPolicy topology.now forward.now policy letters.now classes.now
+        (λ g writes. IsEmitFault topology.now g writes fault)) }
 {
     topology.switches();
     letters.count();

@@ -90,8 +90,10 @@ pub(crate) fn with_part<L: Ledger>(
     requires values { HasFewValues (document_tree document.now) }
     requires awaits { AwaitsPart (document_tree document.now) forward.now sum.now place }
     ensures sum { IfOk result (λ r. IsSummed document.now.topology r.0 (parts_in (document_tree document.now)) r.1) }
-    ensures before { IfOk result (λ r. (ps : List PolicyTree) → IsSummed document.now.topology forward.now ps sum.now → UnitesParts document.now.topology r.0 ps r.2) }
-    ensures steps { (k : ℕ) → length document.now.parts.items ≤ 2 ^ k → steps.new ≤ steps.old + sum_by work (at_place place (parts_in (document_tree document.now))) + k }
+    ensures before { IfOk result (λ r. (ps : List PolicyTree) → IsSummed document.now.topology forward.now ps sum.now
+        → UnitesParts document.now.topology r.0 ps r.2) }
+    ensures steps { (k : ℕ) → length document.now.parts.items ≤ 2 ^ k
+        → steps.new ≤ steps.old + sum_by work (at_place place (parts_in (document_tree document.now))) + k }
 {
     let (mut store, mut sum) = sum.copied(forward)?;
     let before = sum.total();
@@ -111,7 +113,8 @@ pub(crate) fn without_part<L: Ledger>(
 ) -> Result<(Store<WriteSet>, Sum, NodeId), AllocError>
     requires awaits { AwaitsRemoval (document_tree document.now) forward.now sum.now place }
     ensures sum { IfOk result (λ r. IsSummed document.now.topology r.0 (parts_in (document_tree document.now)) r.1) }
-    ensures before { IfOk result (λ r. (ps : List PolicyTree) → IsSummed document.now.topology forward.now ps sum.now → UnitesParts document.now.topology r.0 ps r.2) }
+    ensures before { IfOk result (λ r. (ps : List PolicyTree) → IsSummed document.now.topology forward.now ps sum.now
+        → UnitesParts document.now.topology r.0 ps r.2) }
     ensures steps { (k : ℕ) → suc (length document.now.parts.items) ≤ 2 ^ k → steps.new ≤ steps.old + 2 * k }
 {
     let (mut store, mut sum) = sum.copied(forward)?;

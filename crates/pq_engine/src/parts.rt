@@ -91,7 +91,8 @@ fn part_put<L: Ledger>(
     requires was { WasKept (document_tree document.now) kept.now }
     ensures change { IfOk result (IsPartsChange (document_tree document.now) kept.now.install) }
     ensures cause { IfErr result (IsCompileFault (document_tree document.now)) }
-    ensures steps { (k : ℕ) → length document.now.parts.items ≤ 2 ^ k → unions.new ≤ unions.old + sum_by work (at_place place (parts_in (document_tree document.now))) + k }
+    ensures steps { (k : ℕ) → length document.now.parts.items ≤ 2 ^ k
+        → unions.new ≤ unions.old + sum_by work (at_place place (parts_in (document_tree document.now))) + k }
 {
     match few_values(alloc, document) {
         Ok(()) => {}

@@ -13,7 +13,9 @@ pub fn least_packets_spell_letters(letters: &Letters)
     ensures letters { (w : Word) → AllObservedFit w → letters_of letters.now (least_word letters.now w) ≡ letters_of letters.now w }
     ensures word { (w : Word) → AllObservedFit w → is_word w ≡ true → is_word (least_word letters.now w) ≡ true }
     ensures least { (w : Word) → AllObservedFit w → word_is_before w (least_word letters.now w) ≡ false }
-    ensures order { (v w : Word) → AllObservedFit v → AllObservedFit w → letters_are_before (letters_of letters.now v) (letters_of letters.now w) ≡ true → word_is_before (least_word letters.now v) (least_word letters.now w) ≡ true }
+    ensures order { (v w : Word) → AllObservedFit v → AllObservedFit w
+        → letters_are_before (letters_of letters.now v) (letters_of letters.now w) ≡ true
+        → word_is_before (least_word letters.now v) (least_word letters.now w) ≡ true }
 {
     let _ = letters.count();
 }

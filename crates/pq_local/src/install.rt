@@ -25,7 +25,14 @@ fn with_messages(
     old: &Install,
     messages: Vec<Vec<Message>>,
 ) -> Result<Install, AllocError>
-    ensures { IfOk result (λ i. i ≡ record { topology = old.now.topology; queries = old.now.queries; report = old.now.report; messages = map (λ ms. ms.items) messages.items }) }
+    ensures { IfOk result (λ i. i
+        ≡ record {
+          topology = old.now.topology;
+          queries = old.now.queries;
+          report = old.now.report;
+          messages = map
+              (λ ms. ms.items) messages.items;
+        }) }
 {
     let topology = old.topology.copy(alloc)?;
     let names = Vec::from_slice(alloc, &old.names)?;

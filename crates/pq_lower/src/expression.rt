@@ -34,10 +34,13 @@ pub fn lower(
 ) -> Result<Expr, AllocError>
     requires preds { length preds.old.items < 2 ^ 31 }
     requires atoms { query_atoms (query_tree query.now) < 2 ^ 29 }
-    ensures language { IfOk result (λ e. (w : Word) → is_word w ≡ true → (lang (query_tree query.now) label.now w ↔ (holds (expr_tree e) (half_steps (map pred_tree preds.new.items) w) ≡ true))) }
-    ensures grown { OnOk result ((more : List PredValue) × (preds.new.items ≡ preds.old.items ++ more) × (length more ≤ 1 + 2 * query_atoms (query_tree query.now))) }
+    ensures language { IfOk result (λ e. (w : Word) → is_word w ≡ true
+        → (lang (query_tree query.now) label.now w ↔ (holds (expr_tree e) (half_steps (map pred_tree preds.new.items) w) ≡ true))) }
+    ensures grown { OnOk result ((more : List PredValue) × (preds.new.items ≡ preds.old.items ++ more)
+        × (length more ≤ 1 + 2 * query_atoms (query_tree query.now))) }
     ensures added { OnOk result (map pred_tree preds.new.items ≡ map pred_tree preds.old.items ++ added_preds (query_tree query.now) label.now) }
-    ensures lawful_preds { OnOk result (IsLawfulQuery (query_tree query.now) → IsFittingLabel (query_tree query.now) label.now → All IsLawfulPred (map pred_tree preds.old.items) → All IsLawfulPred (map pred_tree preds.new.items)) }
+    ensures lawful_preds { OnOk result (IsLawfulQuery (query_tree query.now) → IsFittingLabel (query_tree query.now) label.now
+        → All IsLawfulPred (map pred_tree preds.old.items) → All IsLawfulPred (map pred_tree preds.new.items)) }
     ensures bound { IfOk result (λ e. bound (expr_tree e) ≤ length preds.new.items) }
     ensures lawful { IfOk result (λ e. IsLawful (expr_tree e)) }
     ensures depth { IfOk result (λ e. depth (expr_tree e) ≤ 1 + 2 * query_depth (query_tree query.now)) }

@@ -32,7 +32,8 @@ pub(crate) fn lower_query(
     requires place { place.old ≤ length label.now }
     requires room { base + (length added.old.items + 2 * query_atoms (query_tree query.now)) < 2 ^ 32 }
     ensures expr { IfOk result (λ e. expr_tree e ≡ lowered base (base + length added.old.items) (query_tree query.now)) }
-    ensures added { OnOk result (map pred_tree added.new.items ≡ map pred_tree added.old.items ++ query_preds (query_tree query.now) (drop place.old label.now)) }
+    ensures added { OnOk result (map pred_tree added.new.items
+        ≡ map pred_tree added.old.items ++ query_preds (query_tree query.now) (drop place.old label.now)) }
     ensures place { OnOk result (drop place.new label.now ≡ drop (share (query_tree query.now).top (query_tree query.now).below) (drop place.old label.now)) }
     ensures within { place.new ≤ length label.now }
 {
@@ -89,7 +90,8 @@ fn lower_each(
     requires place { place.old ≤ length label.now }
     requires room { base + (length added.old.items + 2 * atoms (queries (map query_tree operands.now))) < 2 ^ 32 }
     ensures exprs { IfOk result (λ es. map expr_tree es.items ≡ lowered_each base (base + length added.old.items) (queries (map query_tree operands.now))) }
-    ensures added { OnOk result (map pred_tree added.new.items ≡ map pred_tree added.old.items ++ preds_of (queries (map query_tree operands.now)) (drop place.old label.now)) }
+    ensures added { OnOk result (map pred_tree added.new.items
+        ≡ map pred_tree added.old.items ++ preds_of (queries (map query_tree operands.now)) (drop place.old label.now)) }
     ensures place { OnOk result (drop place.new label.now ≡ drop (length (groups_of (queries (map query_tree operands.now)))) (drop place.old label.now)) }
     ensures within { place.new ≤ length label.now }
 {

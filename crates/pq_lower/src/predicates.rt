@@ -120,7 +120,9 @@ pub(crate) fn passing(
     place: &mut usize,
 ) -> Result<(Pred, Pred), AllocError>
     requires { place.old ≤ length label.now }
-    ensures preds { IfOk result (λ both. (pred_tree both.0 ≡ fulfilling (pred_tree pred.now) groups.now (drop place.old label.now) []) × (pred_tree both.1 ≡ fulfilling (pred_tree other.now) others.now (drop (length groups.now) (drop place.old label.now)) (sent ∷ []))) }
+    ensures preds { IfOk result (λ both. (pred_tree both.0 ≡ fulfilling (pred_tree pred.now) groups.now (drop place.old label.now) [])
+        × (pred_tree both.1 ≡ fulfilling (pred_tree other.now) others.now (drop (length groups.now) (drop place.old label.now))
+        (sent ∷ []))) }
     ensures place { OnOk result (drop place.new label.now ≡ drop (length ((groups.now ++ others.now) ++ [])) (drop place.old label.now)) }
     ensures within { place.new ≤ length label.now }
 {

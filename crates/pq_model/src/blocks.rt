@@ -26,11 +26,15 @@ pub fn group_mods_are_free_of_order()
 
 /// Flow mods that are not Adds and DELETEs of groups are free of order.
 pub fn deletes_are_free_of_order()
-    ensures { (fs : List FlowValue) (gs : List GroupValue) → AllByRecursion (λ f. f.command ≢ Add) fs → AllByRecursion (λ g. g.command ≡ Delete) gs → IsFreeOfOrder (map Flow fs ++ map Group gs) }
+    ensures { (fs : List FlowValue) (gs : List GroupValue) → AllByRecursion (λ f. f.command ≢ Add) fs
+        → AllByRecursion (λ g. g.command ≡ Delete) gs → IsFreeOfOrder (map Flow fs ++ map Group gs) }
 {}
 
 /// Adds whose groups are there put their entries after those that are there, if all of these
 /// differ in priority wherever they are of one table.
 pub fn adds_leave_their_entries()
-    ensures { (fs : List FlowValue) (t : Tables) → AllByRecursion (λ f. f.command ≡ Add) fs → AllByRecursion (λ f. list_all (contains_key t.groups) (groups_named f.actions) ≡ true) fs → HaveOwnPriorities (t.entries ++ map entry_of fs) → applies_all t (map Flow fs) ≡ record t { entries = t.entries ++ map entry_of fs } }
+    ensures { (fs : List FlowValue) (t : Tables) → AllByRecursion (λ f. f.command ≡ Add) fs
+        → AllByRecursion (λ f. list_all (contains_key t.groups) (groups_named f.actions) ≡ true) fs
+        → HaveOwnPriorities (t.entries ++ map entry_of fs)
+        → applies_all t (map Flow fs) ≡ record t { entries = t.entries ++ map entry_of fs } }
 {}

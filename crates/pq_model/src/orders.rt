@@ -18,7 +18,8 @@ pub fn messages_keep_tables_the_same()
 /// section 6.1.3). If each two messages with no barrier between them commute, all these orders
 /// leave the same tables, whatever the tables held before.
 pub fn lawful_orders_leave_the_same_tables()
-    ensures { (s t : Tables) → AreSame s t → (ms order : List Message) → IsLawfulOrder ms order → IsFreeOfOrder ms → AreSame (applies_all s ms) (applies_all t order) }
+    ensures { (s t : Tables) → AreSame s t → (ms order : List Message) → IsLawfulOrder ms order → IsFreeOfOrder ms
+        → AreSame (applies_all s ms) (applies_all t order) }
 {}
 
 /// Tables that are the same send the same for each packet, if no two entries of one table have one

@@ -10,6 +10,8 @@ ghost use Rattle.pq_model.specs.Tagged.{TaggedPacket};
 /// lawful order it processes them (OpenFlow 1.3.5, section 6.1.3). So it sends what these tables
 /// send.
 pub fn renewals_leave_what_they_add()
-    ensures left { (r : Renewal) → IsRenewing r → (t : Tables) (order : List Message) → IsLawfulOrder (renewal_messages r) order → AreSame (renewed r) (applies_all t order) }
-    ensures sent { (r : Renewal) → IsRenewing r → (t : Tables) (order : List Message) → IsLawfulOrder (renewal_messages r) order → (x : TaggedPacket) → sends (applies_all t order) x ≡ sends (renewed r) x }
+    ensures left { (r : Renewal) → IsRenewing r → (t : Tables) (order : List Message) → IsLawfulOrder (renewal_messages r) order
+        → AreSame (renewed r) (applies_all t order) }
+    ensures sent { (r : Renewal) → IsRenewing r → (t : Tables) (order : List Message) → IsLawfulOrder (renewal_messages r) order
+        → (x : TaggedPacket) → sends (applies_all t order) x ≡ sends (renewed r) x }
 {}

@@ -14,5 +14,6 @@ pub trait Correspondence {
 
 /// A law: where one hop of the two machines agrees, whatever way the switches send, both agree over every schedule.
 pub fn agreeing_hops_make_schedules_agree<C: Correspondence>()
-    ensures { (m : Meaning) (report : Report) (send : Sender) → Simulates m report send C.matches → (events : List Event) → IsSchedule events → Agree (run m at_rest events) (run_sending m.topology report send nothing_sent events) }
+    ensures { (m : Meaning) (report : Report) (send : Sender) → Simulates m report send C.matches → (events : List Event)
+        → IsSchedule events → Agree (run m at_rest events) (run_sending m.topology report send nothing_sent events) }
 {}

@@ -119,9 +119,11 @@ impl Pieces {
     ) -> Result<Piece, Unread>
         requires limit { limit < 2 ^ 32 }
         requires ended { self.old.is_ended ≡ true → IsAtEnd (S.left source.old) }
-        ensures next { IfOk result (λ piece. Reads (S.left source.old) (S.left source.new) (λ read. IsNext (self.old.pending ++ read) (S.left source.new) self.new.pending piece)) }
+        ensures next { IfOk result (λ piece. Reads (S.left source.old) (S.left source.new)
+            (λ read. IsNext (self.old.pending ++ read) (S.left source.new) self.new.pending piece)) }
         ensures short { IfOk result (λ piece. length piece.text.items ≤ limit) }
-        ensures unread { IfErr result (λ unread. Reads (S.left source.old) (S.left source.new) (λ read. IsUnread unread limit (self.old.pending ++ read) (S.left source.new))) }
+        ensures unread { IfErr result (λ unread. Reads (S.left source.old) (S.left source.new)
+            (λ read. IsUnread unread limit (self.old.pending ++ read) (S.left source.new))) }
         ensures ended { OnOk result (self.new.is_ended ≡ true → IsAtEnd (S.left source.new)) }
         ensures few { OnOk result (length self.new.pending ≤ chunk_size) }
         ensures cause { HasReadCause result (S.faults source.old) (S.faults source.new) }

@@ -91,7 +91,8 @@ fn choice_of(
     bytes: &[u8],
     topology: &Topology,
 ) -> Result<Policy, NameFault>
-    ensures { IsAnswer policy_tree result (choice_of topology.now bytes.now head.now (trees children.now) (policy_readings topology.now bytes.now (trees children.now))) }
+    ensures { IsAnswer policy_tree result (choice_of topology.now bytes.now head.now (trees children.now)
+        (policy_readings topology.now bytes.now (trees children.now))) }
 {
     if children.len() != 3 {
         return Err(faulty(head, NameKind::BadValue));

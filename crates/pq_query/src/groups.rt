@@ -4,7 +4,19 @@ ghost use Rattle.std.specs.List.{IsDistinct};
 ghost use Rattle.pq_tree.specs.Trees.{tree, trees};
 ghost use Rattle.pq_topo.specs.Naming.{IsAnswer};
 ghost use Rattle.pq_fields.specs.Packet.{is_wide};
-ghost use Rattle.pq_query.specs.Resolved.{fresh_at, group_at, grouped_at, groups_after, has_values, is_field, is_grouped, is_listed, value_at, values_after, with_values};
+ghost use Rattle.pq_query.specs.Resolved.{
+  fresh_at,
+  group_at,
+  grouped_at,
+  groups_after,
+  has_values,
+  is_field,
+  is_grouped,
+  is_listed,
+  value_at,
+  values_after,
+  with_values,
+};
 
 use crate::group::Group;
 use indexmap::IndexSet;

@@ -24,7 +24,8 @@ pub fn entry_matches<L: Leaf>(
     requires node { node < length store.now }
     requires vlan { IsKeyWord vlan }
     requires matchable { (t : Tree L) → slice_get store.now node ≡ Some t → IsMatchable t }
-    ensures matches { IfOk result (λ found. (t : Tree L) → slice_get store.now node ≡ Some t → AreFound store.now (matches_below (vlan_match vlan) t) found.items) }
+    ensures matches { IfOk result (λ found. (t : Tree L) → slice_get store.now node ≡ Some t
+        → AreFound store.now (matches_below (vlan_match vlan) t) found.items) }
     ensures first { IfOk result (λ found. (t : Tree L) → slice_get store.now node ≡ Some t → FirstTells store.now t vlan found.items) }
 {
     let mut found = Vec::new(store.allocator());
@@ -58,7 +59,8 @@ fn push_tree<L: Leaf>(
     requires node { node < length store.now }
     requires vlan { IsKeyWord vlan }
     requires matchable { (t : Tree L) → slice_get store.now node ≡ Some t → IsMatchable t }
-    ensures { OnOk result ((t : Tree L) → slice_get store.now node ≡ Some t → Finds store.now (matches_below (vlan_match vlan) t) found.old.items found.new.items) }
+    ensures { OnOk result ((t : Tree L) → slice_get store.now node ≡ Some t
+        → Finds store.now (matches_below (vlan_match vlan) t) found.old.items found.new.items) }
 {
     let matching = vlan_match(vlan);
     push_below(store, node, &matching, found)

@@ -48,7 +48,8 @@ pub(crate) fn renewal(
     requires groups { All (All IsSoundCopy) grouping.now.groups.keys }
     requires places { AreFewPlaces grouping.now.places.items }
     requires placed { length grouping.now.places.items ≡ length second_entries.now }
-    ensures { IfOk result (λ ms. ms.items ≡ messages_by grouping.now.groups.keys grouping.now.places.items (resolved None first.now first_entries.now) (resolved [] second.now second_entries.now)) }
+    ensures { IfOk result (λ ms. ms.items ≡ messages_by grouping.now.groups.keys grouping.now.places.items
+        (resolved None first.now first_entries.now) (resolved [] second.now second_entries.now)) }
 {
     let entries = first_entries.len() + second_entries.len();
     let room = entries + grouping.groups.len() + DELETES_AND_BARRIERS;
@@ -110,7 +111,8 @@ fn push_groups(messages: &mut Vec<Message>, groups: &IndexSet<Copies>) -> Result
     requires few { length messages.old.items ≤ few }
     requires groups_few { length groups.now.keys ≤ few }
     requires sound { All (All IsSoundCopy) groups.now.keys }
-    ensures { OnOk result (messages.new.items ≡ messages.old.items ++ map Group (groups_from (length messages.old.items + 1) 1 (map buckets_of groups.now.keys))) }
+    ensures { OnOk result (messages.new.items
+        ≡ messages.old.items ++ map Group (groups_from (length messages.old.items + 1) 1 (map buckets_of groups.now.keys))) }
 {
     let mut number: u32 = 0;
     for copies in groups.as_slice() {
@@ -163,7 +165,9 @@ fn push_first(
     requires few { length messages.old.items < 2 ^ 30 }
     requires entries_few { length entries.now ≤ few }
     requires leaves { All (λ e. IsArrivingLeaf store.now e.1) entries.now }
-    ensures { OnOk result (messages.new.items ≡ messages.old.items ++ map Flow (adds_from (length messages.old.items + 1) 0 0 (map first_rule (resolved None store.now entries.now)))) }
+    ensures { OnOk result (messages.new.items
+        ≡ messages.old.items ++ map Flow (adds_from (length messages.old.items + 1) 0 0
+        (map first_rule (resolved None store.now entries.now)))) }
 {
     let alloc = *messages.allocator();
     let mut index: u16 = 0;
@@ -217,7 +221,9 @@ fn push_second(
     requires leaves { All (λ e. IsLeavingLeaf store.now e.1) entries.now }
     requires places { AreFewPlaces places.now }
     requires placed { length places.now ≡ length entries.now }
-    ensures { OnOk result (messages.new.items ≡ messages.old.items ++ map Flow (adds_from (length messages.old.items + 1) 1 0 (placed_rules (resolved [] store.now entries.now) places.now))) }
+    ensures { OnOk result (messages.new.items
+        ≡ messages.old.items ++ map Flow (adds_from (length messages.old.items + 1) 1 0
+        (placed_rules (resolved [] store.now entries.now) places.now))) }
 {
     let alloc = *messages.allocator();
     let mut index: u16 = 0;
@@ -263,7 +269,8 @@ fn push_add(
     goto: Option<u8>,
 ) -> Result<(), AllocError>
     requires { length messages.old.items < 2 ^ 31 }
-    ensures { OnOk result (messages.new.items ≡ messages.old.items ++ Flow (add_of (length messages.old.items + 1) table index (rule_of matching.now actions.items goto)) ∷ []) }
+    ensures { OnOk result (messages.new.items
+        ≡ messages.old.items ++ Flow (add_of (length messages.old.items + 1) table index (rule_of matching.now actions.items goto)) ∷ []) }
 {
     let xid = next_xid(messages);
     messages.push(Message::Flow(FlowMod {

@@ -44,13 +44,15 @@ pub fn rules(
     requires leaving_ids { AreWithin second.now trees.now.leaving.items }
     requires arriving { AreSoundArriving (arriving_trees first.now trees.now.arriving.items) }
     requires leaving { AreSoundLeaving (leaving_trees second.now trees.now.leaving.items) }
-    ensures ok { IfOk result (λ ms. ms.items ≡ messages_of (arriving_trees first.now trees.now.arriving.items) (leaving_trees second.now trees.now.leaving.items)) }
+    ensures ok { IfOk result (λ ms. ms.items ≡ messages_of (arriving_trees first.now trees.now.arriving.items)
+        (leaving_trees second.now trees.now.leaving.items)) }
     ensures lawful { IfOk result (λ ms. All IsLawfulMessage ms.items) }
     ensures few { IfOk result (λ ms. length ms.items < 2 ^ 32) }
     ensures fits { OnOk result (FitRules limit (arriving_trees first.now trees.now.arriving.items) (leaving_trees second.now trees.now.leaving.items)) }
     ensures filled { OnOk result (AreFilled (arriving_trees first.now trees.now.arriving.items) (leaving_trees second.now trees.now.leaving.items)) }
     ensures renewing { OnOk result (TreesRenew (arriving_trees first.now trees.now.arriving.items) (leaving_trees second.now trees.now.leaving.items)) }
-    ensures cause { IfErr result (IsRulesFault datapath limit (arriving_trees first.now trees.now.arriving.items) (leaving_trees second.now trees.now.leaving.items)) }
+    ensures cause { IfErr result (IsRulesFault datapath limit (arriving_trees first.now trees.now.arriving.items)
+        (leaving_trees second.now trees.now.leaving.items)) }
 {
     let arriving = arriving_roots(first, &trees.arriving)?;
     let first_entries = limited_entries(datapath, 0, limit, first, &arriving)?;

@@ -66,7 +66,8 @@ impl<L: Leaf> Store<L> {
         requires seen { length seen.old.items ≡ length self.now }
         requires first { IsFirstAt self.now node first }
         ensures seen { OnOk result (length seen.new.items ≡ length self.now) }
-        ensures visits { OnOk result ((t : Tree L) → slice_get self.now node ≡ Some t → Visits self.now t first found.old.items seen.old.items found.new.items seen.new.items) }
+        ensures visits { OnOk result ((t : Tree L) → slice_get self.now node ≡ Some t
+            → Visits self.now t first found.old.items seen.old.items found.new.items seen.new.items) }
     {
         if seen[node.0 as usize] {
             return Ok(());
@@ -115,7 +116,8 @@ impl<L: Leaf> Store<L> {
         requires clear { IsClear field first }
         requires goes_on { (t : Tree L) → slice_get self.now node ≡ Some t → GoesOn field gap t }
         ensures seen { OnOk result (length seen.new.items ≡ length self.now) }
-        ensures visits { OnOk result ((t : Tree L) → slice_get self.now node ≡ Some t → VisitsFrom self.now t field gap first found.old.items seen.old.items found.new.items seen.new.items) }
+        ensures visits { OnOk result ((t : Tree L) → slice_get self.now node ≡ Some t
+            → VisitsFrom self.now t field gap first found.old.items seen.old.items found.new.items seen.new.items) }
     {
         if seen[node.0 as usize] {
             return Ok(());

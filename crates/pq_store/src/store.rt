@@ -96,7 +96,8 @@ impl<L: Leaf> Store<L> {
         requires no { no < length self.old }
         requires sides { (y n : Tree L) → slice_get self.old yes ≡ Some y → slice_get self.old no ≡ Some n → IsJoinable test y n }
         ensures tree { IfOk result (λ id. JoinsAt self.old test yes no self.new id) }
-        ensures value { IfOk result (λ id. (x : Numbers) → value_at self.new id x ≡ (if passes test x then value_at self.old yes x else value_at self.old no x)) }
+        ensures value { IfOk result (λ id. (x : Numbers)
+            → value_at self.new id x ≡ (if passes test x then value_at self.old yes x else value_at self.old no x)) }
         ensures keeps { Keeps self.old self.new }
         ensures adds { IfOk result (λ id. AddsOnly self.old self.new id) }
         ensures err { OnErr result (self.new ≡ self.old) }

@@ -30,7 +30,8 @@ pub(crate) fn joined<L: Ledger>(
 ) -> Result<NodeId, AllocError>
     requires none { GivesNone store.old none }
     requires halves { MayJoin store.old front back }
-    ensures unites { (T : Topology) (ps qs : List PolicyTree) → UnitesParts T store.old ps front → UnitesParts T store.old qs back → IfOk result (UnitesParts T store.new (ps ++ qs)) }
+    ensures unites { (T : Topology) (ps qs : List PolicyTree) → UnitesParts T store.old ps front → UnitesParts T store.old qs back
+        → IfOk result (UnitesParts T store.new (ps ++ qs)) }
     ensures keeps { Keeps store.old store.new }
     ensures step { steps.new ≤ steps.old + 1 }
     ensures no_step { (T : Topology) → UnitesParts T store.old [] back → steps.new ≡ steps.old }

@@ -3,7 +3,21 @@ ghost use Rattle.std.specs.Prelude.{◌≡◌, IfOk, OnOk};
 ghost use Rattle.pq_store.specs.Compaction.{IsCompaction};
 ghost use Rattle.pq_store.specs.Store.{Keeps};
 ghost use Rattle.pq_sum.specs.Cells.{MayOpen};
-ghost use Rattle.pq_sum.specs.Calls.{CountsPutAt, CountsRemovalAt, HasPartAt, IsOpenedAt, IsPartAt, IsPutAt, IsRemovedAt, IsSameSum, IsSum, IsSumIn, IsTotal, MayPutAt, MayRemoveAt};
+ghost use Rattle.pq_sum.specs.Calls.{
+  CountsPutAt,
+  CountsRemovalAt,
+  HasPartAt,
+  IsOpenedAt,
+  IsPartAt,
+  IsPutAt,
+  IsRemovedAt,
+  IsSameSum,
+  IsSum,
+  IsSumIn,
+  IsTotal,
+  MayPutAt,
+  MayRemoveAt,
+};
 
 use crate::cells::leaf_at;
 use crate::changes::{opened, put, remove};

@@ -45,7 +45,8 @@ fn links_in_order(
     terms: &[Term<'_>],
 ) -> Result<Vec<Link>, NameFault>
     ensures links { IsAnswer (λ links. links.items) result (links_in_order bytes.now topology.now.switches (trees terms.now)) }
-    ensures network { IsNamedTopology (record { switches = topology.now.switches; links = [] }) → IfOk result (λ links. IsNamedTopology (record { switches = topology.now.switches; links = links.items })) }
+    ensures network { IsNamedTopology (record { switches = topology.now.switches; links = [] })
+        → IfOk result (λ links. IsNamedTopology (record { switches = topology.now.switches; links = links.items })) }
 {
     let read = read_links(alloc, bytes, topology, terms)?;
     let mut links = match all_ordered(alloc, &read) {

@@ -10,7 +10,17 @@ ghost use Rattle.pq_model.specs.SwitchMachine.{Tables};
 ghost use Rattle.pq_delta.specs.Delta.{AreShort, delta, switch_delta};
 ghost use Rattle.pq_compile.specs.Compiled.{IsInstalled, IsMeaningOf};
 ghost use Rattle.pq_compile.specs.Documents.{DocumentTree};
-ghost use Rattle.pq_turning.specs.Edits.{AcceptedEdit, AreEdits, AreTablesOf, DeltaTurns, TablesImplement, current_document, current_install, edited_tables, listed_for};
+ghost use Rattle.pq_turning.specs.Edits.{
+  AcceptedEdit,
+  AreEdits,
+  AreTablesOf,
+  DeltaTurns,
+  TablesImplement,
+  current_document,
+  current_install,
+  edited_tables,
+  listed_for,
+};
 
 use pq_delta::{deltas_are_lawful, deltas_turn_tables};
 
@@ -20,7 +30,8 @@ use pq_delta::{deltas_are_lawful, deltas_turn_tables};
 pub fn edits_turn_tables()
     ensures listed { (d e : DocumentTree) (i j : Install) → IsInstalled d i → IsInstalled e j → d.topology ≡ e.topology
         → (n : ℕ) → listed_for (delta i j) n ≡ switch_delta (messages_of i n) (messages_of j n) }
-    ensures turned { (d e : DocumentTree) (i j : Install) → IsInstalled d i → IsInstalled e j → d.topology ≡ e.topology → (n : ℕ) → DeltaTurns (messages_of i n) (messages_of j n) }
+    ensures turned { (d e : DocumentTree) (i j : Install) → IsInstalled d i → IsInstalled e j → d.topology ≡ e.topology → (n : ℕ)
+        → DeltaTurns (messages_of i n) (messages_of j n) }
     ensures edited { (d : DocumentTree) (i : Install) (es : List AcceptedEdit) → IsInstalled d i → AreEdits d.topology i es
         → (before : ℕ → Tables) (order : ℕ → List Message) → ((n : ℕ) → IsLawfulOrder (messages_of i n) (order n))
         → AreTablesOf (current_install i es) (edited_tables (installed before order) es) }

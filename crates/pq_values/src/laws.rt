@@ -38,7 +38,8 @@ pub fn room_serves_all()
 /// The diagrams of policies that may be in a document about a network test and write only numbers of ports, from 1 to
 /// 4294967040, where they test or write a port. It does nothing when it runs.
 pub fn policies_have_ports()
-    ensures policy { (T : Topology) (p : PolicyTree) (t : Tree (List Written)) → IsNamedTopology T → IsPolicyOver (MayStand T) p → IsForward T p t → HasPorts t }
+    ensures policy { (T : Topology) (p : PolicyTree) (t : Tree (List Written)) → IsNamedTopology T → IsPolicyOver (MayStand T) p
+        → IsForward T p t → HasPorts t }
     ensures policies { (T : Topology) (ps : List PolicyTree) (joint : Joint) (t : Tree (List Written)) → IsNamedTopology T → All (IsPolicyOver (MayStand T)) ps
         → IsForwards T joint (policies ps) t → HasPorts t }
 {}
@@ -46,5 +47,6 @@ pub fn policies_have_ports()
 /// A diagram that tests only what queries that may be in a document about a network need tests only numbers of ports and
 /// port 0, where it tests a port. It does nothing when it runs.
 pub fn queries_have_ports()
-    ensures { (T : Topology) (qs : List QueryTree) (t : Tree ℕ) → IsNamedTopology T → All (IsQueryOver (MayStand T)) qs → TestsQueries T qs t → TestsPortsOrNone t }
+    ensures { (T : Topology) (qs : List QueryTree) (t : Tree ℕ) → IsNamedTopology T → All (IsQueryOver (MayStand T)) qs
+        → TestsQueries T qs t → TestsPortsOrNone t }
 {}

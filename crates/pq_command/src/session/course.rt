@@ -45,7 +45,9 @@ impl Course {
         source: &mut S,
         sink: &mut K,
     ) -> Result<Course, Outcome>
-        ensures going_on { IfOk result (λ c. IsGoingOn (streams (S.left source.old) (S.left source.new) (K.put sink.old) (K.put sink.new)) c.pieces.pending c.is_last (current_of c.engine) 0) }
+        ensures going_on { IfOk result (λ c. IsGoingOn
+            (streams (S.left source.old) (S.left source.new) (K.put sink.old) (K.put sink.new)) c.pieces.pending c.is_last
+            (current_of c.engine) 0) }
         ensures ended { IfOk result (λ c. c.pieces.is_ended ≡ true → IsAtEnd (S.left source.new)) }
         ensures few { IfOk result (λ c. length c.pieces.pending ≤ chunk_size) }
         ensures err { IfErr result (λ outcome. IsSessionAnswer outcome (streams (S.left source.old) (S.left source.new) (K.put sink.old) (K.put sink.new))) }
@@ -79,7 +81,9 @@ impl Course {
 
     /// Writes the last install.
     fn finish<K: Sink>(&self, alloc: Global, sink: &mut K) -> Outcome
-        ensures answer { (left rest before : Option (List ℕ)) (n : ℕ) → IsGoingOn (streams left rest before (K.put sink.old)) self.now.pieces.pending true (current_of self.now.engine) n → n < pieces_limit → IsSessionAnswer result (streams left rest before (K.put sink.new)) }
+        ensures answer { (left rest before : Option (List ℕ)) (n : ℕ)
+            → IsGoingOn (streams left rest before (K.put sink.old)) self.now.pieces.pending true (current_of self.now.engine) n
+            → n < pieces_limit → IsSessionAnswer result (streams left rest before (K.put sink.new)) }
         ensures read_faults { (faults : ℕ) → HasReadFaults result faults faults }
         ensures write_faults { HasWriteFaults result (K.faults sink.old) (K.faults sink.new) }
         ensures in_turns { OnRefusalInSession result ⊥ }
@@ -99,7 +103,9 @@ impl Course {
     ) -> Outcome
         requires ended { self.old.pieces.is_ended ≡ true → IsAtEnd (S.left source.old) }
         requires few { length self.old.pieces.pending ≤ chunk_size }
-        ensures answer { (left before : Option (List ℕ)) → IsGoingOn (streams left (S.left source.old) before (K.put sink.old)) self.old.pieces.pending self.old.is_last (current_of self.old.engine) 0 → IsSessionAnswer result (streams left (S.left source.new) before (K.put sink.new)) }
+        ensures answer { (left before : Option (List ℕ))
+            → IsGoingOn (streams left (S.left source.old) before (K.put sink.old)) self.old.pieces.pending self.old.is_last
+            (current_of self.old.engine) 0 → IsSessionAnswer result (streams left (S.left source.new) before (K.put sink.new)) }
         ensures read_faults { HasReadFaults result (S.faults source.old) (S.faults source.new) }
         ensures write_faults { HasWriteFaults result (K.faults sink.old) (K.faults sink.new) }
         ensures in_turns { OnRefusalInSession result ⊥ }

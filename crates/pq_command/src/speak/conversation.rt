@@ -74,7 +74,8 @@ fn hear<K: Sink>(
     ensures state { OnOk result (speaker.new ≡ (heard speaker.old piece.now).state) }
     ensures put { OnOk result (Appends (K.put sink.old) (K.put sink.new) (sends speaker.old piece.now)) }
     ensures going { OnOk result (has_failed speaker.new.talk ≡ false) }
-    ensures err { IfErr result (λ outcome. IsTurnEnd (heard speaker.old piece.now).state.talk (sends speaker.old piece.now) outcome (K.put sink.old) (K.put sink.new)) }
+    ensures err { IfErr result (λ outcome. IsTurnEnd (heard speaker.old piece.now).state.talk (sends speaker.old piece.now) outcome
+        (K.put sink.old) (K.put sink.new)) }
     ensures kept { OnOk result (K.faults sink.new ≡ K.faults sink.old) }
     ensures faults { IfErr result (λ outcome. HasWriteFaults outcome (K.faults sink.old) (K.faults sink.new)) }
 {
@@ -107,7 +108,8 @@ fn greet<K: Sink>(
     ensures state { IfOk result (λ speaker. speaker ≡ state_after (session_of datapath messages.items) first.now) }
     ensures put { OnOk result (Appends (K.put sink.old) (K.put sink.new) (said (session_of datapath messages.items) first.now)) }
     ensures going { IfOk result (λ speaker. has_failed speaker.talk ≡ false) }
-    ensures err { IfErr result (λ outcome. IsTurnEnd (talk_after (session_of datapath messages.items) first.now) (said (session_of datapath messages.items) first.now) outcome (K.put sink.old) (K.put sink.new)) }
+    ensures err { IfErr result (λ outcome. IsTurnEnd (talk_after (session_of datapath messages.items) first.now)
+        (said (session_of datapath messages.items) first.now) outcome (K.put sink.old) (K.put sink.new)) }
     ensures kept { OnOk result (K.faults sink.new ≡ K.faults sink.old) }
     ensures faults { IfErr result (λ outcome. HasWriteFaults outcome (K.faults sink.old) (K.faults sink.new)) }
 {
@@ -133,8 +135,11 @@ impl Conversation {
         source: &mut S,
         sink: &mut K,
     ) -> Result<Conversation, Outcome>
-        ensures under_way { IfOk result (λ c. (text : List ℕ) × IsUnderWay datapath (streams (S.left source.old) (S.left source.new) (K.put sink.old) (K.put sink.new)) c.speaker text × (length text ≡ c.read) × (c.read ≤ install_limit)) }
-        ensures err { IfErr result (λ outcome. IsSpeakAnswer datapath outcome (streams (S.left source.old) (S.left source.new) (K.put sink.old) (K.put sink.new))) }
+        ensures under_way { IfOk result (λ c. (text : List ℕ)
+            × IsUnderWay datapath (streams (S.left source.old) (S.left source.new) (K.put sink.old) (K.put sink.new)) c.speaker text
+            × (length text ≡ c.read) × (c.read ≤ install_limit)) }
+        ensures err { IfErr result (λ outcome. IsSpeakAnswer datapath outcome
+            (streams (S.left source.old) (S.left source.new) (K.put sink.old) (K.put sink.new))) }
         ensures read_kept { OnOk result (S.faults source.new ≡ S.faults source.old) }
         ensures read_faults { IfErr result (λ outcome. HasReadFaults outcome (S.faults source.old) (S.faults source.new)) }
         ensures write_kept { OnOk result (K.faults sink.new ≡ K.faults sink.old) }
@@ -166,7 +171,9 @@ impl Conversation {
         sink: &mut K,
     ) -> Outcome
         requires { self.read ≤ install_limit }
-        ensures answer { (datapath : ℕ) (left before : Option (List ℕ)) (text : List ℕ) → IsUnderWay datapath (streams left (S.left source.old) before (K.put sink.old)) self.speaker text → length text ≡ self.read → IsSpeakAnswer datapath result (streams left (S.left source.new) before (K.put sink.new)) }
+        ensures answer { (datapath : ℕ) (left before : Option (List ℕ)) (text : List ℕ)
+            → IsUnderWay datapath (streams left (S.left source.old) before (K.put sink.old)) self.speaker text → length text ≡ self.read
+            → IsSpeakAnswer datapath result (streams left (S.left source.new) before (K.put sink.new)) }
         ensures read_faults { HasReadFaults result (S.faults source.old) (S.faults source.new) }
         ensures write_faults { HasWriteFaults result (K.faults sink.old) (K.faults sink.new) }
         ensures in_turns { OnRefusalInTurns result ⊥ }

@@ -62,7 +62,8 @@ fn needs_more(text: &[u8]) -> bool
 
 /// Reads until the line and the install are whole, or the line is known to be none, or the input ends.
 pub(crate) fn read_opening<S: Source>(alloc: Global, source: &mut S) -> Result<Vec<u8>, Unread>
-    ensures ok { IfOk result (λ text. (length text.items ≤ install_limit) × Consumes (S.left source.old) (S.left source.new) text.items × IsReadEnough (S.left source.new) text.items) }
+    ensures ok { IfOk result (λ text. (length text.items ≤ install_limit) × Consumes (S.left source.old) (S.left source.new) text.items
+        × IsReadEnough (S.left source.new) text.items) }
     ensures err { IfErr result (λ unread. (text : List ℕ) × Consumes (S.left source.old) (S.left source.new) text × IsUnread unread text) }
     ensures cause { HasReadCause result (S.faults source.old) (S.faults source.new) }
 {

@@ -49,7 +49,8 @@ fn place_of(datapath: u64, switches: &[Switch]) -> Option<usize>
 /// The messages to the switch with this datapath number, where the install has it.
 fn messages_to(datapath: u64, install: Install) -> Option<Vec<Message>>
     requires { IsLawfulInstall install }
-    ensures messages { MatchOption result (has_switch datapath install ≡ false) (λ ms. (has_switch datapath install ≡ true) × (ms.items ≡ messages_of install datapath)) }
+    ensures messages { MatchOption result (has_switch datapath install ≡ false)
+        (λ ms. (has_switch datapath install ≡ true) × (ms.items ≡ messages_of install datapath)) }
     ensures lawful { IfSome result (λ ms. All IsLawfulMessage ms.items) }
 {
     let Some(place) = place_of(datapath, install.topology.switches()) else {

@@ -3,7 +3,18 @@ ghost use Rattle.std.specs.Prelude.{◌≡◌, [], ◌∷◌, ◌++◌, IfOk};
 ghost use Rattle.pq_model.specs.Sorting.{sort_by};
 ghost use Rattle.pq_tree.specs.Trees.{trees};
 ghost use Rattle.pq_topo.specs.Naming.{IsAnswer, next};
-ghost use Rattle.pq_topo.specs.Statements.{may_be_limit, stated_limit, limit_in, name_of, datapath_of, seen_more, switch_begins, switch_from, switch_of, switches_after};
+ghost use Rattle.pq_topo.specs.Statements.{
+  may_be_limit,
+  stated_limit,
+  limit_in,
+  name_of,
+  datapath_of,
+  seen_more,
+  switch_begins,
+  switch_from,
+  switch_of,
+  switches_after,
+};
 
 use crate::fault::{NameFault, NameKind};
 use crate::names::{add_name, has_name};
@@ -132,7 +143,8 @@ fn read_parts(
     ports: &[Term<'_>],
     rest: &[Term<'_>],
 ) -> Result<Switch, NameFault>
-    ensures switch { IsAnswer (λ switch. switch) result (switch_from bytes.now before.old keyword.now name.now datapath.now (trees ports.now) (trees rest.now)) }
+    ensures switch { IsAnswer (λ switch. switch) result
+        (switch_from bytes.now before.old keyword.now name.now datapath.now (trees ports.now) (trees rest.now)) }
     ensures kept { IfOk result (λ switch. before.new ≡ seen_more before.old switch) }
 {
     begin(before, keyword)?;
