@@ -23,12 +23,12 @@ impl Repeated {
     }
 
     /// The whole document.
-    pub fn long(self, alloc: Global) -> Result<String, AllocError> {
+    pub(crate) fn long(self, alloc: Global) -> Result<String, AllocError> {
         self.times(alloc, self.count)
     }
 
     /// The document without the repeated operand.
-    pub fn short(self, alloc: Global) -> Result<String, AllocError> {
+    pub(crate) fn short(self, alloc: Global) -> Result<String, AllocError> {
         self.times(alloc, 0)
     }
 }
@@ -44,7 +44,7 @@ pub struct Values {
 
 impl Values {
     /// The document.
-    pub fn text(self, alloc: Global) -> Result<String, AllocError> {
+    pub(crate) fn text(self, alloc: Global) -> Result<String, AllocError> {
         let mut text = String::from_str(alloc, "switch s1 = 1 ports 1, 2 limit 16384;")?;
         for number in 2..257u32 {
             write!(text, " switch s{number} = {number} ports 1;")?;
