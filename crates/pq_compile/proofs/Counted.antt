@@ -72,7 +72,7 @@ module _ (T : Topology) (bytes : List ℕ) where
 pub queries_few : (T : Topology) (bytes : List ℕ) (sort : Sort) (f : Forest) (ss : List (Named QueryTree)) → IsForestOf sort bytes f
     → named_after bytes QueryWord 256 (query_of T bytes) [] f ≡ Ok ss → All (λ s. query_atoms s.1 < length bytes) ss
 queries_few T bytes sort f ss is e =
-    let trees : nodes f ≤ tokens_in is.marks = subst (λ f. nodes f ≤ tokens_in is.marks) (sym is.grown) (forest_size is.marks) in
+    let trees : nodes f ≤ tokens_in is.marks = subst (λ f. nodes f ≤ tokens_in is.marks) (sym is.same) (forest_size is.marks is.trees is.made) in
     let marks : tokens_in is.marks ≡ length is.tokens = ap length is.sentence.spelled ∙ length-map is.tokens _ in
     let most = few_tokens bytes 0 is.tokens (omega arith) is.divided in
     All-from_recursion (λ s. query_atoms s.1 < length bytes) ss (statements_few T bytes 256 (length bytes) [] f ss (omega (arith, trees, marks, most)) tt e)

@@ -49,7 +49,8 @@ module _ (T : Topology) (bytes : List ℕ) where
       → IsForestOf sort bytes (grown keyword below rest)
       → put_of bytes 256 (query_of T bytes) names keyword below ≡ Ok q → query_atoms q.1 < length bytes
   put_few sort names keyword below rest q is e =
-      let trees : nodes (grown keyword below rest) ≤ tokens_in is.marks = subst (λ f. nodes f ≤ tokens_in is.marks) (sym is.grown) (forest_size is.marks) in
+      let trees : nodes (grown keyword below rest) ≤ tokens_in is.marks =
+      subst (λ f. nodes f ≤ tokens_in is.marks) (sym is.same) (forest_size is.marks is.trees is.made) in
       let marks : tokens_in is.marks ≡ length is.tokens = ap length is.sentence.spelled ∙ length-map is.tokens _ in
       let most = few_tokens bytes 0 is.tokens (omega arith) is.divided in
       let few = statement_few names keyword below q e in

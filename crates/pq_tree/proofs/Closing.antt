@@ -6,16 +6,13 @@ use Rattle.pq_tree.specs.declared.term.Term.{Term}
 use Rattle.pq_tree.specs.declared.term.Term.TheViews.{roll-Term}
 use Rattle.pq_tree.specs.declared.growth.Opened.{Opened}
 use Rattle.pq_tree.specs.Trees.{Forest, Tree, forest, tree, trees}
-use Rattle.pq_tree.specs.Growth.{Growth, gathered, closed}
+use Rattle.pq_tree.specs.Growth.{gathered, closed}
 use Rattle.pq_tree.proofs.Folds.{tree_roll}
+use Rattle.pq_tree.proofs.Machine.{kept}
 
 -- a tree with this head and these trees below it
 abbrev rooted : Token → Forest → Tree
 rooted head below = record { head = head; below = below }
-
--- what has grown: these trees, and these heads
-abbrev kept : List Tree → List Opened → Growth
-kept finished opened = record { finished = finished; opened = opened }
 
 -- the terms from this many on became the children of one
 terms_gathered : (o : Opened) (old new : List Term) (children : Bor (List Term)) → children.now ≡ drop o.before old

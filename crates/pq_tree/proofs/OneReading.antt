@@ -11,9 +11,10 @@ use Rattle.pq_grammar.specs.declared.sort.Sort.{Sort}
 use Rattle.pq_grammar.specs.Sentences.{IsSentence, IsFirstFault}
 use Rattle.pq_grammar.proofs.OneTree.{one_sentence}
 use Rattle.pq_grammar.proofs.OneFault.{one_fault, no_fault}
-use Rattle.pq_tree.specs.Trees.{Forest}
-use Rattle.pq_tree.specs.Growth.{forest_of}
+use Rattle.pq_tree.specs.Trees.{Forest, forest}
+use Rattle.pq_tree.specs.Shapes.{Makes}
 use Rattle.pq_tree.specs.Reading.{lexemes, first_byte, IsForestOf, IsSyntaxFault, IsTextFault}
+use Rattle.pq_tree.proofs.Machine.{one_making}
 
 -- two divisions are one
 same_tokens : (bytes : List ℕ) (xs ys : List Token) → IsDivision bytes xs → IsDivision bytes ys → xs ≡ ys
@@ -43,9 +44,11 @@ one_place bytes i j first second = ap place_in ((one_division bytes 0 first.0 se
 pub one_forest : (start : Sort) (bytes : List ℕ) (f g : Forest) → IsForestOf start bytes f → IsForestOf start bytes g → f ≡ g
 one_forest start bytes f g first second =
     let same : first.tokens ≡ second.tokens = same_tokens bytes first.tokens second.tokens first.divided second.divided in
-    first.grown ∙ ap forest_of
-    (one_sentence start (lexemes bytes second.tokens) first.marks second.marks
-    (subst (λ ts. IsSentence start (lexemes bytes ts) first.marks) same first.sentence) second.sentence) ∙ sym second.grown
+    let marks : first.marks ≡ second.marks = one_sentence start (lexemes bytes second.tokens) first.marks second.marks
+    (subst (λ ts. IsSentence start (lexemes bytes ts) first.marks) same first.sentence) second.sentence in
+    let trees : first.trees ≡ second.trees = one_making second.marks first.trees second.trees
+    (subst (λ ms. Makes ms first.trees) marks first.made) second.made in
+    first.same ∙ ap forest trees ∙ sym second.same
 
 -- its tokens have one fault
 one_byte : (start : Sort) (bytes : List ℕ) (i j : ℕ) → IsSyntaxFault start bytes i → IsSyntaxFault start bytes j → i ≡ j

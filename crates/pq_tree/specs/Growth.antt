@@ -1,4 +1,4 @@
--- What the marks of a sentence grow to.
+-- What the code keeps while it goes over marks. Only the clauses of private functions speak of it.
 use Rattle.std.specs.Prelude.{ℕ, ◌-◌, List, [], ◌∷◌, ◌++◌, length, take, drop, map, reverse}
 use Rattle.pq_term.specs.declared.token.Token.{Token as Head}
 use Rattle.pq_grammar.specs.declared.symbol.Role.TheVariants.{Leaf, Spelled, Head as HeadRole, Lead}
@@ -6,7 +6,7 @@ use Rattle.pq_grammar.specs.declared.mark.Mark.{Mark}
 use Rattle.pq_grammar.specs.declared.mark.Mark.TheVariants.{Token, Close}
 use Rattle.pq_tree.specs.declared.growth.Opened.{Opened}
 use Rattle.pq_tree.specs.declared.growth.Growing.{Growing}
-use Rattle.pq_tree.specs.Trees.{Forest, nothing, Tree, forest, tree}
+use Rattle.pq_tree.specs.Trees.{nothing, Tree, forest, tree}
 
 -- what has grown
 pub record Growth : Type 0 where
@@ -43,15 +43,6 @@ step (Token Spelled x depth) g = g
 step (Token HeadRole x depth) g = with_head x.token (length g.finished) g
 step (Token Lead x depth) g = with_head x.token (length g.finished - 1) g
 step Close g = closed g.opened g.finished
-
--- one mark after another
-abbrev pub grow : List Mark → Growth → Growth
-grow [] g = g
-grow (m ∷ ms) g = grow ms (step m g)
-
--- the trees that marks grow to
-abbrev pub forest_of : List Mark → Forest
-forest_of ms = forest (grow ms bare).finished
 
 -- what has grown, as the code keeps it
 abbrev pub growth : Growing → Growth

@@ -1,4 +1,5 @@
 pub mod Trees
 pub mod Texts
+pub mod Shapes
 pub mod Growth
 pub mod Reading

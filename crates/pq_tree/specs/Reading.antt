@@ -9,20 +9,22 @@ use Rattle.pq_grammar.specs.declared.mark.Lexeme.{Lexeme}
 use Rattle.pq_grammar.specs.declared.mark.Mark.{Mark}
 use Rattle.pq_grammar.specs.Classes.{lexeme_of}
 use Rattle.pq_grammar.specs.Sentences.{IsSentence, IsFirstFault}
-use Rattle.pq_tree.specs.Trees.{Forest}
-use Rattle.pq_tree.specs.Growth.{forest_of}
+use Rattle.pq_tree.specs.Trees.{Forest, Tree, forest}
+use Rattle.pq_tree.specs.Shapes.{Makes}
 
 -- tokens of the text, each with its class
 abbrev pub lexemes : List ℕ → List Token → List Lexeme
 lexemes bytes tokens = map (lexeme_of bytes) tokens
 
--- the text is a sentence of the start sort, and these are its trees
+-- the text is a sentence of the start sort, and these are the trees that its marks make
 pub record IsForestOf (start : Sort) (bytes : List ℕ) (f : Forest) : Type 0 where
   pub tokens : List Token
   pub marks : List Mark
   pub divided : IsDivision bytes tokens
   pub sentence : IsSentence start (lexemes bytes tokens) marks
-  pub grown : f ≡ forest_of marks
+  pub trees : List Tree
+  pub made : Makes marks trees
+  pub same : f ≡ forest trees
 
 -- the first byte of the first token, or the end of the text where there is none
 abbrev pub first_byte : ℕ → List Token → ℕ

@@ -1,7 +1,8 @@
-//! How marks grow to trees.
-ghost use Rattle.std.specs.Prelude.{◌≡◌, drop, IfOk, OnOk};
-ghost use Rattle.pq_tree.specs.Trees.{trees};
-ghost use Rattle.pq_tree.specs.Growth.{bare, with_leaf, with_head, closed, step, grow, growth, forest_of};
+//! How marks make trees.
+ghost use Rattle.std.specs.Prelude.{◌≡◌, drop, map, IfOk, OnOk};
+ghost use Rattle.pq_tree.specs.Trees.{tree};
+ghost use Rattle.pq_tree.specs.Shapes.{Makes, MakesSome};
+ghost use Rattle.pq_tree.specs.Growth.{bare, with_leaf, with_head, closed, step, growth};
 
 use crate::term::Term;
 use bumpalo::Bump;
@@ -107,13 +108,14 @@ impl<'a> Growing<'a> {
     }
 }
 
-/// The trees that the marks grow to, in the arena. Each term is copied once, where the tree that it is a child of ends.
+/// The trees that the marks make, in the arena. Each term is copied once, where the tree that it is a child of ends.
 pub(crate) fn grown<'a>(
     alloc: Global,
     bump: &'a Bump<Global>,
     marks: &[Mark],
 ) -> Result<&'a [Term<'a>], AllocError>
-    ensures { IfOk result (λ terms. trees terms.now ≡ forest_of marks.now) }
+    requires some { MakesSome marks.now }
+    ensures { IfOk result (λ terms. Makes marks.now (map tree terms.now)) }
 {
     let mut growing = Growing::new(alloc);
     for mark in marks {

@@ -1,5 +1,5 @@
 //! Texts as trees.
-ghost use Rattle.std.specs.Prelude.{◌≡◌, ◌∷◌, [], length, drop, All, IfOk, IfErr};
+ghost use Rattle.std.specs.Prelude.{◌≡◌, ◌⊎◌, ◌∷◌, [], length, drop, All, IfOk, IfErr};
 ghost use Rattle.pq_term.specs.Division.{IsDivision, LiesWithin};
 ghost use Rattle.pq_grammar.specs.declared.sort.Sort.TheVariants.{Document, Edit};
 ghost use Rattle.pq_grammar.specs.Sentences.{IsSentence};
@@ -47,13 +47,14 @@ fn marks_of(
     }
 }
 
-/// The trees of the text as a sentence of the start sort.
+/// The trees of the text as a document or an edit.
 fn read_forest<'a>(
     alloc: Global,
     bump: &'a Bump<Global>,
     start: Sort,
     bytes: &[u8],
 ) -> Result<&'a [Term<'a>], TermFault>
+    requires whole { (start ≡ Document) ⊎ (start ≡ Edit) }
     ensures ok { IfOk result (λ terms. IsForestOf start bytes.now (trees terms.now)) }
     ensures err { IfErr result (IsTextFault start bytes.now) }
 {
