@@ -54,7 +54,7 @@ fn output_of(alloc: Global, output: Output, text: Vec<u8>) -> Result<Vec<u8>, Ou
     match output {
         Output::Install => install_of(alloc, &text),
         Output::State => replayed(alloc, &text),
-        Output::Inspection => inspected(alloc, &text),
+        Output::Inspection => inspected(alloc, text),
         Output::Summary => summarized(alloc, &text),
         Output::Text => Ok(text),
     }

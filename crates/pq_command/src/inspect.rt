@@ -9,10 +9,10 @@ use pq_inspect::inspect_bytes;
 use pq_install::InstallFault;
 use std::alloc::Global;
 
-/// An install as JSON text, or where the bytes are damaged.
-pub(crate) fn inspected(alloc: Global, bytes: &[u8]) -> Result<Vec<u8>, Outcome>
-    ensures ok { IfOk result (λ text. IsInspected bytes.now text.items) }
-    ensures err { IfErr result (λ outcome. (f : Fault) × (outcome ≡ install_outcome f) × IsInspectFault bytes.now f) }
+/// An install as JSON text, or where the bytes are damaged. They are given up before the text is made.
+pub(crate) fn inspected(alloc: Global, bytes: Vec<u8>) -> Result<Vec<u8>, Outcome>
+    ensures ok { IfOk result (λ text. IsInspected bytes.items text.items) }
+    ensures err { IfErr result (λ outcome. (f : Fault) × (outcome ≡ install_outcome f) × IsInspectFault bytes.items f) }
     ensures of_text { IfErr result IsOfText }
 {
     match inspect_bytes(alloc, bytes) {

@@ -15,13 +15,13 @@ in_list : {A : Type 0} (shown : A → Data) → ((x : A) → has_float (shown x)
 in_list shown none [] = refl
 in_list shown none (x ∷ xs) = rw (none x, in_list shown none xs) refl
 
-in_link : (l : Link) → has_float (link_data l) ≡ false
+pub in_link : (l : Link) → has_float (link_data l) ≡ false
 in_link l = in_list natural (λ n. refl) (link_numbers l)
 
-in_pair : (i : Instance) → has_float (pair_data i) ≡ false
+pub in_pair : (i : Instance) → has_float (pair_data i) ≡ false
 in_pair i = rw (in_list natural (λ n. refl) i.label) refl
 
-in_row : (row : Row) → has_float (row_data row) ≡ false
+pub in_row : (row : Row) → has_float (row_data row) ≡ false
 in_row row = rw (in_list pair_data in_pair row.pairs) refl
 
 in_switch : (s : Switch × List Message) → has_float (switch_data s) ≡ false

@@ -1,5 +1,8 @@
 pub mod Names
 pub mod Lists
+pub mod Digits
+pub mod Elements
+pub mod Objects
 pub mod Floats
 pub mod Linked
 pub mod Worked

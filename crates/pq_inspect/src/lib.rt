@@ -11,6 +11,7 @@ mod shown;
 mod switch;
 mod text;
 mod whole;
+mod written;
 
 pub use inspection::inspect;
 pub use laws::whole_installs_have_no_fault;

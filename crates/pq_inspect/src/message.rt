@@ -1,11 +1,11 @@
-ghost use Rattle.std.specs.Prelude.{◌≡◌, All, IfOk};
-ghost use Rattle.serde_json.specs.View.{view};
+ghost use Rattle.std.specs.Prelude.{◌≡◌, ◌++◌, All, OnOk};
+ghost use Rattle.serde_json.specs.Written.{compact_text};
 ghost use Rattle.pq_model.specs.Lawful.{IsLawfulMessage};
 ghost use Rattle.pq_inspect.specs.Inspection.{count, is_flow_add, is_group_add, list, message_data};
 
-use crate::hex::hexadecimal;
+use crate::hex::write_hexadecimal;
+use crate::written::separate;
 use pq_flowmod::{FlowCommand, GroupCommand, Message, write_message};
-use serde_json::Value;
 use std::alloc::{AllocError, Global};
 
 // Whether the message adds an entry.
@@ -50,25 +50,38 @@ pub fn groups(messages: &[Message]) -> usize
         .count()
 }
 
-// The spelling of a message as hexadecimal text.
-fn message(alloc: Global, message: &Message) -> Result<Value, AllocError>
+// Appends a message as a string; its bytes are spelled in the buffer, whatever stands there.
+fn write_spelled(
+    alloc: Global,
+    message: &Message,
+    buffer: &mut Vec<u8>,
+    into: &mut Vec<u8>,
+) -> Result<(), AllocError>
     requires { IsLawfulMessage message.now }
-    ensures { IfOk result (λ value. view value ≡ message_data message.now) }
+    ensures { OnOk result
+        (into.new.items ≡ into.old.items ++ compact_text (message_data message.now)) }
 {
-    let mut bytes = Vec::new(alloc);
-    write_message(alloc, message, &mut bytes)?;
-    let text = hexadecimal(alloc, &bytes)?;
-    Ok(Value::String(text))
+    buffer.clear();
+    write_message(alloc, message, buffer)?;
+    write_hexadecimal(buffer, into)
 }
 
-/// The list of the messages, each as hexadecimal text.
-pub fn messages(alloc: Global, messages: &[Message]) -> Result<Value, AllocError>
+/// Appends the list of the messages, each as hexadecimal text.
+pub fn write_messages(
+    alloc: Global,
+    messages: &[Message],
+    into: &mut Vec<u8>,
+) -> Result<(), AllocError>
     requires { All IsLawfulMessage messages.now }
-    ensures { IfOk result (λ value. view value ≡ list message_data messages.now) }
+    ensures { OnOk result
+        (into.new.items ≡ into.old.items ++ compact_text (list message_data messages.now)) }
 {
-    let mut items = Vec::new(alloc);
-    for each in messages {
-        items.push(message(alloc, each)?)?;
+    let mut buffer = Vec::new(alloc);
+    into.push(b'[')?;
+    for index in 0..messages.len() {
+        separate(index, into)?;
+        write_spelled(alloc, &messages[index], &mut buffer, into)?;
     }
-    Ok(Value::Array(items))
+    into.push(b']')?;
+    Ok(())
 }

@@ -24,6 +24,7 @@ impl Shown for u64 {
 impl Shown for Link {
     ghost shown_as = { link_data };
 
+    #[tactic(auto, using(crate::proofs::Floats::in_link))]
     fn shown(&self, alloc: Global) -> Result<Value, AllocError> {
         let (datapath, port) = self.first;
         let (other_datapath, other_port) = self.second;

@@ -1,9 +1,9 @@
-use Rattle.std.proofs.Common.{◌∙◌, ap, ℕ, List, [], ◌∷◌, ◌++◌, Vec, Global}
-use Rattle.pq_inspect.proofs.Floats.{in_inspection}
+use Rattle.std.proofs.Common.{sym}
+use Rattle.pq_inspect.proofs.Objects.{inspection_written}
 use Rattle.pq_inspect.proofs.inspection.inspect.Goals as goal
 
 pub returns : goal.returns
 returns c =
-    let written = rw c.in_ok-value.ensures at c.in_ok-to_string.ensures.text in
-    let text = written (in_inspection c.args.install.now) in
-    c.in_ok-push.ensures.items ∙ ap (λ (bytes : List ℕ). bytes ++ 10 ∷ []) (ap (λ (v : Vec ℕ Global). v.items) c.into_bytes-text.ensures.value ∙ text)
+    let front = rw (c.new-text.ensures.items, c.deref.ensures.value, c.deref-2.ensures.value) at c.in_ok-write_front.ensures in
+    let switches = rw (c.switches.ensures.switches, c.deref-3.ensures.value) at c.in_ok-write_switches.ensures in
+    rw (sym c.install.view_is) (inspection_written _ _ _ _ front switches c.in_ok-extend_from_slice.ensures.items)
