@@ -1,4 +1,4 @@
-use Rattle.std.proofs.Common.{◌∙◌, ap, sym}
+use Rattle.std.proofs.Common.{◌<◌, ◌∙◌, ap, arith, sym}
 use Rattle.std.specs.List.{list_any}
 use Rattle.pq_topo.proofs.Member.{search_tells, none_beyond}
 use Rattle.pq_topo.proofs.topology.Topology.has_port.Goals as goal
@@ -9,7 +9,9 @@ returns-clause-port c = c.is_ok.ensures.value
     ∙ ap (list_any _) c.ports_of-ports.ensures.ports)
 
 -- no port has such a number
-pub returns-then-number-gt4294967040-clause-port : goal.returns-then-number-gt4294967040-clause-port
-returns-then-number-gt4294967040-clause-port c =
-    sym (none_beyond c.ports_of-ports.result.now c.args.number c.ports_of-ports.ensures.numbers c.if-number-gt4294967040.true)
-    ∙ ap (list_any _) c.ports_of-ports.ensures.ports
+pub returns-then-from-number-clause-port : goal.returns-then-from-number-clause-port
+returns-then-from-number-clause-port c =
+    let last = c.from.ensures in
+    let test = c.if-from-number.true in
+    let above : 0xffffff00 < c.args.number = omega (arith, last, test) in
+    sym (none_beyond c.ports_of-ports.result.now c.args.number c.ports_of-ports.ensures.numbers above) ∙ ap (list_any _) c.ports_of-ports.ensures.ports
