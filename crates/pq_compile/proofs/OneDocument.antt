@@ -40,7 +40,7 @@ IsText (LexTerm i) = Unit {0}
 IsText (SyntaxTerm i) = Unit {0}
 IsText MemoryTerm = ⊥
 
--- so it is no MemoryTerm
+-- so it does not say that memory ran out
 pub not_memory : (f : TermFault) → IsText f → f ≡ MemoryTerm → ⊥
 not_memory f text h = subst IsText h text
 
