@@ -258,7 +258,8 @@ fn packets_move_as_the_tables_say(rt: HostRuntime) -> Result<(), Fail> {
             "the middle of three is lost",
             &[FORWARD],
             "inject 1 1 eth_type=1\ninject 1 1 eth_type=2\ninject 1 1 eth_type=3\nlose 1\n",
-            "flight tag=none switch=1 port=1 eth_type=1 eth_src=00:00:00:00:00:00 eth_dst=00:00:00:00:00:00\nflight tag=none switch=1 port=1 eth_type=3 eth_src=00:00:00:00:00:00 eth_dst=00:00:00:00:00:00\n",
+            "flight tag=none switch=1 port=1 eth_type=1 eth_src=00:00:00:00:00:00 eth_dst=00:00:00:00:00:00\n\
+                flight tag=none switch=1 port=1 eth_type=3 eth_src=00:00:00:00:00:00 eth_dst=00:00:00:00:00:00\n",
         ),
         (
             "IN_PORT sends back",
@@ -276,7 +277,8 @@ fn packets_move_as_the_tables_say(rt: HostRuntime) -> Result<(), Fail> {
             "copies come in packet order",
             &[TO_3_AND_2],
             "inject 1 1 eth_type=2054\nhop 0\n",
-            "delivered switch=1 port=2 eth_type=2054 eth_src=00:00:00:00:00:00 eth_dst=00:00:00:00:00:00\ndelivered switch=1 port=3 eth_type=2054 eth_src=00:00:00:00:00:00 eth_dst=00:00:00:00:00:00\n",
+            "delivered switch=1 port=2 eth_type=2054 eth_src=00:00:00:00:00:00 eth_dst=00:00:00:00:00:00\n\
+                delivered switch=1 port=3 eth_type=2054 eth_src=00:00:00:00:00:00 eth_dst=00:00:00:00:00:00\n",
         ),
         (
             "a port that is not there loses the copy",
@@ -342,7 +344,8 @@ fn packets_move_as_the_tables_say(rt: HostRuntime) -> Result<(), Fail> {
             "a group sends by each bucket",
             &[GROUP_2_AND_3, BY_GROUP],
             "inject 1 1 eth_type=2054\nhop 0\n",
-            "delivered switch=1 port=2 eth_type=2054 eth_src=00:00:00:00:00:00 eth_dst=00:00:00:00:00:00\ndelivered switch=1 port=3 eth_type=2054 eth_src=00:00:00:00:00:00 eth_dst=00:00:00:00:00:00\n",
+            "delivered switch=1 port=2 eth_type=2054 eth_src=00:00:00:00:00:00 eth_dst=00:00:00:00:00:00\n\
+                delivered switch=1 port=3 eth_type=2054 eth_src=00:00:00:00:00:00 eth_dst=00:00:00:00:00:00\n",
         ),
         (
             "an Add that names no group changes nothing",
@@ -354,7 +357,8 @@ fn packets_move_as_the_tables_say(rt: HostRuntime) -> Result<(), Fail> {
             "ADD of a number that is taken changes nothing",
             &[GROUP_2_AND_3, GROUP_3, BY_GROUP],
             "inject 1 1 eth_type=2054\nhop 0\n",
-            "delivered switch=1 port=2 eth_type=2054 eth_src=00:00:00:00:00:00 eth_dst=00:00:00:00:00:00\ndelivered switch=1 port=3 eth_type=2054 eth_src=00:00:00:00:00:00 eth_dst=00:00:00:00:00:00\n",
+            "delivered switch=1 port=2 eth_type=2054 eth_src=00:00:00:00:00:00 eth_dst=00:00:00:00:00:00\n\
+                delivered switch=1 port=3 eth_type=2054 eth_src=00:00:00:00:00:00 eth_dst=00:00:00:00:00:00\n",
         ),
         (
             "MODIFY replaces the buckets",
@@ -384,7 +388,8 @@ fn packets_move_as_the_tables_say(rt: HostRuntime) -> Result<(), Fail> {
             "each bucket has a copy of its own",
             &[GROUP_WRITES_FIRST, BY_GROUP],
             "inject 1 1 eth_type=2054\nhop 0\n",
-            "delivered switch=1 port=2 eth_type=2054 eth_src=00:00:00:00:00:00 eth_dst=00:00:00:00:00:0a\ndelivered switch=1 port=3 eth_type=2054 eth_src=00:00:00:00:00:00 eth_dst=00:00:00:00:00:00\n",
+            "delivered switch=1 port=2 eth_type=2054 eth_src=00:00:00:00:00:00 eth_dst=00:00:00:00:00:0a\n\
+                delivered switch=1 port=3 eth_type=2054 eth_src=00:00:00:00:00:00 eth_dst=00:00:00:00:00:00\n",
         ),
         (
             "a tag carries the packet to table 1",
@@ -414,7 +419,8 @@ fn packets_move_as_the_tables_say(rt: HostRuntime) -> Result<(), Fail> {
             "a capture fills the buckets of its row",
             &[TAG_5_CAPTURE],
             "inject 1 1 eth_type=2054\nhop 0\n",
-            "delivered switch=1 port=2 eth_type=2054 eth_src=00:00:00:00:00:00 eth_dst=00:00:00:00:00:00\nbucket q [7,9] switch=1 port=1 eth_type=2054 eth_src=00:00:00:00:00:00 eth_dst=00:00:00:00:00:00\n",
+            "delivered switch=1 port=2 eth_type=2054 eth_src=00:00:00:00:00:00 eth_dst=00:00:00:00:00:00\n\
+                bucket q [7,9] switch=1 port=1 eth_type=2054 eth_src=00:00:00:00:00:00 eth_dst=00:00:00:00:00:00\n",
         ),
         (
             "a capture without a tag fills none",
@@ -444,7 +450,8 @@ fn packets_move_as_the_tables_say(rt: HostRuntime) -> Result<(), Fail> {
             "a TCP port covers",
             &[WEB_FORWARD],
             "inject 1 1 eth_type=2048 ip_proto=6 tcp_dst=80\nhop 0\n",
-            "delivered switch=1 port=2 eth_type=2048 ip_proto=6 eth_src=00:00:00:00:00:00 eth_dst=00:00:00:00:00:00 ipv4_src=0.0.0.0 ipv4_dst=0.0.0.0 tcp_src=0 tcp_dst=80\n",
+            "delivered switch=1 port=2 eth_type=2048 ip_proto=6 eth_src=00:00:00:00:00:00 eth_dst=00:00:00:00:00:00 ipv4_src=0.0.0.0 \
+                ipv4_dst=0.0.0.0 tcp_src=0 tcp_dst=80\n",
         ),
         (
             "and not under another protocol",

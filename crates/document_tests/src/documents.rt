@@ -957,7 +957,8 @@ fn parts_have_their_policies(rt: HostRuntime) -> Result<(), Fail> {
     assert!(rt;
         has_parts(
             alloc,
-            "switch s = 7 ports 1; part z = fwd(2) >> (drop >> flood) >> identity + mod(eth_dst=02:00:00:00:00:0A); part a = if(switch=s, drop, fwd(4294967040));",
+            "switch s = 7 ports 1; part z = fwd(2) >> (drop >> flood) >> identity + mod(eth_dst=02:00:00:00:00:0A); \
+                part a = if(switch=s, drop, fwd(4294967040));",
             &[("z", union), ("a", choice)],
         )
     );

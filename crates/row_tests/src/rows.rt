@@ -129,7 +129,8 @@ fn each_document_has_its_install(rt: HostRuntime) -> Result<(), Fail> {
             groups: 2,
             report: None,
             schedule: "inject 1 1 eth_type=2054\nhop 0\n",
-            output: "delivered switch=1 port=2 eth_type=2054 eth_src=00:00:00:00:00:00 eth_dst=00:00:00:00:00:00\ndelivered switch=1 port=2 eth_type=2054 eth_src=00:00:00:00:00:00 eth_dst=02:00:00:00:00:0a\n",
+            output: "delivered switch=1 port=2 eth_type=2054 eth_src=00:00:00:00:00:00 eth_dst=00:00:00:00:00:00\n\
+                delivered switch=1 port=2 eth_type=2054 eth_src=00:00:00:00:00:00 eth_dst=02:00:00:00:00:0a\n",
         },
         Row {
             what: "a flood",
@@ -139,7 +140,8 @@ fn each_document_has_its_install(rt: HostRuntime) -> Result<(), Fail> {
             groups: 4,
             report: Some(""),
             schedule: "inject 1 2 eth_type=2054\nhop 0\n",
-            output: "delivered switch=1 port=1 eth_type=2054 eth_src=00:00:00:00:00:00 eth_dst=00:00:00:00:00:00\ndelivered switch=1 port=3 eth_type=2054 eth_src=00:00:00:00:00:00 eth_dst=00:00:00:00:00:00\n",
+            output: "delivered switch=1 port=1 eth_type=2054 eth_src=00:00:00:00:00:00 eth_dst=00:00:00:00:00:00\n\
+                delivered switch=1 port=3 eth_type=2054 eth_src=00:00:00:00:00:00 eth_dst=00:00:00:00:00:00\n",
         },
         Row {
             what: "a field that packets lack",
@@ -169,17 +171,21 @@ fn each_document_has_its_install(rt: HostRuntime) -> Result<(), Fail> {
             groups: 0,
             report: None,
             schedule: "inject 1 1 eth_type=2048 ipv4_dst=10.1.2.3\nhop 0\ninject 1 1 eth_type=2048 ipv4_dst=11.1.2.3\nhop 0\n",
-            output: "delivered switch=1 port=2 eth_type=2048 ip_proto=0 eth_src=00:00:00:00:00:00 eth_dst=00:00:00:00:00:00 ipv4_src=0.0.0.0 ipv4_dst=11.1.2.3\n",
+            output: "delivered switch=1 port=2 eth_type=2048 ip_proto=0 eth_src=00:00:00:00:00:00 eth_dst=00:00:00:00:00:00 ipv4_src=0.0.0.0 \
+                ipv4_dst=11.1.2.3\n",
         },
         Row {
             what: "zero repeats",
-            document: "switch s1 = 1 ports 1, 2; switch s2 = 2 ports 1, 2; switch s3 = 3 ports 1, 2; link s1 2 s2 1; link s2 2 s3 1; part a = filter(port=1) >> fwd(2); query q = in_atom(switch=s1) ^ in_atom(switch=s2)*;",
+            document: "switch s1 = 1 ports 1, 2; switch s2 = 2 ports 1, 2; switch s3 = 3 ports 1, 2; link s1 2 s2 1; link s2 2 s3 1; \
+                part a = filter(port=1) >> fwd(2); query q = in_atom(switch=s1) ^ in_atom(switch=s2)*;",
             bytes: Some(3706),
             entries: 37,
             groups: 0,
             report: Some("3 0[]\n"),
             schedule: "inject 1 1 eth_type=2054\nhop 0\nhop 0\nhop 0\n",
-            output: "delivered switch=3 port=2 eth_type=2054 eth_src=00:00:00:00:00:00 eth_dst=00:00:00:00:00:00\nbucket q [] switch=1 port=1 eth_type=2054 eth_src=00:00:00:00:00:00 eth_dst=00:00:00:00:00:00\nbucket q [] switch=2 port=1 eth_type=2054 eth_src=00:00:00:00:00:00 eth_dst=00:00:00:00:00:00\n",
+            output: "delivered switch=3 port=2 eth_type=2054 eth_src=00:00:00:00:00:00 eth_dst=00:00:00:00:00:00\n\
+                bucket q [] switch=1 port=1 eth_type=2054 eth_src=00:00:00:00:00:00 eth_dst=00:00:00:00:00:00\n\
+                bucket q [] switch=2 port=1 eth_type=2054 eth_src=00:00:00:00:00:00 eth_dst=00:00:00:00:00:00\n",
         },
         Row {
             what: "a complement",
@@ -189,11 +195,15 @@ fn each_document_has_its_install(rt: HostRuntime) -> Result<(), Fail> {
             groups: 2,
             report: Some("1 0[]\n3 0[]\n4 0[]\n"),
             schedule: "inject 1 1 eth_type=2054\nhop 0\nhop 0\n",
-            output: "delivered switch=2 port=2 eth_type=2054 eth_src=00:00:00:00:00:00 eth_dst=00:00:00:00:00:00\nbucket q [] switch=1 port=1 eth_type=2054 eth_src=00:00:00:00:00:00 eth_dst=00:00:00:00:00:00\nbucket q [] switch=2 port=1 eth_type=2054 eth_src=00:00:00:00:00:00 eth_dst=00:00:00:00:00:00\nbucket q [] switch=2 port=1 eth_type=2054 eth_src=00:00:00:00:00:00 eth_dst=00:00:00:00:00:00\n",
+            output: "delivered switch=2 port=2 eth_type=2054 eth_src=00:00:00:00:00:00 eth_dst=00:00:00:00:00:00\n\
+                bucket q [] switch=1 port=1 eth_type=2054 eth_src=00:00:00:00:00:00 eth_dst=00:00:00:00:00:00\n\
+                bucket q [] switch=2 port=1 eth_type=2054 eth_src=00:00:00:00:00:00 eth_dst=00:00:00:00:00:00\n\
+                bucket q [] switch=2 port=1 eth_type=2054 eth_src=00:00:00:00:00:00 eth_dst=00:00:00:00:00:00\n",
         },
         Row {
             what: "labels in flight",
-            document: "switch s1 = 1 ports 1, 2; switch s2 = 2 ports 1, 3; link s1 2 s2 1; part go = filter(switch=s1) >> fwd(2) + filter(switch=s2) >> fwd(3); query g = in_group(true, [switch]) ^ out_atom(port=3);",
+            document: "switch s1 = 1 ports 1, 2; switch s2 = 2 ports 1, 3; link s1 2 s2 1; \
+                part go = filter(switch=s1) >> fwd(2) + filter(switch=s2) >> fwd(3); query g = in_group(true, [switch]) ^ out_atom(port=3);",
             bytes: Some(5110),
             entries: 48,
             groups: 4,
@@ -203,33 +213,41 @@ fn each_document_has_its_install(rt: HostRuntime) -> Result<(), Fail> {
         },
         Row {
             what: "labels",
-            document: "switch s1 = 1 ports 1, 2; switch s2 = 2 ports 1, 3; link s1 2 s2 1; part go = filter(switch=s1) >> fwd(2) + filter(switch=s2) >> fwd(3); query g = in_group(true, [switch]) ^ out_atom(port=3);",
+            document: "switch s1 = 1 ports 1, 2; switch s2 = 2 ports 1, 3; link s1 2 s2 1; \
+                part go = filter(switch=s1) >> fwd(2) + filter(switch=s2) >> fwd(3); query g = in_group(true, [switch]) ^ out_atom(port=3);",
             bytes: Some(5110),
             entries: 48,
             groups: 4,
             report: Some("10 0[1]\n11 0[2]\n"),
             schedule: "inject 1 1 eth_type=2054\nhop 0\nhop 0\n",
-            output: "delivered switch=2 port=3 eth_type=2054 eth_src=00:00:00:00:00:00 eth_dst=00:00:00:00:00:00\nbucket g [1] switch=2 port=1 eth_type=2054 eth_src=00:00:00:00:00:00 eth_dst=00:00:00:00:00:00\n",
+            output: "delivered switch=2 port=3 eth_type=2054 eth_src=00:00:00:00:00:00 eth_dst=00:00:00:00:00:00\n\
+                bucket g [1] switch=2 port=1 eth_type=2054 eth_src=00:00:00:00:00:00 eth_dst=00:00:00:00:00:00\n",
         },
         Row {
             what: "a loop",
-            document: "switch s1 = 1 ports 1, 2; switch s2 = 2 ports 1, 2; link s1 2 s2 2; part turn = fwd(2); query r = (in_atom(switch=s1) ^ in_atom(switch=s2))*;",
+            document: "switch s1 = 1 ports 1, 2; switch s2 = 2 ports 1, 2; link s1 2 s2 2; part turn = fwd(2); \
+                query r = (in_atom(switch=s1) ^ in_atom(switch=s2))*;",
             bytes: Some(3302),
             entries: 32,
             groups: 0,
             report: None,
             schedule: "inject 1 1 eth_type=2054\nhop 0\nhop 0\nhop 0\nhop 0\nhop 0\nhop 0\n",
-            output: "flight tag=7 switch=1 port=2 eth_type=2054 eth_src=00:00:00:00:00:00 eth_dst=00:00:00:00:00:00\nbucket r [] switch=2 port=2 eth_type=2054 eth_src=00:00:00:00:00:00 eth_dst=00:00:00:00:00:00\nbucket r [] switch=2 port=2 eth_type=2054 eth_src=00:00:00:00:00:00 eth_dst=00:00:00:00:00:00\nbucket r [] switch=2 port=2 eth_type=2054 eth_src=00:00:00:00:00:00 eth_dst=00:00:00:00:00:00\n",
+            output: "flight tag=7 switch=1 port=2 eth_type=2054 eth_src=00:00:00:00:00:00 eth_dst=00:00:00:00:00:00\n\
+                bucket r [] switch=2 port=2 eth_type=2054 eth_src=00:00:00:00:00:00 eth_dst=00:00:00:00:00:00\n\
+                bucket r [] switch=2 port=2 eth_type=2054 eth_src=00:00:00:00:00:00 eth_dst=00:00:00:00:00:00\n\
+                bucket r [] switch=2 port=2 eth_type=2054 eth_src=00:00:00:00:00:00 eth_dst=00:00:00:00:00:00\n",
         },
         Row {
             what: "two packets",
-            document: "switch s1 = 1 ports 1, 2; switch s2 = 2 ports 1, 2; link s1 2 s2 1; part a = filter(port=1) >> fwd(2); query q = in_atom(true)* ^ in_atom(switch=s2);",
+            document: "switch s1 = 1 ports 1, 2; switch s2 = 2 ports 1, 2; link s1 2 s2 1; part a = filter(port=1) >> fwd(2); \
+                query q = in_atom(true)* ^ in_atom(switch=s2);",
             bytes: Some(1692),
             entries: 16,
             groups: 0,
             report: None,
             schedule: "inject 1 1 eth_type=2054\ninject 1 1 eth_type=35020\nhop 0\nlose 0\nhop 0\nhop 9\n",
-            output: "delivered switch=2 port=2 eth_type=2054 eth_src=00:00:00:00:00:00 eth_dst=00:00:00:00:00:00\nbucket q [] switch=2 port=1 eth_type=2054 eth_src=00:00:00:00:00:00 eth_dst=00:00:00:00:00:00\n",
+            output: "delivered switch=2 port=2 eth_type=2054 eth_src=00:00:00:00:00:00 eth_dst=00:00:00:00:00:00\n\
+                bucket q [] switch=2 port=1 eth_type=2054 eth_src=00:00:00:00:00:00 eth_dst=00:00:00:00:00:00\n",
         },
         Row {
             what: "an edge packet with a tag of the document",
@@ -263,7 +281,8 @@ fn each_document_has_its_install(rt: HostRuntime) -> Result<(), Fail> {
         },
         Row {
             what: "a drop on the way",
-            document: "switch s1 = 1 ports 1, 2; switch s2 = 2 ports 1, 2; link s1 2 s2 1; part a = filter(switch=s1) >> fwd(2); query d = in_atom(switch=s1) ^ end_atom(switch=s2);",
+            document: "switch s1 = 1 ports 1, 2; switch s2 = 2 ports 1, 2; link s1 2 s2 1; part a = filter(switch=s1) >> fwd(2); \
+                query d = in_atom(switch=s1) ^ end_atom(switch=s2);",
             bytes: None,
             entries: 27,
             groups: 0,
@@ -279,7 +298,8 @@ fn each_document_has_its_install(rt: HostRuntime) -> Result<(), Fail> {
             groups: 0,
             report: None,
             schedule: "inject 1 1 eth_type=34525 ip_proto=6 tcp_dst=80 ipv6_dst=2001:db8:0:0:0:0:0:1\nhop 0\n",
-            output: "delivered switch=1 port=2 eth_type=34525 ip_proto=6 eth_src=00:00:00:00:00:00 eth_dst=00:00:00:00:00:00 tcp_src=0 tcp_dst=80 ipv6_src=0:0:0:0:0:0:0:0 ipv6_dst=2001:db8:0:0:0:0:0:1\n",
+            output: "delivered switch=1 port=2 eth_type=34525 ip_proto=6 eth_src=00:00:00:00:00:00 eth_dst=00:00:00:00:00:00 tcp_src=0 tcp_dst=80 \
+                ipv6_src=0:0:0:0:0:0:0:0 ipv6_dst=2001:db8:0:0:0:0:0:1\n",
         },
     ] {
         let (outcome, mut install) = answer(alloc, "compile", row.document.as_bytes())?;
@@ -490,7 +510,10 @@ fn a_campus_sends_traffic_by_its_firewall(rt: HostRuntime) -> Result<(), Fail> {
     for (packet, expected) in [
         (
             "inject 2 2 eth_type=2048 ip_proto=6 ipv4_src=10.0.1.2 ipv4_dst=10.0.2.3 tcp_dst=80\nhop 0\nhop 0\nhop 0\nhop 0\nhop 0\n",
-            "delivered switch=3 port=3 eth_type=2048 ip_proto=6 eth_src=00:00:00:00:00:00 eth_dst=00:00:00:00:00:00 ipv4_src=10.0.1.2 ipv4_dst=10.0.2.3 tcp_src=0 tcp_dst=80\nbucket walled [] switch=3 port=1 eth_type=2048 ip_proto=6 eth_src=00:00:00:00:00:00 eth_dst=00:00:00:00:00:00 ipv4_src=10.0.1.2 ipv4_dst=10.0.2.3 tcp_src=0 tcp_dst=80\n",
+            "delivered switch=3 port=3 eth_type=2048 ip_proto=6 eth_src=00:00:00:00:00:00 eth_dst=00:00:00:00:00:00 ipv4_src=10.0.1.2 \
+                ipv4_dst=10.0.2.3 tcp_src=0 tcp_dst=80\n\
+                bucket walled [] switch=3 port=1 eth_type=2048 ip_proto=6 eth_src=00:00:00:00:00:00 eth_dst=00:00:00:00:00:00 ipv4_src=10.0.1.2 \
+                ipv4_dst=10.0.2.3 tcp_src=0 tcp_dst=80\n",
         ),
         (
             "inject 2 2 eth_type=2048 ip_proto=6 ipv4_src=10.0.1.2 ipv4_dst=10.0.2.3 tcp_dst=23\nhop 0\nhop 0\nhop 0\n",
