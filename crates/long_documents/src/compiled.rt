@@ -45,7 +45,11 @@ fn compiled(alloc: Global, document: &str) -> Result<(Outcome, Vec<u8>), AllocEr
 }
 
 /// Compiles both documents.
-pub(crate) fn compare(alloc: Global, document: &str, other: &str) -> Result<Comparison, AllocError> {
+pub(crate) fn compare(
+    alloc: Global,
+    document: &str,
+    other: &str,
+) -> Result<Comparison, AllocError> {
     let (outcome, install) = compiled(alloc, document)?;
     let (other_outcome, other_install) = compiled(alloc, other)?;
     Ok(Comparison {
