@@ -1,0 +1,12 @@
+mod Members
+mod Lines
+mod Foreseen
+mod Selecting
+mod Passing
+mod Testing
+mod Carrying
+mod AtPorts
+mod Layering
+mod Steps
+mod Settled
+mod Grounds

@@ -1,0 +1,10 @@
+pub mod Reach
+pub mod Foresight
+pub mod Hops
+pub mod Telling
+pub mod Selection
+pub mod Departures
+pub mod Moves
+pub mod Sources
+pub mod Layers
+pub mod Parts
