@@ -1,4 +1,0 @@
-use Rattle.pq_foresee.proofs.departing.passing.Given as goal
-
-abbrev pub ghosts-sequence : goal.ghosts-sequence
-ghosts-sequence a = record { name = a.blank.name; parts = a.blank.parts }
